@@ -1,0 +1,1 @@
+// A state, one tick and many. What they answer stands in specs/.

@@ -1,0 +1,1 @@
+// Two policies are joined into one. What the join answers stands in specs/.

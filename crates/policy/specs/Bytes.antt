@@ -1,0 +1,34 @@
+-- The file of a policy: its sections in order, each after its count.
+use mathlib.Core.List.{List, [], _∷_, _++_}
+use Prim.Native.Nat.{ℕ, _/_, _%_}
+use lib.ListN.{length, replicate}
+use Rattle.policy.specs.Rules.{Bound, Rule, Policy}
+
+-- A two-byte number, "the high byte first".
+abbrev pub pairBytes : ℕ → List ℕ
+pairBytes n = n / 256 ∷ n % 256 ∷ []
+
+unfoldable pub pairsBytes : List ℕ → List ℕ
+pairsBytes [] = []
+pairsBytes (n ∷ ns) = pairBytes n ++ pairsBytes ns
+
+unfoldable pub boundsBytes : List Bound → List ℕ
+boundsBytes [] = []
+boundsBytes (b ∷ bs) = pairBytes (b .low) ++ (pairBytes (b .high) ++ boundsBytes bs)
+
+-- "seven bytes (source, input care, input value, output care, output value, reset mask, target), then for each clock a two-byte low and high"
+unfoldable pub ruleBytes : Rule → List ℕ
+ruleBytes r =
+    r .source ∷ r .inCare ∷ r .inValue ∷ r .outCare ∷ r .outValue ∷ r .reset ∷ r .target ∷ boundsBytes (r .bounds)
+
+unfoldable pub rulesBytes : List Rule → List ℕ
+rulesBytes [] = []
+rulesBytes (r ∷ rs) = ruleBytes r ++ rulesBytes rs
+
+unfoldable pub countsBytes : Policy → List ℕ
+countsBytes p =
+    (length (p .inputs) ∷ p .inputs) ++ ((length (p .outputs) ∷ p .outputs)
+    ++ ((length (p .ceilings) ∷ pairsBytes (p .ceilings)) ++ ((p .locations ∷ replicate (p .locations) 0) ++ pairBytes (length (p .rules)))))
+
+unfoldable pub bytesOf : Policy → List ℕ
+bytesOf p = countsBytes p ++ rulesBytes (p .rules)

@@ -1,0 +1,115 @@
+-- The policy file: where its sections stand, and what they say. "Sections in this order, each after its count. Counts are one byte, except the rule
+-- count (two bytes). All two-byte numbers have the high byte first."
+use mathlib.Core.List.{List, [], _∷_}
+use Prim.Native.Nat.{ℕ, zero, suc, _+_, _*_}
+use lib.ListN.{getD, take, drop}
+use Rattle.policy.specs.Rules.{Bound, Rule, Policy}
+
+-- The byte at a position, and the number in the two bytes there. Past the end stands 0.
+abbrev pub byteAt : List ℕ → ℕ → ℕ
+byteAt f at = getD f at 0
+
+abbrev pub pairAt : List ℕ → ℕ → ℕ
+pairAt f at = getD f at 0 * 256 + getD f (at + 1) 0
+
+-- n bytes from a position on.
+abbrev pub part : List ℕ → ℕ → ℕ → List ℕ
+part f at n = take n (drop at f)
+
+-- n two-byte numbers from a position on.
+unfoldable pub pairsFrom : List ℕ → ℕ → ℕ → List ℕ
+pairsFrom f at zero = []
+pairsFrom f at (suc n) = pairAt f at ∷ pairsFrom f (at + 2) n
+
+-- "for each clock a two-byte low and high"
+unfoldable pub boundsFrom : List ℕ → ℕ → ℕ → List Bound
+boundsFrom f at zero = []
+boundsFrom f at (suc k) = record { low = pairAt f at; high = pairAt f (at + 2) } ∷ boundsFrom f (at + 4) k
+
+-- How many bytes a rule takes: "seven bytes (source, input care, input value, output care, output value, reset mask, target)", then the bounds.
+abbrev pub ruleSize : ℕ → ℕ
+ruleSize clocks = 7 + 4 * clocks
+
+unfoldable pub ruleFrom : ℕ → List ℕ → ℕ → Rule
+ruleFrom clocks f at =
+    record {
+      source = byteAt f at;
+      inCare = byteAt f (at + 1);
+      inValue = byteAt f (at + 2);
+      outCare = byteAt f (at + 3);
+      outValue = byteAt f (at + 4);
+      reset = byteAt f (at + 5);
+      target = byteAt f (at + 6);
+      bounds = boundsFrom f (at + 7) clocks;
+    }
+
+-- n rules from a position on.
+unfoldable pub rulesFrom : ℕ → List ℕ → ℕ → ℕ → List Rule
+rulesFrom clocks f at zero = []
+rulesFrom clocks f at (suc n) = ruleFrom clocks f at ∷ rulesFrom clocks f (at + ruleSize clocks) n
+
+-- The counts, and where they stand.
+module _ (f : List ℕ) where
+  abbrev pub inputCount : ℕ
+  inputCount = byteAt f 0
+
+  unfoldable pub outputsAt : ℕ
+  outputsAt = 1 + inputCount
+
+  abbrev pub outputCount : ℕ
+  outputCount = byteAt f outputsAt
+
+  unfoldable pub clocksAt : ℕ
+  clocksAt = outputsAt + 1 + outputCount
+
+  abbrev pub clockCount : ℕ
+  clockCount = byteAt f clocksAt
+
+  unfoldable pub locationsAt : ℕ
+  locationsAt = clocksAt + 1 + clockCount * 2
+
+  abbrev pub locationCount : ℕ
+  locationCount = byteAt f locationsAt
+
+  unfoldable pub rulesAt : ℕ
+  rulesAt = locationsAt + 1 + locationCount
+
+  abbrev pub ruleCount : ℕ
+  ruleCount = pairAt f rulesAt
+
+  -- Where the first rule stands, and where the last one ends.
+  unfoldable pub rulesStart : ℕ
+  rulesStart = rulesAt + 2
+
+  unfoldable pub rulesEnd : ℕ
+  rulesEnd = rulesStart + ruleCount * ruleSize clockCount
+
+  -- "The rule section is handed on as the part of the file it is".
+  abbrev pub ruleSection : List ℕ
+  ruleSection = part f rulesStart (ruleCount * ruleSize clockCount)
+
+  -- What the sections say.
+  abbrev pub inputTags : List ℕ
+  inputTags = part f 1 inputCount
+
+  abbrev pub outputTags : List ℕ
+  outputTags = part f (outputsAt + 1) outputCount
+
+  abbrev pub ceilingsOf : List ℕ
+  ceilingsOf = pairsFrom f (clocksAt + 1) clockCount
+
+  abbrev pub locationBytes : List ℕ
+  locationBytes = part f (locationsAt + 1) locationCount
+
+  abbrev pub rulesOf : List Rule
+  rulesOf = rulesFrom clockCount ruleSection 0 ruleCount
+
+  unfoldable pub policyOf : Policy
+  policyOf =
+      record {
+        inputs = inputTags;
+        outputs = outputTags;
+        ceilings = ceilingsOf;
+        locations = locationCount;
+        rules = rulesOf;
+      }

@@ -1,0 +1,53 @@
+-- What the check makes sure of, as facts about the policy, and what stays true of a place from tick to tick.
+use mathlib.Core.Path.{_≡_}
+use mathlib.Core.Bool.{true}
+use mathlib.Core.List.{List, [], _∷_}
+use mathlib.Core.Logic.{_⊎_}
+use Prim.Native.Nat.{ℕ, _^_, _≤_, _<_}
+use lib.Bits.{bitAnd}
+use lib.ListN.{length, getD}
+use Rattle.policy.specs.Rules.{Rule, Policy, Place}
+use Rattle.policy.specs.Number.{states}
+use Rattle.policy.specs.Check.{all, tagsGood, ceilingGood, rulesRefusal}
+
+-- The limits and orders of a file that is not refused.
+pub record WellFormed (p : Policy) : Type 0 where
+  pub inputs : length (p .inputs) ≤ 4
+  pub outputs : length (p .outputs) ≤ 4
+  pub clocks : length (p .ceilings) ≤ 4
+  pub inputTags : tagsGood [] (p .inputs) ≡ true
+  pub outputTags : tagsGood (p .inputs) (p .outputs) ≡ true
+  pub ceilings : all ceilingGood (p .ceilings) ≡ true
+  pub start : 0 < p .locations
+  pub locations : p .locations ≤ 64
+  pub ruleCount : length (p .rules) ≤ 256
+  pub rules : rulesRefusal (length (p .inputs)) (length (p .outputs)) (p .ceilings) (p .locations) 0 (p .rules) ≡ 0
+  pub states : states p ≤ 65536
+
+-- P holds of each rule.
+pub data Each (P : Rule → Type 0) : List Rule → Type 0 where
+  each-none : Each P []
+  each-more : {r : Rule} {rs : List Rule} → P r → Each P rs → Each P (r ∷ rs)
+
+-- A rule of a policy with so many clocks and locations.
+pub record Formed (clocks locations : ℕ) (r : Rule) : Type 0 where
+  pub inputs : bitAnd (r .inValue) (r .inCare) ≡ r .inValue
+  pub outputs : bitAnd (r .outValue) (r .outCare) ≡ r .outValue
+  pub reset : r .reset < 2 ^ clocks
+  pub bounds : length (r .bounds) ≡ clocks
+  pub target : (r .target < locations) ⊎ (r .target ≡ 255)
+
+pub record Sound (p : Policy) : Type 0 where
+  pub start : 0 < p .locations
+  pub rules : Each (Formed (length (p .ceilings)) (p .locations)) (p .rules)
+
+-- A place of the policy, over clocks without limit.
+pub record In (p : Policy) (s : Place) : Type 0 where
+  pub location : s .location < p .locations
+  pub clocks : length (s .clocks) ≡ length (p .ceilings)
+
+-- A place of the policy whose clocks have stopped at their ceilings or before: a numbered one.
+pub record Inside (p : Policy) (s : Place) : Type 0 where
+  pub location : s .location < p .locations
+  pub clocks : length (s .clocks) ≡ length (p .ceilings)
+  pub stopped : (i : ℕ) → getD (s .clocks) i 0 ≤ getD (p .ceilings) i 0

@@ -1,0 +1,90 @@
+-- The twelve marked cases of 01: one list, one statement, by computation.
+use mathlib.Core.Path.{_≡_, refl}
+use mathlib.Core.List.{List, [], _∷_, map}
+use mathlib.Core.Bool.{cond}
+use Prim.Native.Nat.{ℕ, zero, suc}
+use lib.ListN.{length, replicate}
+use Rattle.streams.specs.Answer.{Answer, refused, gives}
+use mathlib.Core.Option.{bind}
+use lib.Count.{ones, onesIn}
+use Rattle.streams.specs.Choose.{any, nearest, better, distance}
+use Rattle.policy.specs.Rules.{start, step, decides, fires, hold, within, taken, advance}
+use Rattle.policy.specs.Number.{states, statesOf, numberFrom, locationFrom, clocksFrom}
+use Rattle.policy.specs.File.{policyOf, outputsAt, clocksAt, locationsAt, rulesAt, rulesStart, rulesEnd, pairsFrom, rulesFrom, ruleFrom, boundsFrom}
+use Rattle.policy.specs.Check.{refusalOf, inputsRefusal, outputsRefusal, clocksRefusal, locationsRefusal, rulesSectionRefusal, sectionRefusal, tagsGood, among, all, rulesRefusal, ruleRefusal, headGood, maskGood, boundsGood, boundGood}
+use Rattle.enforcer.specs.State.{stateOf, stateGood, clocksGood}
+use Rattle.enforcer.specs.Tick.{ran, tick, outputTick, moved, outputChoice, inputChoice, mayStand, reaches}
+use Rattle.enforcer.specs.Entries.{RunAnswer, runOf, runRefusal, marksRefusal, stateRefusal}
+use Rattle.prepare.specs.Table.{marksOf, rounds, round, goesOn, tab}
+use Rattle.prepare.specs.Entry.{Summary, prepareOf, preparedMarks}
+use Rattle.tender.specs.Samples.{S, D, T, K, N}
+
+-- What is asked of a policy: to be prepared, or to enforce a stream "from the start" with the marks of prepare.
+pub data Asked : Type 0 where
+  prepared : Asked
+  enforced : List ℕ → Asked
+
+-- What is said to it.
+pub data Said : Type 0 where
+  summary : (verdict states live : ℕ) → Said
+  released : List ℕ → Said
+  refusal : ℕ → List ℕ → Said
+
+pub record Case : Type 0 where
+  pub file : List ℕ
+  pub asked : Asked
+  pub expected : Said
+
+-- The slices lent are as long as needed, and hold what nobody would write.
+abbrev pub lent : ℕ → List ℕ
+lent n = replicate n 99
+
+abbrev pub marks : List ℕ → List ℕ
+marks file = preparedMarks file (lent (states (policyOf file)))
+
+abbrev pub saidOfPrepare : List ℕ → Answer Summary → Said
+saidOfPrepare marks (refused n) = refusal n marks
+saidOfPrepare marks (gives s) = summary (s .verdict) (s .states) (s .live)
+
+abbrev pub saidOfRun : ℕ → List ℕ → Said
+saidOfRun zero out = released out
+saidOfRun (suc n) out = refusal (suc n) out
+
+abbrev pub run : List ℕ → List ℕ → RunAnswer
+run file events = runOf file (marks file) (stateOf (start (policyOf file))) events (lent (length events))
+
+abbrev pub said : List ℕ → Asked → Said
+said file prepared = saidOfPrepare (marks file) (prepareOf file (lent (states (policyOf file))))
+said file (enforced events) = saidOfRun (run file events .refusal) (run file events .out)
+
+pub cases : List Case
+cases =
+    record { file = S; asked = enforced (0x03 ∷ []); expected = released (0x01 ∷ []) }
+    ∷ record { file = S; asked = enforced (0x12 ∷ []); expected = released (0x02 ∷ []) }
+    ∷ record { file = S; asked = enforced (0x13 ∷ []); expected = released (0x11 ∷ []) }
+    ∷ record { file = S; asked = enforced (0x11 ∷ []); expected = released (0x11 ∷ []) }
+    ∷ record { file = S; asked = prepared; expected = summary 0 1 1 }
+    ∷ record { file = D; asked = prepared; expected = summary 0 8 8 }
+    ∷ record {
+      file = D;
+      asked = enforced (0x01 ∷ 0x00 ∷ 0x00 ∷ 0x00 ∷ 0x00 ∷ []);
+      expected = released (0x01 ∷ 0x00 ∷ 0x00 ∷ 0x00 ∷ 0x10 ∷ []);
+    }
+    ∷ record { file = T; asked = prepared; expected = summary 1 2 1 }
+    ∷ record { file = T; asked = enforced (0x01 ∷ 0x11 ∷ []); expected = released (0x00 ∷ 0x10 ∷ []) }
+    ∷ record { file = N; asked = prepared; expected = refusal 11 (0 ∷ []) }
+    ∷ record { file = K; asked = enforced (0x00 ∷ 0x00 ∷ 0x10 ∷ []); expected = released (0x00 ∷ 0x00 ∷ 0x10 ∷ []) }
+    ∷ record {
+      file = K;
+      asked = enforced (0x00 ∷ 0x00 ∷ 0x00 ∷ 0x10 ∷ []);
+      expected = released (0x00 ∷ 0x00 ∷ 0x00 ∷ 0x00 ∷ []);
+    } ∷ []
+
+pub marked-cases : map (λ c. said (c .file) (c .asked)) cases ≡ map (λ c. c .expected) cases
+unfolding
+    cases runOf runRefusal marksRefusal stateRefusal stateGood clocksGood refusalOf inputsRefusal outputsRefusal clocksRefusal locationsRefusal
+    rulesSectionRefusal sectionRefusal tagsGood among all rulesRefusal ruleRefusal headGood maskGood boundsGood boundGood policyOf outputsAt clocksAt
+    locationsAt rulesAt rulesStart rulesEnd pairsFrom rulesFrom ruleFrom boundsFrom statesOf numberFrom locationFrom clocksFrom ran tick outputTick moved
+    outputChoice inputChoice mayStand reaches step decides fires hold within taken advance bind nearest better distance any prepareOf preparedMarks
+    marksOf rounds round goesOn tab ones onesIn
+marked-cases = refl
