@@ -1,6 +1,8 @@
 pub mod Answer
 pub mod Stream
 pub mod Order
-pub mod Choose
+pub mod Corrections
 pub mod Enforced
 pub mod Laws
+pub mod Choose
+pub mod Published

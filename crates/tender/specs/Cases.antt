@@ -7,7 +7,8 @@ use lib.ListN.{length, replicate}
 use Rattle.streams.specs.Answer.{Answer, refused, gives}
 use mathlib.Core.Option.{bind}
 use lib.Count.{ones, onesIn}
-use Rattle.streams.specs.Choose.{any, nearest, better, distance}
+use Rattle.streams.specs.Choose.{any, nearest, better}
+use Rattle.streams.specs.Corrections.{distance, nearer}
 use Rattle.policy.specs.Rules.{start, step, decides, fires, hold, within, taken, advance}
 use Rattle.policy.specs.Number.{states, statesOf, numberFrom, locationFrom, clocksFrom}
 use Rattle.policy.specs.File.{policyOf, outputsAt, clocksAt, locationsAt, rulesAt, rulesStart, rulesEnd, pairsFrom, rulesFrom, ruleFrom, boundsFrom}
@@ -85,6 +86,6 @@ unfolding
     cases runOf runRefusal marksRefusal stateRefusal stateGood clocksGood refusalOf inputsRefusal outputsRefusal clocksRefusal locationsRefusal
     rulesSectionRefusal sectionRefusal tagsGood among all rulesRefusal ruleRefusal headGood maskGood boundsGood boundGood policyOf outputsAt clocksAt
     locationsAt rulesAt rulesStart rulesEnd pairsFrom rulesFrom ruleFrom boundsFrom statesOf numberFrom locationFrom clocksFrom ran tick outputTick moved
-    outputChoice inputChoice mayStand reaches step decides fires hold within taken advance bind nearest better distance any prepareOf preparedMarks
+    outputChoice inputChoice mayStand reaches step decides fires hold within taken advance bind nearest better nearer distance any prepareOf preparedMarks
     marksOf rounds round goesOn tab ones onesIn
 marked-cases = refl
