@@ -1,0 +1,41 @@
+-- `Milliseconds::rounded` meets its contract. Assumes nothing.
+use Prim.Native.Nat.{_%_}
+use borrow.Author.Needs.{needs}
+use borrow.Author.Tests.{eq-eqb, ne-eqb}
+use native.Mathlib.Omega.{arith}
+use Rattle.ticks.specs.Laws.{one-more}
+use Rattle.ticks.proofs.Milliseconds.rounded.Statement.{statement}
+use Rattle.ticks.proofs.Milliseconds.rounded.Tie as tie
+
+div-whole : tie.Need-div-whole
+div-whole c = search needs
+
+rem-left : tie.Need-rem-left
+rem-left c = search needs
+
+enum-told : tie.Need-enum-told
+enum-told c = search needs
+
+enum-told-2 : tie.Need-enum-told-2
+enum-told-2 c = search needs
+
+add-next : tie.Need-add-next
+add-next c =
+    let start = c .before .before .before in
+    omega (arith, one-more (start .args .self .0) (start .args .tick .0) (start .pre) (λ z. omega arith))
+
+returns : tie.Need-returns
+returns c = simp (c .enum-told .given .1)
+
+returns-2 : tie.Need-returns-2
+returns-2 c =
+    let start = c .before .before .before in
+    simp (c .before .enum-told2 .given .1, eq-eqb (start .args .self .0 % start .args .tick .0) 0 (omega arith)) (omega arith)
+
+returns-3 : tie.Need-returns-3
+returns-3 c = simp (c .before .enum-told2 .given .1, ne-eqb _ _ (c .if1 .left))
+
+pub rounded-spec : {M : Type 1} → statement M
+rounded-spec =
+    tie.close
+    (tie.spec div-whole rem-left enum-told enum-told-2 add-next returns returns-2 returns-3)

@@ -1,0 +1,3 @@
+pub mod Conversion
+pub mod Laws
+pub mod Examples
