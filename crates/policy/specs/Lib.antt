@@ -5,4 +5,6 @@ pub mod File
 pub mod Check
 pub mod Sound
 pub mod Numbered
+pub mod Checked
+pub mod Stays
 pub mod Bytes
