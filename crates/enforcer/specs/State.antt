@@ -1,19 +1,19 @@
 -- "A state is a location and four clock values, unused ones zero." A place of a policy has a value for each of its clocks, and a state four.
 use mathlib.Core.Bool.{Bool, true, false, _&&_}
-use mathlib.Core.List.{List, [], _∷_, _++_}
-use Prim.Native.Nat.{ℕ, _-_}
+use mathlib.Core.List.{List, [], _∷_}
+use Prim.Native.Nat.{ℕ}
 use lib.Dec.{leb, ltb, eqb}
-use lib.ListN.{length, getD, take, replicate}
+use lib.ListN.{length, getD, take}
 use Rattle.policy.specs.Rules.{Policy, Place}
 use Rattle.policy.specs.Check.{all}
-use Rattle.policy.specs.Number.{numberOf}
+use Rattle.policy.specs.Number.{four}
 
 -- The place that a state is, and the state that a place is.
 abbrev pub placeIn : Policy → Place → Place
 placeIn p s = record { location = s .location; clocks = take (length (p .ceilings)) (s .clocks) }
 
 abbrev pub stateOf : Place → Place
-stateOf t = record { location = t .location; clocks = t .clocks ++ replicate (4 - length (t .clocks)) 0 }
+stateOf t = record { location = t .location; clocks = four (t .clocks) }
 
 -- No clock value is out of range, and no unused clock is other than 0.
 unfoldable pub clocksGood : List ℕ → List ℕ → Bool

@@ -8,3 +8,4 @@ pub mod Numbered
 pub mod Checked
 pub mod Stays
 pub mod Bytes
+pub mod ReadBack

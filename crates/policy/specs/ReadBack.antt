@@ -1,0 +1,512 @@
+-- The file written from a policy passes the check and reads back as that policy.
+use mathlib.Core.Path.{_≡_, refl, ap, ap₂, sym, _∙_}
+use mathlib.Core.Bool.{Bool, true, false, _||_, false≢true, and-eq-true-iff}
+use mathlib.Core.List.{List, [], _∷_, _++_, append-assoc, append-nil}
+use Prim.Native.Nat.{ℕ, zero, suc, _+_, _*_, _^_, _≤_, _<_}
+use native.Mathlib.Nat.{div-add-mod', mul-le-mul, pow-le-pow-right}
+use native.Mathlib.Omega.{arith}
+use lib.Bits.{and-le-r}
+use lib.Dec.{ltb, eqb}
+use lib.ListN.{length, getD, drop, replicate, length-append, length-replicate}
+use lib.Seq.{drop-drop, drop-append-seam, take-append-seam, getD-drop, getD-take}
+use borrow.Author.Tests.{leb-true, ltb-true, eqb-true, le-leb}
+use Rattle.streams.specs.Answer.{_orElse_, unless, gives}
+use Rattle.policy.specs.Rules.{Bound, Rule, Policy}
+use Rattle.policy.specs.Number.{states}
+use Rattle.policy.specs.File.{byteAt, pairAt, part, pairsFrom, boundsFrom, ruleSize, ruleFrom, rulesFrom}
+use Rattle.policy.specs.File.{inputCount, outputsAt, outputCount, clocksAt, clockCount, locationsAt, locationCount, rulesAt, ruleCount}
+use Rattle.policy.specs.File.{rulesStart, rulesEnd, inputTags, outputTags, ceilingsOf, locationBytes, rulesOf, policyOf}
+use Rattle.policy.specs.Check.{all, tagsGood, ceilingGood, maskGood, headGood, boundGood, boundsGood, ruleRefusal, rulesRefusal}
+use Rattle.policy.specs.Check.{sectionRefusal, inputsRefusal, outputsRefusal, clocksRefusal, locationsRefusal, rulesSectionRefusal}
+use Rattle.policy.specs.Check.{refusalOf, checkOf}
+use Rattle.policy.specs.Bytes.{pairBytes, pairsBytes, boundsBytes, ruleBytes, rulesBytes, countsBytes, bytesOf}
+use Rattle.policy.specs.Sound.{WellFormed, Each, each-none, each-more}
+
+else-zero : (a b : ℕ) → (a orElse b) ≡ 0 → (a ≡ 0) × (b ≡ 0)
+else-zero zero b e = (refl, e)
+else-zero (suc a) b e = absurd (omega arith)
+
+unless-true : (t : Bool) (n : ℕ) → unless t (suc n) ≡ 0 → t ≡ true
+unless-true true n e = refl
+unless-true false n e = absurd (omega arith)
+
+-- What is read at a position from which on the file is known.
+module _ (f : List ℕ) where
+  -- From the end of xs on the file is g.
+  pub file-after : (at : ℕ) (xs g : List ℕ) → drop at f ≡ xs ++ g → (n : ℕ) → at + length xs ≡ n → drop n f ≡ g
+  file-after at xs g e n h = rw (← h, ← drop-drop (length xs) at f, e) (drop-append-seam xs g)
+
+  pub byte-read : (at : ℕ) (g : List ℕ) → drop at f ≡ g → (i n : ℕ) → at + i ≡ n → byteAt f n ≡ byteAt g i
+  byte-read at g e i n h = rw (← h, ← e) (sym (getD-drop at f i 0))
+
+  pub part-read : (at : ℕ) (xs g : List ℕ) → drop at f ≡ xs ++ g → part f at (length xs) ≡ xs
+  part-read at xs g e = rw e (take-append-seam xs g)
+
+  -- Of any number: one above 65,535 is read back from a first element that is no byte.
+  pub pair-read : (at n : ℕ) (g : List ℕ) → drop at f ≡ pairBytes n ++ g → pairAt f at ≡ n
+  pair-read at n g e =
+      ap₂ (λ (a b : ℕ). a * 256 + b) (byte-read at _ e 0 at (omega arith)) (byte-read at _ e 1 (at + 1) refl) ∙ div-add-mod' n 256
+
+  pub pairs-read : (at : ℕ) (ns g : List ℕ) → drop at f ≡ pairsBytes ns ++ g → pairsFrom f at (length ns) ≡ ns
+  unfolding pairsFrom pairsBytes
+  pairs-read at [] g e = refl
+  pairs-read at (n ∷ ns) g e =
+      let first : pairAt f at ≡ n = pair-read at n (pairsBytes ns ++ g) e in
+      let rest = pairs-read (at + 2) ns g (file-after at (pairBytes n) (pairsBytes ns ++ g) e (at + 2) refl) in
+      λ i. first i ∷ rest i
+
+  pub bounds-read : (at : ℕ) (bs : List Bound) (g : List ℕ) → drop at f ≡ boundsBytes bs ++ g → boundsFrom f at (length bs) ≡ bs
+  unfolding boundsFrom boundsBytes
+  bounds-read at [] g e = refl
+  bounds-read at (b ∷ bs) g e =
+      let e₂ = file-after at (pairBytes (b .low)) (pairBytes (b .high) ++ (boundsBytes bs ++ g)) e (at + 2) refl in
+      let low = pair-read at (b .low) _ e in
+      let high = pair-read (at + 2) (b .high) _ e₂ in
+      let rest = bounds-read (at + 4) bs g (file-after (at + 2) (pairBytes (b .high)) (boundsBytes bs ++ g) e₂ (at + 4) (omega arith)) in
+      λ i. record { low = low i; high = high i } ∷ rest i
+
+  pub rule-read : (at : ℕ) (r : Rule) (g : List ℕ) → drop at f ≡ ruleBytes r ++ g → ruleFrom (length (r .bounds)) f at ≡ r
+  unfolding ruleFrom ruleBytes
+  rule-read at r g e =
+      let at-byte = byte-read at (ruleBytes r ++ g) e in
+      let source : byteAt f at ≡ r .source = at-byte 0 at (omega arith) in
+      let head = r .source ∷ r .inCare ∷ r .inValue ∷ r .outCare ∷ r .outValue ∷ r .reset ∷ r .target ∷ [] in
+      let bounds = bounds-read (at + 7) (r .bounds) g (file-after at head _ e (at + 7) refl) in
+      λ i.
+      record {
+        source = source i;
+        inCare = at-byte 1 (at + 1) refl i;
+        inValue = at-byte 2 (at + 2) refl i;
+        outCare = at-byte 3 (at + 3) refl i;
+        outValue = at-byte 4 (at + 4) refl i;
+        reset = at-byte 5 (at + 5) refl i;
+        target = at-byte 6 (at + 6) refl i;
+        bounds = bounds i;
+      }
+
+pub pairs-length : (ns : List ℕ) → length (pairsBytes ns) ≡ 2 * length ns
+unfolding pairsBytes
+pairs-length [] = refl
+pairs-length (n ∷ ns) = omega (arith, pairs-length ns)
+
+pub bounds-length : (bs : List Bound) → length (boundsBytes bs) ≡ 4 * length bs
+unfolding boundsBytes
+bounds-length [] = refl
+bounds-length (b ∷ bs) = omega (arith, bounds-length bs)
+
+-- A rule with a bound for each of so many clocks.
+abbrev pub Bounded : ℕ → Rule → Type 0
+Bounded clocks r = length (r .bounds) ≡ clocks
+
+pub rule-length : (clocks : ℕ) (r : Rule) → Bounded clocks r → length (ruleBytes r) ≡ ruleSize clocks
+unfolding ruleBytes
+rule-length clocks r b = omega (arith, bounds-length (r .bounds))
+
+pub rules-length : (clocks : ℕ) {rs : List Rule} → Each (Bounded clocks) rs → length (rulesBytes rs) ≡ length rs * ruleSize clocks
+unfolding rulesBytes
+rules-length clocks each-none = omega arith
+rules-length clocks (each-more {r = r} {rs = rs} b bs) = rw length-append (omega (arith, rule-length clocks r b, rules-length clocks bs))
+
+pub rules-read : (f : List ℕ) (clocks at : ℕ) {rs : List Rule} → Each (Bounded clocks) rs → (g : List ℕ) → drop at f ≡ rulesBytes rs ++ g
+    → rulesFrom clocks f at (length rs) ≡ rs
+unfolding rulesFrom rulesBytes
+rules-read f clocks at each-none g e = refl
+rules-read f clocks at (each-more {r = r} {rs = rs} b bs) g e =
+    let e₂ : drop at f ≡ ruleBytes r ++ (rulesBytes rs ++ g) = e ∙ append-assoc (ruleBytes r) (rulesBytes rs) g in
+    let first : ruleFrom clocks f at ≡ r = rw (← b) (rule-read f at r _ e₂) in
+    let e₃ = file-after f at (ruleBytes r) _ e₂ (at + ruleSize clocks) (omega (arith, rule-length clocks r b)) in
+    let rest = rules-read f clocks (at + ruleSize clocks) bs g e₃ in
+    λ i. first i ∷ rest i
+
+-- What is read within a part of the file is what stands there in the file: at i in the part, at j in the file.
+module _ (f : List ℕ) (at len : ℕ) where
+  pub byte-part : (i j : ℕ) → at + i ≡ j → i < len → byteAt (part f at len) i ≡ byteAt f j
+  byte-part i j e h = getD-take len (drop at f) i 0 h ∙ getD-drop at f i 0 ∙ ap (byteAt f) e
+
+  pub pair-part : (i j : ℕ) → at + i ≡ j → i + 2 ≤ len → pairAt (part f at len) i ≡ pairAt f j
+  pair-part i j e h = ap₂ (λ (a b : ℕ). a * 256 + b) (byte-part i j e (omega arith)) (byte-part (i + 1) (j + 1) (omega arith) (omega arith))
+
+  pub bounds-part : (i j n : ℕ) → at + i ≡ j → i + 4 * n ≤ len → boundsFrom (part f at len) i n ≡ boundsFrom f j n
+  unfolding boundsFrom
+  bounds-part i j zero e h = refl
+  bounds-part i j (suc n) e h =
+      let low = pair-part i j e (omega arith) in
+      let high = pair-part (i + 2) (j + 2) (omega arith) (omega arith) in
+      let rest = bounds-part (i + 4) (j + 4) n (omega arith) (omega arith) in
+      λ d. record { low = low d; high = high d } ∷ rest d
+
+  pub rule-part : (clocks i j : ℕ) → at + i ≡ j → i + ruleSize clocks ≤ len → ruleFrom clocks (part f at len) i ≡ ruleFrom clocks f j
+  unfolding ruleFrom
+  rule-part clocks i j e h =
+      let byte : (n : ℕ) → n < 7 → byteAt (part f at len) (i + n) ≡ byteAt f (j + n) = λ n l. byte-part (i + n) (j + n) (omega arith) (omega arith) in
+      λ d.
+      record {
+        source = byte-part i j e (omega arith) d;
+        inCare = byte 1 (omega arith) d;
+        inValue = byte 2 (omega arith) d;
+        outCare = byte 3 (omega arith) d;
+        outValue = byte 4 (omega arith) d;
+        reset = byte 5 (omega arith) d;
+        target = byte 6 (omega arith) d;
+        bounds = bounds-part (i + 7) (j + 7) clocks (omega arith) (omega arith) d;
+      }
+
+  pub rules-within : (clocks i j n : ℕ) → at + i ≡ j → i + n * ruleSize clocks ≤ len → rulesFrom clocks (part f at len) i n ≡ rulesFrom clocks f j n
+  unfolding rulesFrom
+  rules-within clocks i j zero e h = refl
+  rules-within clocks i j (suc n) e h =
+      let first = rule-part clocks i j e (omega arith) in
+      let rest = rules-within clocks (i + ruleSize clocks) (j + ruleSize clocks) n (omega arith) (omega arith) in
+      λ d. first d ∷ rest d
+
+-- The part of the file that holds n rules reads as those n rules.
+pub rules-part : (f : List ℕ) (clocks at n : ℕ) → rulesFrom clocks (part f at (n * ruleSize clocks)) 0 n ≡ rulesFrom clocks f at n
+rules-part f clocks at n = rules-within f at (n * ruleSize clocks) clocks 0 at n (omega arith) (omega arith)
+
+-- The file from each section on.
+abbrev pub fromRules : Policy → List ℕ
+fromRules p = pairBytes (length (p .rules)) ++ rulesBytes (p .rules)
+
+abbrev pub fromLocations : Policy → List ℕ
+fromLocations p = p .locations ∷ replicate (p .locations) 0 ++ fromRules p
+
+abbrev pub fromClocks : Policy → List ℕ
+fromClocks p = length (p .ceilings) ∷ pairsBytes (p .ceilings) ++ fromLocations p
+
+abbrev pub fromOutputs : Policy → List ℕ
+fromOutputs p = length (p .outputs) ∷ p .outputs ++ fromClocks p
+
+abbrev pub fromInputs : Policy → List ℕ
+fromInputs p = length (p .inputs) ∷ p .inputs ++ fromOutputs p
+
+-- A section that begins at a position: its count, its items, and what follows it.
+module _ (f : List ℕ) (at : ℕ) {n : ℕ} (items g : List ℕ) (e : drop at f ≡ n ∷ items ++ g) where
+  count-read : byteAt f at ≡ n
+  count-read = byte-read f at _ e 0 at (omega arith)
+
+  items-at : drop (at + 1) f ≡ items ++ g
+  items-at = file-after f at (n ∷ []) (items ++ g) e (at + 1) refl
+
+  items-read : length items ≡ n → part f (at + 1) (byteAt f at) ≡ items
+  items-read h = rw (count-read, ← h) (part-read f (at + 1) items g items-at)
+
+  after-section : (m : ℕ) → at + 1 + length items ≡ m → drop m f ≡ g
+  after-section = file-after f (at + 1) items g items-at
+
+-- Where the sections of a written file begin, and their counts.
+module _ (p : Policy) where
+  pub at-inputs : bytesOf p ≡ fromInputs p
+  unfolding bytesOf countsBytes
+  at-inputs = simp append-assoc
+
+  pub count-inputs : inputCount (bytesOf p) ≡ length (p .inputs)
+  count-inputs = count-read (bytesOf p) 0 (p .inputs) (fromOutputs p) at-inputs
+
+  pub at-outputs : drop (outputsAt (bytesOf p)) (bytesOf p) ≡ fromOutputs p
+  unfolding outputsAt
+  at-outputs = after-section (bytesOf p) 0 (p .inputs) (fromOutputs p) at-inputs (outputsAt (bytesOf p)) (omega (arith, count-inputs))
+
+  pub count-outputs : outputCount (bytesOf p) ≡ length (p .outputs)
+  count-outputs = count-read (bytesOf p) (outputsAt (bytesOf p)) (p .outputs) (fromClocks p) at-outputs
+
+  pub at-clocks : drop (clocksAt (bytesOf p)) (bytesOf p) ≡ fromClocks p
+  unfolding clocksAt
+  at-clocks =
+      after-section (bytesOf p) (outputsAt (bytesOf p)) (p .outputs) (fromClocks p) at-outputs (clocksAt (bytesOf p)) (omega (arith, count-outputs))
+
+  pub count-clocks : clockCount (bytesOf p) ≡ length (p .ceilings)
+  count-clocks = count-read (bytesOf p) (clocksAt (bytesOf p)) (pairsBytes (p .ceilings)) (fromLocations p) at-clocks
+
+  pub at-locations : drop (locationsAt (bytesOf p)) (bytesOf p) ≡ fromLocations p
+  unfolding locationsAt
+  at-locations =
+      after-section (bytesOf p) (clocksAt (bytesOf p)) (pairsBytes (p .ceilings)) (fromLocations p) at-clocks (locationsAt (bytesOf p))
+      (omega (arith, count-clocks, pairs-length (p .ceilings)))
+
+  pub count-locations : locationCount (bytesOf p) ≡ p .locations
+  count-locations = count-read (bytesOf p) (locationsAt (bytesOf p)) (replicate (p .locations) 0) (fromRules p) at-locations
+
+  pub at-rules : drop (rulesAt (bytesOf p)) (bytesOf p) ≡ fromRules p
+  unfolding rulesAt
+  at-rules =
+      after-section (bytesOf p) (locationsAt (bytesOf p)) (replicate (p .locations) 0) (fromRules p) at-locations (rulesAt (bytesOf p))
+      (omega (arith, count-locations, length-replicate {A = ℕ} (p .locations) 0))
+
+  pub count-rules : ruleCount (bytesOf p) ≡ length (p .rules)
+  count-rules = pair-read (bytesOf p) (rulesAt (bytesOf p)) (length (p .rules)) (rulesBytes (p .rules)) at-rules
+
+  pub at-first-rule : drop (rulesStart (bytesOf p)) (bytesOf p) ≡ rulesBytes (p .rules)
+  unfolding rulesStart
+  at-first-rule =
+      file-after (bytesOf p) (rulesAt (bytesOf p)) (pairBytes (length (p .rules))) (rulesBytes (p .rules)) at-rules (rulesStart (bytesOf p)) refl
+
+  -- What the sections before the rules say.
+  pub inputs-back : inputTags (bytesOf p) ≡ p .inputs
+  inputs-back = items-read (bytesOf p) 0 (p .inputs) (fromOutputs p) at-inputs refl
+
+  pub outputs-back : outputTags (bytesOf p) ≡ p .outputs
+  outputs-back = items-read (bytesOf p) (outputsAt (bytesOf p)) (p .outputs) (fromClocks p) at-outputs refl
+
+  pub ceilings-back : ceilingsOf (bytesOf p) ≡ p .ceilings
+  ceilings-back =
+      let at = clocksAt (bytesOf p) in
+      rw count-clocks
+      (pairs-read (bytesOf p) (at + 1) (p .ceilings) (fromLocations p)
+      (items-at (bytesOf p) at (pairsBytes (p .ceilings)) (fromLocations p) at-clocks))
+
+  pub locations-back : locationBytes (bytesOf p) ≡ replicate (p .locations) 0
+  locations-back =
+      items-read (bytesOf p) (locationsAt (bytesOf p)) (replicate (p .locations) 0) (fromRules p) at-locations (length-replicate (p .locations) 0)
+
+-- A rule that the check of the rules has passed, after a rule of the source `before`.
+record Passed (inputs outputs : ℕ) (cs : List ℕ) (locations : ℕ) (r : Rule) : Type 0 where
+  before : ℕ
+  head : headGood inputs outputs (length cs) locations before r ≡ true
+  bounds : boundsGood cs (r .bounds) ≡ true
+
+each-passed : (inputs outputs : ℕ) (cs : List ℕ) (locations before : ℕ) (rs : List Rule)
+    → rulesRefusal inputs outputs cs locations before rs ≡ 0 → Each (Passed inputs outputs cs locations) rs
+unfolding rulesRefusal ruleRefusal
+each-passed inputs outputs cs locations before [] e = each-none
+each-passed inputs outputs cs locations before (r ∷ rs) e =
+    let both = else-zero (ruleRefusal inputs outputs cs locations before r) (rulesRefusal inputs outputs cs locations (r .source) rs) e in
+    let one = else-zero (unless (headGood inputs outputs (length cs) locations before r) 6) (unless (boundsGood cs (r .bounds)) 7) (both .0) in
+    each-more (record { before = before; head = unless-true _ 5 (one .0); bounds = unless-true _ 6 (one .1) })
+    (each-passed inputs outputs cs locations (r .source) rs (both .1))
+
+each-map : {P Q : Rule → Type 0} → ((r : Rule) → P r → Q r) → {rs : List Rule} → Each P rs → Each Q rs
+each-map f each-none = each-none
+each-map f (each-more {r = r} p ps) = each-more (f r p) (each-map f ps)
+
+bounds-many : (cs : List ℕ) (bs : List Bound) → boundsGood cs bs ≡ true → length bs ≡ length cs
+unfolding boundsGood
+bounds-many [] [] e = refl
+bounds-many [] (b ∷ bs) e = absurd (false≢true e)
+bounds-many (c ∷ cs) [] e = absurd (false≢true e)
+bounds-many (c ∷ cs) (b ∷ bs) e = ap suc (bounds-many cs bs (and-eq-true-iff (boundGood c b) (boundsGood cs bs) .0 e .1))
+
+module _ (p : Policy) (w : WellFormed p) where
+  passed : Each (Passed (length (p .inputs)) (length (p .outputs)) (p .ceilings) (p .locations)) (p .rules)
+  passed = each-passed (length (p .inputs)) (length (p .outputs)) (p .ceilings) (p .locations) 0 (p .rules) (w .rules)
+
+  pub bounded : Each (Bounded (length (p .ceilings))) (p .rules)
+  bounded = each-map (λ r q. bounds-many (p .ceilings) (r .bounds) (q .bounds)) passed
+
+  pub rules-back : rulesOf (bytesOf p) ≡ p .rules
+  rules-back =
+      rw (rules-part (bytesOf p), count-clocks p, count-rules p)
+      (rules-read (bytesOf p) (length (p .ceilings)) (rulesStart (bytesOf p)) bounded [] (at-first-rule p ∙ sym (append-nil _)))
+
+  -- No bound on the numbers is used, only that each rule has a bound for each clock.
+  pub read-back : policyOf (bytesOf p) ≡ p
+  unfolding policyOf
+  read-back =
+      λ i.
+      record {
+        inputs = inputs-back p i;
+        outputs = outputs-back p i;
+        ceilings = ceilings-back p i;
+        locations = count-locations p i;
+        rules = rules-back i;
+      }
+
+  pub bytes-length : length (bytesOf p)
+      ≡ 1 + length (p .inputs) + 1 + length (p .outputs) + 1 + 2 * length (p .ceilings) + 1 + p .locations + 2
+      + length (p .rules) * ruleSize (length (p .ceilings))
+  bytes-length =
+      rw (at-inputs p)
+      (simp (length-append, pairs-length, length-replicate) (omega (arith, rules-length (length (p .ceilings)) bounded)))
+
+  -- "The longest is 5,974 bytes."
+  pub bytes-at-most : length (bytesOf p) ≤ 5974
+  bytes-at-most =
+      let k : ruleSize (length (p .ceilings)) ≤ 23 = omega arith in
+      omega (arith, bytes-length, mul-le-mul (w .ruleCount) k)
+
+  pub file-ends : rulesEnd (bytesOf p) ≡ length (bytesOf p)
+  unfolding rulesEnd rulesStart rulesAt locationsAt clocksAt outputsAt
+  file-ends =
+      omega (
+        arith,
+        bytes-length,
+        count-inputs p,
+        count-outputs p,
+        count-clocks p,
+        count-locations p,
+        ap₂ (λ (n k : ℕ). n * ruleSize k) (count-rules p) (count-clocks p),
+      )
+
+section-passes : (f : List ℕ) (at width n low high size : ℕ) → low ≤ n → n ≤ high → at + width + n * size ≤ length f
+    → sectionRefusal f at width n low high size ≡ 0
+unfolding sectionRefusal
+section-passes f at width n low high size a b c =
+    rw (le-leb (at + width) (length f) (omega arith), le-leb low n a, le-leb n high b, le-leb (at + width + n * size) (length f) c)
+
+all-zeros : (n : ℕ) → all (eqb 0) (replicate n 0) ≡ true
+unfolding all
+all-zeros zero = refl
+all-zeros (suc n) = all-zeros n
+
+module _ (p : Policy) (w : WellFormed p) where
+  inputs-pass : inputsRefusal (bytesOf p) ≡ 0
+  unfolding inputsRefusal rulesEnd rulesStart rulesAt locationsAt clocksAt outputsAt
+  inputs-pass =
+      rw (
+        section-passes (bytesOf p) 0 1 (inputCount (bytesOf p)) 0 4 1 (omega arith) (omega (arith, count-inputs p)) (omega (arith, file-ends p w)),
+        inputs-back p,
+        w .inputTags,
+      )
+
+  outputs-pass : outputsRefusal (bytesOf p) ≡ 0
+  unfolding outputsRefusal rulesEnd rulesStart rulesAt locationsAt clocksAt
+  outputs-pass =
+      rw (
+        section-passes (bytesOf p) (outputsAt (bytesOf p)) 1 (outputCount (bytesOf p)) 0 4 1 (omega arith) (omega (arith, count-outputs p))
+            (omega (arith, file-ends p w)),
+        inputs-back p,
+        outputs-back p,
+        w .outputTags,
+      )
+
+  clocks-pass : clocksRefusal (bytesOf p) ≡ 0
+  unfolding clocksRefusal rulesEnd rulesStart rulesAt locationsAt
+  clocks-pass =
+      rw (
+        section-passes (bytesOf p) (clocksAt (bytesOf p)) 1 (clockCount (bytesOf p)) 0 4 2 (omega arith) (omega (arith, count-clocks p))
+            (omega (arith, file-ends p w)),
+        ceilings-back p,
+        w .ceilings,
+      )
+
+  locations-pass : locationsRefusal (bytesOf p) ≡ 0
+  unfolding locationsRefusal rulesEnd rulesStart rulesAt
+  locations-pass =
+      rw (
+        section-passes (bytesOf p) (locationsAt (bytesOf p)) 1 (locationCount (bytesOf p)) 1 64 1 (omega (arith, count-locations p))
+            (omega (arith, count-locations p)) (omega (arith, file-ends p w)),
+        locations-back p,
+        all-zeros (p .locations),
+      )
+
+  rules-pass : rulesSectionRefusal (bytesOf p) ≡ 0
+  unfolding rulesSectionRefusal rulesEnd rulesStart
+  rules-pass =
+      rw (
+        section-passes (bytesOf p) (rulesAt (bytesOf p)) 2 (ruleCount (bytesOf p)) 0 256 (ruleSize (clockCount (bytesOf p))) (omega arith)
+            (omega (arith, count-rules p)) (omega (arith, file-ends p w)),
+        rules-back p w,
+        ceilings-back p,
+        count-inputs p,
+        count-outputs p,
+        count-locations p,
+        w .rules,
+      )
+
+  pub written-passes : refusalOf (bytesOf p) ≡ 0
+  unfolding refusalOf
+  written-passes =
+      rw (
+        inputs-pass,
+        outputs-pass,
+        clocks-pass,
+        locations-pass,
+        rules-pass,
+        le-leb (length (bytesOf p)) (rulesEnd (bytesOf p)) (omega (arith, file-ends p w)),
+        ceilings-back p,
+        count-clocks p,
+        count-locations p,
+        le-leb (states p) 65536 (w .states),
+      )
+
+  pub written-checks : checkOf (bytesOf p) ≡ gives p
+  unfolding checkOf
+  written-checks = rw (written-passes, read-back p w)
+
+-- Each element is a byte.
+abbrev pub AllBytes : List ℕ → Type 0
+AllBytes [] = Unit {0}
+AllBytes (b ∷ bs) = (b < 256) × AllBytes bs
+
+bytes-append : (xs ys : List ℕ) → AllBytes xs → AllBytes ys → AllBytes (xs ++ ys)
+bytes-append [] ys a b = b
+bytes-append (x ∷ xs) ys a b = (a .0, bytes-append xs ys (a .1) b)
+
+-- Past the end stands 0.
+bytes-at : (bs : List ℕ) → AllBytes bs → (i : ℕ) → getD bs i 0 < 256
+bytes-at [] a i = omega arith
+bytes-at (b ∷ bs) a zero = a .0
+bytes-at (b ∷ bs) a (suc i) = bytes-at bs (a .1) i
+
+tags-bytes : (before ts : List ℕ) → tagsGood before ts ≡ true → AllBytes ts
+unfolding tagsGood
+tags-bytes before [] e = tt
+tags-bytes before (t ∷ ts) e =
+    let good = simp and-eq-true-iff at e in
+    (omega (arith, leb-true), tags-bytes (before ++ (t ∷ [])) ts (good .1 .1))
+
+ceilings-bytes : (cs : List ℕ) → all ceilingGood cs ≡ true → AllBytes (pairsBytes cs)
+unfolding all pairsBytes
+ceilings-bytes [] e = tt
+ceilings-bytes (c ∷ cs) e =
+    let good = simp and-eq-true-iff at e in
+    (omega (arith, leb-true), (omega arith, ceilings-bytes cs (good .1)))
+
+zeros-bytes : (n : ℕ) → AllBytes (replicate n 0)
+zeros-bytes zero = tt
+zeros-bytes (suc n) = (omega arith, zeros-bytes n)
+
+-- A target, or a high: below a limit, or the one number that has a meaning of its own.
+below-or-at : (n limit own : ℕ) → limit ≤ own → (ltb n limit || eqb n own) ≡ true → n ≤ own
+below-or-at n limit own h = go (ltb n limit) refl
+  where
+    go : (t : Bool) → ltb n limit ≡ t → (t || eqb n own) ≡ true → n ≤ own
+    go true l e = omega (arith, ltb-true n limit l)
+    go false l e = omega (arith, eqb-true n own e)
+
+bounds-bytes : (cs : List ℕ) (bs : List Bound) → all ceilingGood cs ≡ true → boundsGood cs bs ≡ true → AllBytes (boundsBytes bs)
+unfolding all boundsGood boundGood boundsBytes
+bounds-bytes [] [] c e = tt
+bounds-bytes [] (b ∷ bs) c e = absurd (false≢true e)
+bounds-bytes (c ∷ cs) [] d e = absurd (false≢true e)
+bounds-bytes (c ∷ cs) (b ∷ bs) d e =
+    let good = simp and-eq-true-iff at e in
+    let ceiling = simp and-eq-true-iff at d in
+    let limit : c ≤ 1001 = omega (arith, leb-true) in
+    let low : b .low ≤ c = omega (arith, leb-true) in
+    let high = below-or-at (b .high) c 65535 (omega arith) (good .0 .1 .1) in
+    (omega arith, (omega arith, (omega arith, (omega arith, bounds-bytes cs bs (ceiling .1) (good .1)))))
+
+rules-bytes : {rs : List Rule} → Each (λ r. AllBytes (ruleBytes r)) rs → AllBytes (rulesBytes rs)
+unfolding rulesBytes
+rules-bytes each-none = tt
+rules-bytes (each-more {r = r} {rs = rs} b bs) = bytes-append (ruleBytes r) (rulesBytes rs) b (rules-bytes bs)
+
+-- A mask of at most four signals or clocks.
+mask-small : (n : ℕ) → n ≤ 4 → 2 ^ n ≤ 16
+mask-small n h = pow-le-pow-right (omega arith) h
+
+module _ (p : Policy) (w : WellFormed p) where
+  rule-bytes : (r : Rule) → Passed (length (p .inputs)) (length (p .outputs)) (p .ceilings) (p .locations) r → AllBytes (ruleBytes r)
+  unfolding ruleBytes headGood maskGood
+  rule-bytes r q =
+      let good = simp and-eq-true-iff at (q .head) in
+      let source : r .source < 256 = omega (arith, ltb-true) in
+      let inCare : r .inCare < 256 = omega (arith, ltb-true, mask-small _ (w .inputs)) in
+      let inValue : r .inValue < 256 = omega (arith, eqb-true, and-le-r (r .inValue) (r .inCare)) in
+      let outCare : r .outCare < 256 = omega (arith, ltb-true, mask-small _ (w .outputs)) in
+      let outValue : r .outValue < 256 = omega (arith, eqb-true, and-le-r (r .outValue) (r .outCare)) in
+      let reset : r .reset < 256 = omega (arith, ltb-true, mask-small _ (w .clocks)) in
+      let target = below-or-at (r .target) (p .locations) 255 (omega arith) (good .1 .1 .1 .1 .1) in
+      (source, (inCare, (inValue, (outCare, (outValue, (reset, (omega arith, bounds-bytes (p .ceilings) (r .bounds) (w .ceilings) (q .bounds))))))))
+
+  pub all-bytes : AllBytes (bytesOf p)
+  all-bytes =
+      let rules = rules-bytes (each-map rule-bytes (passed p w)) in
+      let locations = bytes-append (replicate (p .locations) 0) (fromRules p) (zeros-bytes (p .locations)) (omega arith, (omega arith, rules)) in
+      let clocks = bytes-append (pairsBytes (p .ceilings)) (fromLocations p) (ceilings-bytes (p .ceilings) (w .ceilings)) (omega arith, locations) in
+      let outputs = bytes-append (p .outputs) (fromClocks p) (tags-bytes (p .inputs) (p .outputs) (w .outputTags)) (omega arith, clocks) in
+      let inputs = bytes-append (p .inputs) (fromOutputs p) (tags-bytes [] (p .inputs) (w .inputTags)) (omega arith, outputs) in
+      rw (at-inputs p) (omega arith, inputs)
+
+  pub bytes-are-bytes : (i : ℕ) → getD (bytesOf p) i 0 < 256
+  bytes-are-bytes = bytes-at (bytesOf p) all-bytes
