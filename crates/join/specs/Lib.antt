@@ -1,3 +1,11 @@
 pub mod Masks
 pub mod Join
+pub mod Joins
+pub mod Decide
+pub mod Steps
+pub mod Free
+pub mod Laws
 pub mod Entry
+pub mod Again
+pub mod Turns
+pub mod Examples

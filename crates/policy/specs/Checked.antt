@@ -10,22 +10,13 @@ use lib.Dec.{leb, ltb, eqb}
 use lib.Bits.{bitAnd}
 use lib.ListN.{length, getD, length-take, length-drop}
 use borrow.Author.Tests.{leb-true, ltb-true, eqb-true}
-use Rattle.streams.specs.Answer.{_orElse_, unless}
+use Rattle.streams.specs.Answer.{_orElse_, unless, none-refused, none-unless}
 use Rattle.policy.specs.Rules.{Bound, Rule, Policy}
 use Rattle.policy.specs.Stopped.{Lawful, AllLawful, lawful-none, lawful-more, Checked, checked-none, checked-more}
 use Rattle.policy.specs.Number.{statesOf}
 use Rattle.policy.specs.File.{part, pairsFrom, boundsFrom, rulesFrom, ruleSize, inputCount, outputsAt, outputCount, clocksAt, clockCount, locationsAt, locationCount, rulesAt, ruleCount, rulesStart, rulesEnd, inputTags, outputTags, ceilingsOf, locationBytes, ruleSection, rulesOf, policyOf}
 use Rattle.policy.specs.Check.{all, sectionRefusal, tagsGood, ceilingGood, maskGood, headGood, boundGood, boundsGood, ruleRefusal, rulesRefusal, inputsRefusal, outputsRefusal, clocksRefusal, locationsRefusal, rulesSectionRefusal, refusalOf}
 use Rattle.policy.specs.Sound.{WellFormed, Each, each-none, each-more, Formed, Sound}
-
--- Two refusals give none exactly if neither is given; one gives none exactly if its test passes.
-pub none-refused : (a b : ℕ) → (a orElse b ≡ 0) ↔ ((a ≡ 0) × (b ≡ 0))
-none-refused zero b = (λ e. (refl, e), λ k. k .1)
-none-refused (suc a) b = (λ e. absurd (omega arith), λ k. k .0)
-
-pub none-unless : (t : Bool) (n : ℕ) → (unless t (suc n) ≡ 0) ↔ (t ≡ true)
-none-unless true n = (λ e. refl, λ e. refl)
-none-unless false n = (λ e. absurd (omega arith), λ e. absurd (false≢true e))
 
 -- The count is within its limits, and its section within the file.
 pub section-fits : (f : List ℕ) (at width n low high size : ℕ) → sectionRefusal f at width n low high size ≡ 0 →

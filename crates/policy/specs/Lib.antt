@@ -7,5 +7,6 @@ pub mod Sound
 pub mod Numbered
 pub mod Checked
 pub mod Stays
+pub mod Parts
 pub mod Bytes
 pub mod ReadBack

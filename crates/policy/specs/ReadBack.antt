@@ -10,7 +10,7 @@ use lib.Dec.{ltb, eqb}
 use lib.ListN.{length, getD, drop, replicate, length-append, length-replicate}
 use lib.Seq.{drop-drop, drop-append-seam, take-append-seam, getD-drop, getD-take}
 use borrow.Author.Tests.{leb-true, ltb-true, eqb-true, le-leb}
-use Rattle.streams.specs.Answer.{_orElse_, unless, gives}
+use Rattle.streams.specs.Answer.{_orElse_, unless, gives, none-refused, none-unless}
 use Rattle.policy.specs.Rules.{Bound, Rule, Policy}
 use Rattle.policy.specs.Number.{states}
 use Rattle.policy.specs.File.{byteAt, pairAt, part, pairsFrom, boundsFrom, ruleSize, ruleFrom, rulesFrom}
@@ -19,16 +19,9 @@ use Rattle.policy.specs.File.{rulesStart, rulesEnd, inputTags, outputTag
 use Rattle.policy.specs.Check.{all, tagsGood, ceilingGood, maskGood, headGood, boundGood, boundsGood, ruleRefusal, rulesRefusal}
 use Rattle.policy.specs.Check.{sectionRefusal, inputsRefusal, outputsRefusal, clocksRefusal, locationsRefusal, rulesSectionRefusal}
 use Rattle.policy.specs.Check.{refusalOf, checkOf}
+use Rattle.policy.specs.Parts.{rules-part}
 use Rattle.policy.specs.Bytes.{pairBytes, pairsBytes, boundsBytes, ruleBytes, rulesBytes, countsBytes, bytesOf}
 use Rattle.policy.specs.Sound.{WellFormed, Each, each-none, each-more}
-
-else-zero : (a b : ℕ) → (a orElse b) ≡ 0 → (a ≡ 0) × (b ≡ 0)
-else-zero zero b e = (refl, e)
-else-zero (suc a) b e = absurd (omega arith)
-
-unless-true : (t : Bool) (n : ℕ) → unless t (suc n) ≡ 0 → t ≡ true
-unless-true true n e = refl
-unless-true false n e = absurd (omega arith)
 
 -- What is read at a position from which on the file is known.
 module _ (f : List ℕ) where
@@ -117,51 +110,6 @@ rules-read f clocks at (each-more {r = r} {rs = rs} b bs) g e =
     let e₃ = file-after f at (ruleBytes r) _ e₂ (at + ruleSize clocks) (omega (arith, rule-length clocks r b)) in
     let rest = rules-read f clocks (at + ruleSize clocks) bs g e₃ in
     λ i. first i ∷ rest i
-
--- What is read within a part of the file is what stands there in the file: at i in the part, at j in the file.
-module _ (f : List ℕ) (at len : ℕ) where
-  pub byte-part : (i j : ℕ) → at + i ≡ j → i < len → byteAt (part f at len) i ≡ byteAt f j
-  byte-part i j e h = getD-take len (drop at f) i 0 h ∙ getD-drop at f i 0 ∙ ap (byteAt f) e
-
-  pub pair-part : (i j : ℕ) → at + i ≡ j → i + 2 ≤ len → pairAt (part f at len) i ≡ pairAt f j
-  pair-part i j e h = ap₂ (λ (a b : ℕ). a * 256 + b) (byte-part i j e (omega arith)) (byte-part (i + 1) (j + 1) (omega arith) (omega arith))
-
-  pub bounds-part : (i j n : ℕ) → at + i ≡ j → i + 4 * n ≤ len → boundsFrom (part f at len) i n ≡ boundsFrom f j n
-  unfolding boundsFrom
-  bounds-part i j zero e h = refl
-  bounds-part i j (suc n) e h =
-      let low = pair-part i j e (omega arith) in
-      let high = pair-part (i + 2) (j + 2) (omega arith) (omega arith) in
-      let rest = bounds-part (i + 4) (j + 4) n (omega arith) (omega arith) in
-      λ d. record { low = low d; high = high d } ∷ rest d
-
-  pub rule-part : (clocks i j : ℕ) → at + i ≡ j → i + ruleSize clocks ≤ len → ruleFrom clocks (part f at len) i ≡ ruleFrom clocks f j
-  unfolding ruleFrom
-  rule-part clocks i j e h =
-      let byte : (n : ℕ) → n < 7 → byteAt (part f at len) (i + n) ≡ byteAt f (j + n) = λ n l. byte-part (i + n) (j + n) (omega arith) (omega arith) in
-      λ d.
-      record {
-        source = byte-part i j e (omega arith) d;
-        inCare = byte 1 (omega arith) d;
-        inValue = byte 2 (omega arith) d;
-        outCare = byte 3 (omega arith) d;
-        outValue = byte 4 (omega arith) d;
-        reset = byte 5 (omega arith) d;
-        target = byte 6 (omega arith) d;
-        bounds = bounds-part (i + 7) (j + 7) clocks (omega arith) (omega arith) d;
-      }
-
-  pub rules-within : (clocks i j n : ℕ) → at + i ≡ j → i + n * ruleSize clocks ≤ len → rulesFrom clocks (part f at len) i n ≡ rulesFrom clocks f j n
-  unfolding rulesFrom
-  rules-within clocks i j zero e h = refl
-  rules-within clocks i j (suc n) e h =
-      let first = rule-part clocks i j e (omega arith) in
-      let rest = rules-within clocks (i + ruleSize clocks) (j + ruleSize clocks) n (omega arith) (omega arith) in
-      λ d. first d ∷ rest d
-
--- The part of the file that holds n rules reads as those n rules.
-pub rules-part : (f : List ℕ) (clocks at n : ℕ) → rulesFrom clocks (part f at (n * ruleSize clocks)) 0 n ≡ rulesFrom clocks f at n
-rules-part f clocks at n = rules-within f at (n * ruleSize clocks) clocks 0 at n (omega arith) (omega arith)
 
 -- The file from each section on.
 abbrev pub fromRules : Policy → List ℕ
@@ -269,9 +217,9 @@ each-passed : (inputs outputs : ℕ) (cs : List ℕ) (locations before : ℕ) (r
 unfolding rulesRefusal ruleRefusal
 each-passed inputs outputs cs locations before [] e = each-none
 each-passed inputs outputs cs locations before (r ∷ rs) e =
-    let both = else-zero (ruleRefusal inputs outputs cs locations before r) (rulesRefusal inputs outputs cs locations (r .source) rs) e in
-    let one = else-zero (unless (headGood inputs outputs (length cs) locations before r) 6) (unless (boundsGood cs (r .bounds)) 7) (both .0) in
-    each-more (record { before = before; head = unless-true _ 5 (one .0); bounds = unless-true _ 6 (one .1) })
+    let both = none-refused (ruleRefusal inputs outputs cs locations before r) (rulesRefusal inputs outputs cs locations (r .source) rs) .0 e in
+    let one = none-refused (unless (headGood inputs outputs (length cs) locations before r) 6) (unless (boundsGood cs (r .bounds)) 7) .0 (both .0) in
+    each-more (record { before = before; head = none-unless _ 5 .0 (one .0); bounds = none-unless _ 6 .0 (one .1) })
     (each-passed inputs outputs cs locations (r .source) rs (both .1))
 
 each-map : {P Q : Rule → Type 0} → ((r : Rule) → P r → Q r) → {rs : List Rule} → Each P rs → Each Q rs

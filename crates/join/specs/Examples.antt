@@ -1,0 +1,119 @@
+-- Two joins, compared with what another program made of the document's text; and the premises of the laws, met by them.
+use mathlib.Core.Path.{_≡_, refl}
+use mathlib.Core.Bool.{true}
+use mathlib.Core.List.{List, [], _∷_}
+use Prim.Native.Nat.{ℕ, _<_}
+use native.Mathlib.Omega.{arith}
+use Rattle.policy.specs.Rules.{Bound, Rule, Policy}
+use Rattle.policy.specs.Number.{statesOf}
+use Rattle.policy.specs.Check.{all, among, tagsGood, ceilingGood, maskGood, headGood, boundGood, boundsGood, ruleRefusal, rulesRefusal}
+use Rattle.policy.specs.Sound.{WellFormed}
+use Rattle.policy.specs.Checked.{well-sound}
+use Rattle.join.specs.Masks.{alike}
+use Rattle.join.specs.Join.{of, agree, target, both, pair, each, cell, rows, join}
+use Rattle.join.specs.Entry.{sameTags, sameSignals, joinFits}
+use Rattle.join.specs.Laws.{Equal, associates}
+use Rattle.join.specs.Again.{fitting, joins-of, join-well}
+
+abbrev bound : ℕ → ℕ → Bound
+bound l h = record { low = l; high = h }
+
+-- A rule's seven bytes and its bounds, as the file has them.
+abbrev row : ℕ → ℕ → ℕ → ℕ → ℕ → ℕ → ℕ → List Bound → Rule
+row s ic iv oc ov r t bs =
+    record { source = s; inCare = ic; inValue = iv; outCare = oc; outValue = ov; reset = r; target = t; bounds = bs }
+
+-- The signals of sample D: R in, C out.
+abbrev over : List ℕ → ℕ → List Rule → Policy
+over cs l rs = record { inputs = 82 ∷ []; outputs = 67 ∷ []; ceilings = cs; locations = l; rules = rs }
+
+-- Sample D; a policy with a rule that is a violation; and one with three locations, the last without a rule.
+abbrev d : Policy
+d =
+    over (3 ∷ []) 2
+    (row 0 1 1 0 0 1 1 (bound 0 65535 ∷ [])
+    ∷ row 0 0 0 0 0 1 0 (bound 0 65535 ∷ [])
+    ∷ row 1 0 0 1 1 1 0 (bound 0 65535 ∷ [])
+    ∷ row 1 0 0 1 0 0 1 (bound 0 2 ∷ [])
+    ∷ [])
+
+abbrev v : Policy
+v =
+    over (5 ∷ []) 2
+    (row 0 1 0 0 0 1 1 (bound 2 4 ∷ [])
+    ∷ row 0 0 0 1 1 0 255 (bound 0 65535 ∷ [])
+    ∷ row 1 1 1 1 0 0 0 (bound 0 3 ∷ [])
+    ∷ [])
+
+abbrev u : Policy
+u =
+    over [] 3
+    (row 0 1 1 0 0 0 1 []
+    ∷ row 0 0 0 0 0 0 0 []
+    ∷ row 1 0 0 1 1 0 2 []
+    ∷ [])
+
+dv : join d v ≡
+    over (3 ∷ 5 ∷ []) 4
+    (row 0 1 1 1 1 1 255 (bound 0 65535 ∷ bound 0 65535 ∷ [])
+    ∷ row 0 1 0 0 0 3 1 (bound 0 65535 ∷ bound 2 4 ∷ [])
+    ∷ row 0 0 0 1 1 1 255 (bound 0 65535 ∷ bound 0 65535 ∷ [])
+    ∷ row 1 1 1 1 0 1 2 (bound 0 65535 ∷ bound 0 3 ∷ [])
+    ∷ row 1 1 1 1 0 1 0 (bound 0 65535 ∷ bound 0 3 ∷ [])
+    ∷ row 2 1 0 1 1 3 1 (bound 0 65535 ∷ bound 2 4 ∷ [])
+    ∷ row 2 0 0 1 1 1 255 (bound 0 65535 ∷ bound 0 65535 ∷ [])
+    ∷ row 2 1 0 1 0 2 3 (bound 0 2 ∷ bound 2 4 ∷ [])
+    ∷ row 3 1 1 1 0 0 2 (bound 0 2 ∷ bound 0 3 ∷ [])
+    ∷ [])
+unfolding join rows cell each pair both agree target of alike
+dv = refl
+
+vu : join v u ≡
+    over (5 ∷ []) 6
+    (row 0 1 0 0 0 1 3 (bound 2 4 ∷ [])
+    ∷ row 0 1 1 1 1 0 255 (bound 0 65535 ∷ [])
+    ∷ row 0 0 0 1 1 0 255 (bound 0 65535 ∷ [])
+    ∷ row 1 1 0 1 1 1 5 (bound 2 4 ∷ [])
+    ∷ row 1 0 0 1 1 0 255 (bound 0 65535 ∷ [])
+    ∷ row 3 1 1 1 0 0 1 (bound 0 3 ∷ [])
+    ∷ row 3 1 1 1 0 0 0 (bound 0 3 ∷ [])
+    ∷ [])
+unfolding join rows cell each pair both agree target of alike
+vu = refl
+
+-- The laws' premises hold of them, and of a join of joins.
+well : (cs : List ℕ) (l : ℕ) (rs : List Rule) → 0 < l → all ceilingGood cs ≡ true → rulesRefusal 1 1 cs l 0 rs ≡ 0 → joinFits (over cs l rs) ≡ true →
+    WellFormed (over cs l rs)
+unfolding all among tagsGood
+well cs l rs z c r f =
+    let t = fitting (over cs l rs) f in
+    record {
+      inputs = omega arith;
+      outputs = omega arith;
+      clocks = t .1;
+      inputTags = refl;
+      outputTags = refl;
+      ceilings = c;
+      start = z;
+      locations = t .0;
+      ruleCount = t .2;
+      rules = r;
+      states = t .3;
+    }
+
+d-well : WellFormed d
+unfolding all maskGood headGood boundGood boundsGood ruleRefusal rulesRefusal statesOf joinFits
+d-well = well _ _ _ (omega arith) refl refl refl
+
+v-well : WellFormed v
+unfolding all maskGood headGood boundGood boundsGood ruleRefusal rulesRefusal statesOf joinFits
+v-well = well _ _ _ (omega arith) refl refl refl
+
+dv-well : WellFormed (join d v)
+unfolding statesOf sameTags sameSignals joinFits join rows cell each pair both agree target of alike
+dv-well = join-well d v d-well v-well refl refl
+
+regrouped : Equal (join (join d v) d) (join d (join v d))
+unfolding statesOf sameTags sameSignals joinFits join rows cell each pair both agree target of alike
+regrouped =
+    associates d v d (well-sound d d-well) (well-sound v v-well) (well-sound d d-well) (joins-of d v refl refl) (joins-of (join d v) d refl refl)

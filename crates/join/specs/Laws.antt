@@ -1,0 +1,103 @@
+-- Demand 3 for policies: the join is commutative, associative and idempotent, it has a unit, and what it releases passes its parts.
+use mathlib.Core.Path.{refl, sym, _∙_}
+use mathlib.Core.List.{List, []}
+use mathlib.Core.Logic.{_↔_}
+use Prim.Native.Nat.{ℕ, _*_, _≤_}
+use native.Mathlib.Nat.{mul-comm, mul-assoc, mul-one, mul-le-mul-right}
+use native.Mathlib.Omega.{arith}
+use Rattle.streams.specs.Stream.{Event, Stream, GoesOn, Hopeless}
+use Rattle.streams.specs.Order.{Order}
+use Rattle.streams.specs.Enforced.{Enforced}
+use Rattle.streams.specs.Laws.{_⊆_, goes-on, ends, enforced-same, passes}
+use Rattle.policy.specs.Rules.{Policy, Runs, Permits}
+use Rattle.policy.specs.Sound.{Sound}
+use Rattle.join.specs.Join.{join}
+use Rattle.join.specs.Joins.{Joins, join-sound}
+use Rattle.join.specs.Steps.{fits-same, permits-both, permits-join}
+use Rattle.join.specs.Free.{free, free-sound, free-permits}
+
+-- Demand 3, "hopeless together, or the same released stream for every event stream": nobody can tell the two policies apart by streams.
+pub record Equal (p q : Policy) : Type 1 where
+  pub permits : (w : Stream) → Permits p w ↔ Permits q w
+  pub goes : (w : Stream) → GoesOn (Permits p) w ↔ GoesOn (Permits q) w
+  pub hopeless : Hopeless (Permits p) ↔ Hopeless (Permits q)
+  pub releases : (o : Order) (n m : ℕ) (w : Stream) (es rs : List Event) →
+      Enforced o (Permits p) n m w es rs ↔ Enforced o (Permits q) n m w es rs
+
+pub equal : (p q : Policy) → Permits p ⊆ Permits q → Permits q ⊆ Permits p → Equal p q
+equal p q f g =
+    record {
+      permits = λ w. (f w, g w);
+      goes = λ w. (goes-on (Permits p) (Permits q) f w, goes-on (Permits q) (Permits p) g w);
+      hopeless = (ends (Permits q) (Permits p) g [], ends (Permits p) (Permits q) f []);
+      releases = λ o n m w es rs.
+          (enforced-same o n m (Permits p) (Permits q) f g, enforced-same o n m (Permits q) (Permits p) g f);
+    }
+
+module _ (a b : Policy) (g : Sound a) (h : Sound b) (j : Joins a b) where
+  pub joins-swap : Joins b a
+  joins-swap = record { inputs = sym (j .inputs); outputs = sym (j .outputs); locations = rw (mul-comm (b .locations) (a .locations)) (j .locations) }
+
+  half-swap : Permits (join a b) ⊆ Permits (join b a)
+  half-swap w p = let r = permits-both a b g h j w p in permits-join b a h g joins-swap w (r .1) (r .0)
+
+  -- What the join releases passes the enforcer of A, and of B, without an edit.
+  pub passes-first : (o : Order) (n m : ℕ) (w : Stream) (es rs : List Event) →
+      Enforced o (Permits (join a b)) n m w es rs → Enforced o (Permits a) n m w rs rs
+  passes-first o n m w es rs = passes o n m (Permits (join a b)) (Permits a) (λ v p. permits-both a b g h j v p .0)
+
+  pub passes-second : (o : Order) (n m : ℕ) (w : Stream) (es rs : List Event) →
+      Enforced o (Permits (join a b)) n m w es rs → Enforced o (Permits b) n m w rs rs
+  passes-second o n m w es rs = passes o n m (Permits (join a b)) (Permits b) (λ v p. permits-both a b g h j v p .1)
+
+pub commutes : (a b : Policy) → Sound a → Sound b → Joins a b → Equal (join a b) (join b a)
+commutes a b g h j = equal (join a b) (join b a) (half-swap a b g h j) (half-swap b a h g (joins-swap a b g h j))
+
+module _ (a b c : Policy) (g : Sound a) (h : Sound b) (k : Sound c) (j : Joins a b) (i : Joins (join a b) c) where
+  -- Where the left grouping is made, the parts of the right one can be.
+  pub joins-right : Joins b c
+  unfolding join
+  joins-right =
+      record {
+        inputs = sym (j .inputs) ∙ i .inputs;
+        outputs = sym (j .outputs) ∙ i .outputs;
+        locations =
+            omega (
+              arith,
+              i .locations,
+              mul-le-mul-right (b .locations * c .locations) (g .start),
+              mul-assoc (a .locations) (b .locations) (c .locations),
+            );
+      }
+
+  pub joins-whole : Joins a (join b c)
+  unfolding join
+  joins-whole = record { inputs = j .inputs; outputs = j .outputs; locations = rw (← mul-assoc (a .locations) (b .locations) (c .locations)) (i .locations) }
+
+  pub associates : Equal (join (join a b) c) (join a (join b c))
+  associates =
+      equal (join (join a b) c) (join a (join b c))
+      (λ w p.
+      let r = permits-both (join a b) c (join-sound a b g h) k i w p in
+      let q = permits-both a b g h j w (r .0) in
+      permits-join a (join b c) g (join-sound b c h k) joins-whole w (q .0) (permits-join b c h k joins-right w (q .1) (r .1)))
+      (λ w p.
+      let r = permits-both a (join b c) g (join-sound b c h k) joins-whole w p in
+      let q = permits-both b c h k joins-right w (r .1) in
+      permits-join (join a b) c (join-sound a b g h) k i w (permits-join a b g h j w (r .0) (q .0)) (q .1))
+
+pub idempotent : (a : Policy) → Sound a → Joins a a → Equal (join a a) a
+idempotent a g j = equal (join a a) a (λ w p. permits-both a a g g j w p .0) (λ w p. permits-join a a g g j w p p)
+
+pub joins-free : (a : Policy) → a .locations ≤ 64 → Joins a (free (a .inputs) (a .outputs))
+joins-free a l = record { inputs = refl; outputs = refl; locations = rw (mul-one (a .locations)) l }
+
+-- Demand 3: "A with the policy that permits all".
+pub unit : (a : Policy) → Sound a → a .locations ≤ 64 → Equal (join a (free (a .inputs) (a .outputs))) a
+unfolding Runs
+unit a g l =
+    let u = free (a .inputs) (a .outputs) in
+    let h = free-sound (a .inputs) (a .outputs) in
+    let j = joins-free a l in
+    equal (join a u) a (λ w p. permits-both a u g h j w p .0)
+    (λ w p. permits-join a u g h j w p (free-permits (a .inputs) (a .outputs) w (fits-same a u refl refl (p .0))))
