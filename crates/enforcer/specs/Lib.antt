@@ -1,3 +1,5 @@
 pub mod State
 pub mod Tick
 pub mod Entries
+pub mod Code
+pub mod Own

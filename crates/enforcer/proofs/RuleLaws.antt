@@ -1,0 +1,103 @@
+-- What the proofs of the matcher cite: a turn of each loop, and the rule that decides.
+use mathlib.Core.Path.{_≡_, refl, ap}
+use mathlib.Core.Bool.{Bool, true, false, cond, _&&_}
+use mathlib.Core.List.{List}
+use mathlib.Core.Option.{Option, none, some, Option·map, Option·none-ne-some, Option·some-injective, map-eq-some-iff, bind}
+use Prim.Native.Nat.{ℕ, zero, suc, _+_, _-_, _*_, _≤_, _<_}
+use native.Mathlib.Nat.{zero-add}
+use native.Mathlib.Numerals.{add-one, unary-clauses}
+use native.Mathlib.Omega.{arith}
+use lib.ListN.{length, getD, take, drop}
+use lib.Seq.{drop-cons, getD-take, length-take-le}
+use Rattle.policy.specs.Rules.{Place, hold, within, fires, decides, step, taken}
+use Rattle.policy.specs.File.{pairAt, boundsFrom, ruleSize, ruleFrom, rulesFrom}
+use Rattle.streams.specs.Stream.{Event}
+use Rattle.enforcer.specs.Code.{decider, bare}
+
+-- The bounds from the clock i on hold for its value and those after it; a turn, and the end.
+abbrev pub holdFrom : List ℕ → ℕ → ℕ → List ℕ → ℕ → Bool
+holdFrom f at k vs i = hold (boundsFrom f (at + 4 * i) (k - i)) (drop i (take k vs))
+
+pub hold-turn : (f : List ℕ) (at k : ℕ) (vs : List ℕ) (i low high : ℕ) → i < k → k ≤ length vs → low ≡ pairAt f (at + 4 * i)
+    → high ≡ pairAt f (at + 4 * i + 2)
+    → holdFrom f at k vs i ≡ (within (record { low = low; high = high }) (getD vs i 0) && holdFrom f at k vs (i + 1))
+unfolding hold boundsFrom
+hold-turn f at k vs i low high l h p q =
+    let e : k - i ≡ suc (k - (i + 1)) = omega arith in
+    let m : i < length (take k vs) = omega (arith, length-take-le k vs h) in
+    let s : at + 4 * i + 4 ≡ at + 4 * (i + 1) = omega arith in
+    rw (p, q, e, drop-cons (take k vs) i 0, getD-take, ← add-one i, s)
+
+pub hold-end : (f : List ℕ) (at k : ℕ) (vs : List ℕ) (i : ℕ) → k ≤ i → holdFrom f at k vs i ≡ true
+unfolding hold boundsFrom
+hold-end f at k vs i l =
+    let e : k - i ≡ 0 = omega arith in
+    rw e
+
+module _ (k : ℕ) (f : List ℕ) (s : Place) (e : Event) where
+  -- The first that fires of the rules from the number i on, which stand from `at` on; n is the number of all.
+  abbrev pub deciderFrom : ℕ → ℕ → ℕ → Option ℕ
+  deciderFrom n at i = Option·map (λ j. i + j) (decider (rulesFrom k f at (n - i)) s e)
+
+  pub decider-start : (n at : ℕ) → decider (rulesFrom k f at n) s e ≡ deciderFrom n at 0
+  decider-start n at = simp unary-clauses (go (decider (rulesFrom k f at n) s e))
+    where
+      go : (o : Option ℕ) → o ≡ Option·map (λ j. 0 + j) o
+      go none = refl
+      go (some j) = ap some (omega arith)
+
+  pub decider-here : (n at i : ℕ) → i < n → fires (ruleFrom k f at) s e ≡ true → deciderFrom n at i ≡ some i
+  unfolding decider rulesFrom
+  decider-here n at i l h =
+      let m : n - i ≡ suc (n - (i + 1)) = omega arith in
+      simp (m, h) (ap some (omega arith))
+
+  pub decider-turn : (n at i : ℕ) → i < n → fires (ruleFrom k f at) s e ≡ false
+      → deciderFrom n at i ≡ deciderFrom n (at + ruleSize k) (i + 1)
+  unfolding decider rulesFrom
+  decider-turn n at i l h =
+      let m : n - i ≡ suc (n - (i + 1)) = omega arith in
+      simp (m, h) (go (decider (rulesFrom k f (at + ruleSize k) (n - (i + 1))) s e))
+    where
+      go : (o : Option ℕ) → Option·map (λ j. i + j) (Option·map suc o) ≡ Option·map (λ j. i + 1 + j) o
+      go none = refl
+      go (some j) = ap some (omega arith)
+
+  pub decider-end : (n at i : ℕ) → n ≤ i → deciderFrom n at i ≡ none
+  unfolding decider rulesFrom
+  decider-end n at i l =
+      let m : n - i ≡ 0 = omega arith in
+      rw m
+
+  -- It is one of the n, and it is the rule that decides.
+  pub decider-lt : (n at i : ℕ) → decider (rulesFrom k f at n) s e ≡ some i → i < n
+  unfolding decider rulesFrom
+  decider-lt zero at i p = absurd (Option·none-ne-some i p)
+  decider-lt (suc n) at i p = go (fires (ruleFrom k f at) s e) p (λ j. decider-lt n (at + ruleSize k) j)
+    where
+      go : (t : Bool) → cond t (some 0) (Option·map suc (decider (rulesFrom k f (at + ruleSize k) n) s e)) ≡ some i
+          → ((j : ℕ) → decider (rulesFrom k f (at + ruleSize k) n) s e ≡ some j → j < n) → i < suc n
+      go true q h = omega (arith, Option·some-injective 0 i q)
+      go false q h =
+          let m = map-eq-some-iff suc (decider (rulesFrom k f (at + ruleSize k) n) s e) .0 q in
+          omega (arith, h (m .0) (m .1), m .2)
+
+  pub decider-decides : (n at : ℕ)
+      → decides (rulesFrom k f at n) s e ≡ Option·map (λ i. ruleFrom k f (at + i * ruleSize k)) (decider (rulesFrom k f at n) s e)
+  unfolding decider decides rulesFrom
+  decider-decides zero at = refl
+  decider-decides (suc n) at =
+      rw (decider-decides n (at + ruleSize k)) (go (fires (ruleFrom k f at) s e) (decider (rulesFrom k f (at + ruleSize k) n) s e))
+    where
+      go : (t : Bool) (o : Option ℕ) → cond t (some (ruleFrom k f at)) (Option·map (λ i. ruleFrom k f (at + ruleSize k + i * ruleSize k)) o)
+          ≡ Option·map (λ i. ruleFrom k f (at + i * ruleSize k)) (cond t (some 0) (Option·map suc o))
+      go true o = ap (λ (p : ℕ). some (ruleFrom k f p)) (omega arith)
+      go false none = refl
+      go false (some i) = ap (λ (p : ℕ). some (ruleFrom k f p)) (omega arith)
+
+  -- One tick, by the number of the rule that decides.
+  pub step-decider : (on : ℕ → ℕ → ℕ) (cs : List ℕ) (n : ℕ) (o : Option ℕ) → o ≡ decider (rulesFrom k f 0 n) s e
+      → step on (bare cs (rulesFrom k f 0 n)) s e
+      ≡ bind (Option·map (λ i. ruleFrom k f (i * ruleSize k)) o) (taken on (bare cs (rulesFrom k f 0 n)) s)
+  unfolding step
+  step-decider on cs n o p = rw (decider-decides n 0, ← p) (simp zero-add)

@@ -1,0 +1,67 @@
+-- `enforcer::own::own_rules` meets its contract: the rules after the first ones are read from their place on. Assumes nothing.
+use mathlib.Core.Path.{_≡_, sym, ap, ap₂, _∙_}
+use Prim.Native.Nat.{ℕ, _+_, _-_, _*_, _≤_}
+use native.Mathlib.Nat.{mul-le-mul}
+use native.Mathlib.Omega.{arith}
+use lib.ListN.{drop}
+use denote.Ref.{now}
+use borrow.Author.Needs.{needs}
+use Rattle.policy.specs.Rules.{Rule}
+use Rattle.policy.specs.File.{ruleSize, rulesFrom}
+use Rattle.policy.specs.Checked.{rules-length}
+use Rattle.policy.specs.Parts.{rules-drop}
+use Rattle.enforcer.specs.Own.{below, level, below-le}
+use Rattle.enforcer.proofs.own.own_rules.Statement.{statement}
+use Rattle.enforcer.proofs.own.own_rules.Tie as tie
+
+-- No more rules are passed than there are, so they end within the section.
+passed : (c : tie.After-rules-below) →
+    (c .rules-below .result ≤ c .before .before .args .count)
+    × (c .rules-below .result * (7 + 4 * c .before .before .args .clocks) ≤ 256 * 23)
+passed c =
+    let a = c .before .before .args in
+    let few : c .rules-below .result ≤ a .count =
+    omega (
+      arith,
+      c .rules-below .ensures,
+      below-le (a .location) (rulesFrom (a .clocks) (now (a .rules)) 0 (a .count)),
+      rules-length (a .clocks) (now (a .rules)) 0 (a .count),
+    )
+    in
+    let most : c .rules-below .result ≤ 256 = omega (arith, c .before .before .pre) in
+    let size : 7 + 4 * a .clocks ≤ 23 = omega (arith, c .before .before .pre) in
+    (few, mul-le-mul most size)
+
+rules-below-requires : tie.Need-rules-below-requires
+rules-below-requires c κs = search needs
+
+mul-start : tie.Need-mul-start
+mul-start c = search needs
+
+add-start : tie.Need-add-start
+add-start c = search needs
+
+mul-start-2 : tie.Need-mul-start-2
+mul-start-2 c = omega (arith, passed c)
+
+sub-rules-level : tie.Need-sub-rules-level
+sub-rules-level c = passed c .0
+
+rules-level-requires : tie.Need-rules-level-requires
+rules-level-requires c κs = omega (arith, passed c, c .before .before .pre)
+
+returns : tie.Need-returns
+returns c =
+    let a = c .before .before .before .args in
+    let rs = rulesFrom (a .clocks) (now (a .rules)) 0 (a .count) in
+    let n = c .before .rules-below .result in
+    let first : n ≡ below (a .location) rs = c .before .rules-below .ensures in
+    let rest : rulesFrom (a .clocks) (now (a .rules)) (n * ruleSize (a .clocks)) (a .count - n) ≡ drop n rs =
+    sym (rules-drop (a .clocks) (now (a .rules)) 0 n (a .count) (passed (c .before) .0) ∙ ap (λ (z : ℕ). rulesFrom (a .clocks) (now (a .rules)) z (a .count - n)) (omega arith))
+    in
+    let count = c .rules-level .ensures ∙ ap (level (a .location)) rest ∙ ap (λ (z : ℕ). level (a .location) (drop z rs)) first in
+    λ i. record { start = first i * ruleSize (a .clocks); count = count i }
+
+pub own-rules-spec : {M : Type 1} → statement M
+own-rules-spec =
+    tie.close (tie.spec rules-below-requires mul-start add-start mul-start-2 sub-rules-level rules-level-requires returns)

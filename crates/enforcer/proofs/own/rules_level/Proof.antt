@@ -1,0 +1,72 @@
+-- `enforcer::own::rules_level` meets its contract. What the rest adds to i is what all rules give. Assumes nothing.
+use mathlib.Core.Path.{_≡_, sym, _∙_}
+use Prim.Native.Nat.{_+_, _-_, _*_, _≤_}
+use native.Mathlib.Omega.{arith}
+use denote.Ref.{now}
+use Rattle.policy.specs.File.{rulesFrom}
+use Rattle.enforcer.specs.Own.{level, level-more, level-done, none-level}
+use Rattle.enforcer.proofs.own.rules_level.Statement.{statement}
+use Rattle.enforcer.proofs.own.rules_level.Tie as tie
+
+abbrev Inv-loop : tie.InvT-loop
+Inv-loop rules at count clocks location size next₀ i₀ next i =
+    (i ≤ count) × (next ≤ at + i * 23) × (i + level location (rulesFrom clocks rules next (count - i)) ≡ level location (rulesFrom clocks rules at count))
+
+abbrev μ-loop : tie.MeasureT-loop
+μ-loop rules at count clocks location size next₀ i₀ next i = count - i
+
+mul-size : tie.Need-mul-size Inv-loop μ-loop
+mul-size c = omega arith
+
+add-size : tie.Need-add-size Inv-loop μ-loop
+add-size c = omega arith
+
+loop-holds : tie.Need-loop-holds Inv-loop μ-loop
+loop-holds c = let e : c .before .args .count - 0 ≡ c .before .args .count = omega arith in (omega arith, omega arith, rw e (omega arith))
+
+byte-at-requires : tie.Need-byte-at-requires Inv-loop μ-loop
+byte-at-requires c κs = tt
+
+returns : tie.Need-returns Inv-loop μ-loop
+returns c =
+    let l = c .before .before .before in
+    let a = l .before .before .args in
+    omega (
+      arith,
+      l .loop .inv,
+      level-done (a .clocks) (now (a .rules)) (l .loop .next) (l .loop .i) (a .count) (a .location) (c .before .before .loop-test .taken)
+          (λ e. c .if1 .taken (c .before .byte-at .ensures .0 ∙ e)),
+    )
+
+add-next : tie.Need-add-next Inv-loop μ-loop
+add-next c = omega arith
+
+add-i : tie.Need-add-i Inv-loop μ-loop
+add-i c = omega arith
+
+loop-less : tie.Need-loop-less Inv-loop μ-loop
+loop-less c = omega arith
+
+loop-again : tie.Need-loop-again Inv-loop μ-loop
+loop-again c =
+    let l = c .before .before .before in
+    let a = l .before .before .args in
+    let m =
+    level-more (a .clocks) (now (a .rules)) (l .loop .next) (l .loop .i) (a .count) (a .location) (c .before .before .loop-test .taken)
+    (sym (c .before .byte-at .ensures .0) ∙ c .if1 .left)
+    in
+    (omega arith, omega arith, m ∙ l .loop .inv .2)
+
+returns-2 : tie.Need-returns-2 Inv-loop μ-loop
+returns-2 c =
+    let a = c .before .before .before .args in
+    omega (
+      arith,
+      c .before .loop .inv,
+      none-level (a .clocks) (now (a .rules)) (c .before .loop .next) (a .location) (a .count - c .before .loop .i) (omega arith),
+    )
+
+pub rules-level-spec : {M : Type 1} → statement M
+rules-level-spec =
+    tie.close
+    (tie.spec Inv-loop μ-loop mul-size add-size loop-holds byte-at-requires returns add-next add-i loop-less loop-again returns-2)

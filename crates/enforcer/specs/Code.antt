@@ -1,0 +1,56 @@
+-- What the code's own types stand for, and the definitions that its leaves meet.
+use mathlib.Core.Bool.{Bool, true, false, cond}
+use mathlib.Core.List.{List, [], _∷_}
+use mathlib.Core.Option.{Option, none, some, Option·map}
+use Prim.Native.Nat.{ℕ, suc, _*_}
+use lib.ListN.{take, drop}
+use Rattle.streams.specs.Stream.{Event}
+use Rattle.policy.specs.Rules.{Rule, Policy, Place, fires}
+use Rattle.policy.specs.File.{ruleSize}
+use Rattle.policy.specs.Number.{four, locationFrom, clocksFrom}
+use Rattle.enforcer.specs.Own.{below, level}
+use Rattle.enforcer.specs.declared.own.Own.{Own}
+use Rattle.enforcer.specs.declared.state.State.{State}
+use Rattle.enforcer.specs.declared.next.Step.{Step}
+use Rattle.enforcer.specs.declared.matcher.Found.{Found}
+use Rattle.enforcer.specs.declared.matcher.Found.the-variants as Found
+
+abbrev pub eventXY : ℕ → ℕ → Event
+eventXY x y = record { x = x; y = y }
+
+-- The place that the state is, in a policy with so many clocks; and the state that a place is.
+abbrev pub place : ℕ → State → Place
+place clocks s = record { location = s .location; clocks = take clocks (s .clocks) }
+
+abbrev pub stateFrom : Place → State
+stateFrom t = record { location = t .location; clocks = four (t .clocks) }
+
+-- "The start state is location 0 with every clock 0."
+abbrev pub startState : State
+startState = record { location = 0; clocks = 0 ∷ 0 ∷ 0 ∷ 0 ∷ [] }
+
+-- The state with the number n.
+abbrev pub stateAt : List ℕ → ℕ → ℕ → State
+stateAt cs clocks n = stateFrom (record { location = locationFrom cs clocks n; clocks = clocksFrom cs clocks n })
+
+-- The number of the first rule that fires: the one that decides.
+unfoldable pub decider : List Rule → Place → Event → Option ℕ
+decider [] s e = none
+decider (r ∷ rs) s e = cond (fires r s e) (some 0) (Option·map suc (decider rs s e))
+
+abbrev pub foundSaid : Found → Option ℕ
+foundSaid (Found.Rule i) = some i
+foundSaid Found.Nothing = none
+
+-- A policy of which only the clocks and the rules are asked.
+abbrev pub bare : List ℕ → List Rule → Policy
+bare cs rs = record { inputs = []; outputs = []; ceilings = cs; locations = 0; rules = rs }
+
+-- The state after a step, or a violation and the state before it.
+abbrev pub stepFrom : State → Option Place → Step
+stepFrom s none = record { permitted = false; state = s }
+stepFrom s (some t) = record { permitted = true; state = stateFrom t }
+
+-- Where the location's own rules start, in bytes, and how many they are.
+abbrev pub ownOf : ℕ → ℕ → List Rule → Own
+ownOf clocks a rs = record { start = below a rs * ruleSize clocks; count = level a (drop (below a rs) rs) }

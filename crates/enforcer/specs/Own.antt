@@ -1,0 +1,111 @@
+-- A location's own rules stand together: "Sources never fall from one rule to the next."
+use mathlib.Core.Path.{_≡_, refl, sym, ap, _∙_}
+use mathlib.Core.Bool.{Bool, true, false, cond, _&&_}
+use mathlib.Core.List.{List, [], _∷_}
+use mathlib.Core.Option.{Option, none, some}
+use Prim.Native.Nat.{ℕ, suc, _+_, _-_, _≤_, _<_}
+use native.Mathlib.Omega.{arith}
+use lib.Dec.{ltb, eqb}
+use lib.ListN.{length, take, drop}
+use borrow.Author.Tests.{lt-ltb, le-ltb, ltb-true, ltb-false, eqb-false, eq-eqb, ne-eqb}
+use Rattle.streams.specs.Stream.{Event}
+use Rattle.policy.specs.Rules.{Rule, Place, fires, decides}
+use Rattle.policy.specs.File.{byteAt, ruleFrom, rulesFrom, ruleSize}
+use Rattle.policy.specs.Checked.{Rising, rising-none, rising-more}
+
+-- How many rules at the front have a source below the location.
+unfoldable pub below : ℕ → List Rule → ℕ
+below a [] = 0
+below a (r ∷ rs) = cond (ltb (r .source) a) (suc (below a rs)) 0
+
+-- How many rules at the front have the location for their source.
+unfoldable pub level : ℕ → List Rule → ℕ
+level a [] = 0
+level a (r ∷ rs) = cond (eqb (r .source) a) (suc (level a rs)) 0
+
+-- The rules of the location a.
+unfoldable pub own : ℕ → List Rule → List Rule
+own a rs = take (level a (drop (below a rs) rs)) (drop (below a rs) rs)
+
+pub below-le : (a : ℕ) (rs : List Rule) → below a rs ≤ length rs
+unfolding below
+below-le a [] = omega arith
+below-le a (r ∷ rs) = go (ltb (r .source) a) (below-le a rs)
+  where
+    go : (t : Bool) → below a rs ≤ length rs → cond t (suc (below a rs)) 0 ≤ suc (length rs)
+    go true h = omega arith
+    go false h = omega arith
+
+-- One rule more, as a loop over the bytes meets it: i rules of `count` are passed, and the next stands at `at`.
+module _ (clocks : ℕ) (f : List ℕ) (at i count a : ℕ) (more : i < count) where
+  left : count - i ≡ suc (count - (i + 1))
+  left = omega arith
+
+  pub below-more : byteAt f at < a →
+      i + 1 + below a (rulesFrom clocks f (at + ruleSize clocks) (count - (i + 1))) ≡ i + below a (rulesFrom clocks f at (count - i))
+  unfolding below rulesFrom ruleFrom
+  below-more h = rw (left, lt-ltb (byteAt f at) a h) (omega arith)
+
+  pub below-done : a ≤ byteAt f at → below a (rulesFrom clocks f at (count - i)) ≡ 0
+  unfolding below rulesFrom ruleFrom
+  below-done h = rw (left, le-ltb (byteAt f at) a h)
+
+  pub level-more : byteAt f at ≡ a →
+      i + 1 + level a (rulesFrom clocks f (at + ruleSize clocks) (count - (i + 1))) ≡ i + level a (rulesFrom clocks f at (count - i))
+  unfolding level rulesFrom ruleFrom
+  level-more h = rw (left, eq-eqb (byteAt f at) a h) (omega arith)
+
+  pub level-done : (byteAt f at ≡ a → ⊥) → level a (rulesFrom clocks f at (count - i)) ≡ 0
+  unfolding level rulesFrom ruleFrom
+  level-done h = rw (left, ne-eqb (byteAt f at) a h)
+
+-- No rule is left.
+pub none-below : (clocks : ℕ) (f : List ℕ) (at a n : ℕ) → n ≡ 0 → below a (rulesFrom clocks f at n) ≡ 0
+unfolding below rulesFrom
+none-below clocks f at a n e = rw e
+
+pub none-level : (clocks : ℕ) (f : List ℕ) (at a n : ℕ) → n ≡ 0 → level a (rulesFrom clocks f at n) ≡ 0
+unfolding level rulesFrom
+none-level clocks f at a n e = rw e
+
+module _ (s : Place) (e : Event) where
+  -- A rule of another location does not fire.
+  other : (r : Rule) → (r .source ≡ s .location → ⊥) → fires r s e ≡ false
+  unfolding fires
+  other r h = rw (ne-eqb (r .source) (s .location) h)
+
+  above : {b : ℕ} {rs : List Rule} → s .location < b → Rising b rs → decides rs s e ≡ none
+  unfolding decides
+  above l rising-none = refl
+  above l (rising-more {r = r} {rs = rs} h k) =
+      let m : s .location < r .source = omega arith in
+      rw (other r (omega arith)) (above m k)
+
+  at-front : {b : ℕ} {rs : List Rule} → s .location ≤ b → Rising b rs → decides rs s e ≡ decides (take (level (s .location) rs) rs) s e
+  unfolding decides level
+  at-front l rising-none = refl
+  at-front l (rising-more {r = r} {rs = rs} h k) =
+      let m : s .location ≤ r .source = omega arith in
+      go (eqb (r .source) (s .location)) refl (at-front m k)
+    where
+      go : (t : Bool) → eqb (r .source) (s .location) ≡ t → decides rs s e ≡ decides (take (level (s .location) rs) rs) s e →
+          decides (r ∷ rs) s e ≡ decides (take (cond t (suc (level (s .location) rs)) 0) (r ∷ rs)) s e
+      go true q ih = ap (cond (fires r s e) (some r)) ih
+      go false q ih =
+          let d : r .source ≡ s .location → ⊥ = eqb-false (r .source) (s .location) q in
+          let n : s .location < r .source = omega arith in
+          rw (other r d) (above n k)
+
+  -- The first of the location's own rules that fires is the first of all rules that does.
+  pub decides-own : {b : ℕ} {rs : List Rule} → Rising b rs → decides (own (s .location) rs) s e ≡ decides rs s e
+  unfolding decides own below level
+  decides-own rising-none = refl
+  decides-own (rising-more {r = r} {rs = rs} h k) = go (ltb (r .source) (s .location)) refl (decides-own k)
+    where
+      go : (t : Bool) → ltb (r .source) (s .location) ≡ t → decides (own (s .location) rs) s e ≡ decides rs s e →
+          decides
+          (take (level (s .location) (drop (cond t (suc (below (s .location) rs)) 0) (r ∷ rs)))
+          (drop (cond t (suc (below (s .location) rs)) 0) (r ∷ rs))) s e
+          ≡ decides (r ∷ rs) s e
+      go true q ih = let l : r .source < s .location = ltb-true _ _ q in rw (other r (omega arith)) ih
+      go false q ih = let m : s .location ≤ r .source = ltb-false _ _ q in sym (at-front (omega arith) (rising-more {before = s .location} m k))

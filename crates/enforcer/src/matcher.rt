@@ -1,0 +1,74 @@
+// The rule matcher, over the part of the file that the rules are.
+use crate::state::State;
+use policy::bytes::byte_at;
+use policy::bytes::pair_at;
+ghost use mathlib.Core.Path.{_≡_};
+ghost use Prim.Native.Nat.{ℕ, _≤_, _<_, _^_};
+ghost use lib.ListN.{take};
+ghost use Rattle.policy.specs.Rules.{hold, fires};
+ghost use Rattle.policy.specs.File.{boundsFrom, ruleFrom, rulesFrom};
+ghost use Rattle.enforcer.specs.Code.{eventXY, place, decider, foundSaid};
+
+pub enum Found {
+    Rule(usize),
+    Nothing,
+}
+
+// The bounds from `at` on hold for the clock values.
+fn bounds_hold(rules: &[u8], at: usize, clocks: usize, values: [u16; 4]) -> bool
+    requires { ⌜ (at < 2 ^ 32) × (clocks ≤ 4) ⌝ }
+    ensures { λ r. ⌜ r ≡ hold (boundsFrom (now (rules .entry)) at clocks) (take clocks values) ⌝ }
+{
+    let mut i = 0;
+    while i < clocks {
+        let low = pair_at(rules, at + 4 * i);
+        let high = pair_at(rules, at + 4 * i + 2);
+        let value = values[i] as usize;
+        if value < low {
+            return false;
+        }
+        if high != 65535 {
+            if high < value {
+                return false;
+            }
+        }
+        i += 1;
+    }
+    true
+}
+
+// The rule at `at` is the location's, its care bits agree with x and y, and its bounds hold.
+fn rule_fires(rules: &[u8], at: usize, clocks: usize, state: State, x: u8, y: u8) -> bool
+    requires { ⌜ (at < 2 ^ 31) × (clocks ≤ 4) ⌝ }
+    ensures { λ r. ⌜ r ≡ fires (ruleFrom clocks (now (rules .entry)) at) (place clocks state) (eventXY x y) ⌝ }
+{
+    if byte_at(rules, at) != state.location as usize {
+        return false;
+    }
+    if x as usize & byte_at(rules, at + 1) != byte_at(rules, at + 2) {
+        return false;
+    }
+    if y as usize & byte_at(rules, at + 3) != byte_at(rules, at + 4) {
+        return false;
+    }
+    let values = state.clocks;
+    bounds_hold(rules, at + 7, clocks, values)
+}
+
+// The number of the first of the rules that fires.
+pub fn first_rule(rules: &[u8], count: usize, clocks: usize, state: State, x: u8, y: u8) -> Found
+    requires { ⌜ (count ≤ 256) × (clocks ≤ 4) ⌝ }
+    ensures { λ r. ⌜ foundSaid r ≡ decider (rulesFrom clocks (now (rules .entry)) 0 count) (place clocks state) (eventXY x y) ⌝ }
+{
+    let size = 7 + 4 * clocks;
+    let mut at = 0;
+    let mut i = 0;
+    while i < count {
+        if rule_fires(rules, at, clocks, state, x, y) {
+            return Found::Rule(i);
+        }
+        at += size;
+        i += 1;
+    }
+    Found::Nothing
+}

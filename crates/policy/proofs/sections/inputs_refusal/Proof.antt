@@ -1,0 +1,82 @@
+-- `policy::sections::inputs_refusal` meets its contract: the section's refusal, or that of its contents. Assumes nothing.
+use mathlib.Core.Path.{_≡_, sym, _∙_}
+use mathlib.Core.List.{[]}
+use Prim.Native.Nat.{_+_, _*_, _≤_}
+use native.Mathlib.Nat.{add-sub-cancel-left}
+use native.Mathlib.Omega.{arith}
+use lib.ListN.{length}
+use denote.Ref.{now}
+use borrow.Author.Needs.{needs}
+use Rattle.policy.specs.File.{inputCount, inputTags}
+use Rattle.policy.specs.Check.{sectionRefusal, tagsGood, inputsRefusal}
+use Rattle.policy.specs.Checked.{section-fits}
+use Rattle.streams.specs.Answer.{first-refused}
+use Rattle.policy.proofs.sections.inputs_refusal.Statement.{statement}
+use Rattle.policy.proofs.sections.inputs_refusal.Tie as tie
+
+-- the section's refusal, and that of its contents
+counted : (c : tie.After-section-refusal) →
+    let f = now (c .before .before .before .args .file) in
+    c .section-refusal .result ≡ sectionRefusal f 0 1 (inputCount f) 0 4 1
+counted c = cc
+
+judged : (c : tie.After-tags-good) →
+    c .tags-good .result ≡ tagsGood [] (inputTags (now (c .before .before .before .before .before .before .before .args .file)))
+judged c = c .tags-good .ensures ∙ rw add-sub-cancel-left (cc)
+
+fits : (c : tie.Else1) → 1 + c .before .before .byte-at .result * 1 ≤ length (now (c .before .before .before .before .args .file))
+fits c = section-fits _ _ _ _ _ _ _ (sym (c .before .section-refusal .ensures) ∙ c .if1 .left) .2
+
+byte-at-requires : tie.Need-byte-at-requires
+byte-at-requires c κs = search needs
+
+section-refusal-requires : tie.Need-section-refusal-requires
+section-refusal-requires c κs = search needs
+
+returns : tie.Need-returns
+unfolding inputsRefusal
+returns c = rw (← counted (c .before), first-refused _ _ (c .if1 .taken))
+
+slice-aggregate-tags-good : tie.Need-slice-aggregate-tags-good
+slice-aggregate-tags-good c = search needs
+
+add-tags-good : tie.Need-add-tags-good
+add-tags-good c = search needs
+
+sub-tags-good : tie.Need-sub-tags-good
+sub-tags-good c = search needs
+
+part-tags-good-start : tie.Need-part-tags-good-start
+part-tags-good-start c = search needs
+
+part-tags-good-end : tie.Need-part-tags-good-end
+part-tags-good-end c = omega (arith, fits (c .before))
+
+tags-good-requires : tie.Need-tags-good-requires
+tags-good-requires c κs = search needs
+
+returns-2 : tie.Need-returns-2
+unfolding inputsRefusal
+returns-2 c =
+    let e = c .before .before .before .before in rw (← counted (e .before), e .if1 .left, ← judged (c .before), c .if2 .taken)
+
+returns-3 : tie.Need-returns-3
+unfolding inputsRefusal
+returns-3 c =
+    let e = c .before .before .before .before in rw (← counted (e .before), e .if1 .left, ← judged (c .before), c .if2 .left)
+
+pub inputs-refusal-spec : {M : Type 1} → statement M
+inputs-refusal-spec =
+    tie.close
+    (tie.spec
+    byte-at-requires
+    section-refusal-requires
+    returns
+    slice-aggregate-tags-good
+    add-tags-good
+    sub-tags-good
+    part-tags-good-start
+    part-tags-good-end
+    tags-good-requires
+    returns-2
+    returns-3)
