@@ -57,11 +57,7 @@ runFrom s out zero r =
       out = map byteOf (r .released) ++ drop (length (r .released)) out;
     }
 
-module _ (file marks : List ℕ) where
-  -- 10: "the mark slice is shorter than the number of states".
-  unfoldable pub marksRefusal : ℕ
-  marksRefusal = refusalOf file orElse unless (leb (states (policyOf file)) (length marks)) 10
-
+module _ (file : List ℕ) where
   -- 15: "an event, x or y has a bit beyond its signals".
   abbrev pub xGood : ℕ → Bool
   xGood x = ltb x (inputValues (policyOf file))
@@ -72,6 +68,11 @@ module _ (file marks : List ℕ) where
   abbrev pub eventGood : ℕ → Bool
   eventGood b = xGood (b % 16) && yGood (b / 16)
 
+module _ (file marks : List ℕ) where
+  -- 10: "the mark slice is shorter than the number of states".
+  unfoldable pub marksRefusal : ℕ
+  marksRefusal = refusalOf file orElse unless (leb (states (policyOf file)) (length marks)) 10
+
   module _ (s : Place) where
     -- 16: "a state has a location or clock value out of range, an unused clock not 0, or a mark other than 1".
     unfoldable pub stateRefusal : ℕ
@@ -81,14 +82,14 @@ module _ (file marks : List ℕ) where
 
     -- The input half.
     unfoldable pub inputRefusal : ℕ → ℕ
-    inputRefusal x = marksRefusal orElse stateRefusal orElse unless (xGood x) 15
+    inputRefusal x = marksRefusal orElse stateRefusal orElse unless (xGood file x) 15
 
     unfoldable pub inputOf : ℕ → Answer ℕ
     inputOf x = chosen (inputRefusal x) (inputChoice (policyOf file) marks (placeIn (policyOf file) s) x)
 
     -- The output half.
     unfoldable pub outputRefusal : ℕ → ℕ → ℕ
-    outputRefusal x y = marksRefusal orElse stateRefusal orElse unless (xGood x && yGood y) 15
+    outputRefusal x y = marksRefusal orElse stateRefusal orElse unless (xGood file x && yGood file y) 15
 
     unfoldable pub outputOf : ℕ → ℕ → OutputAnswer
     outputOf x y =
@@ -98,7 +99,7 @@ module _ (file marks : List ℕ) where
     unfoldable pub runRefusal : List ℕ → List ℕ → ℕ
     runRefusal events out =
         marksRefusal orElse unless (leb (length events) (length out)) 14 orElse stateRefusal
-        orElse unless (all eventGood events) 15
+        orElse unless (all (eventGood file) events) 15
 
     unfoldable pub runOf : List ℕ → List ℕ → RunAnswer
     runOf events out =

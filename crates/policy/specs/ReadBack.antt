@@ -290,7 +290,7 @@ unfolding sectionRefusal
 section-passes f at width n low high size a b c =
     rw (le-leb (at + width) (length f) (omega arith), le-leb low n a, le-leb n high b, le-leb (at + width + n * size) (length f) c)
 
-all-zeros : (n : ℕ) → all (eqb 0) (replicate n 0) ≡ true
+pub all-zeros : (n : ℕ) → all (eqb 0) (replicate n 0) ≡ true
 unfolding all
 all-zeros zero = refl
 all-zeros (suc n) = all-zeros n

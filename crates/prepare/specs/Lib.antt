@@ -3,3 +3,4 @@ pub mod Entry
 pub mod Marks
 pub mod Trim
 pub mod Live
+pub mod Enforces

@@ -58,7 +58,7 @@ abbrev pub said : List ℕ → Asked → Said
 said file prepared = saidOfPrepare (marks file) (prepareOf file (lent (states (policyOf file))))
 said file (enforced events) = saidOfRun (run file events .refusal) (run file events .out)
 
-pub cases : List Case
+unfoldable pub cases : List Case
 cases =
     record { file = S; asked = enforced (0x03 ∷ []); expected = released (0x01 ∷ []) }
     ∷ record { file = S; asked = enforced (0x12 ∷ []); expected = released (0x02 ∷ []) }

@@ -1,2 +1,4 @@
 pub mod Samples
 pub mod Cases
+pub mod Granted
+pub mod Demand2

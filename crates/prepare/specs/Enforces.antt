@@ -1,0 +1,262 @@
+-- With the marks of prepare, the run over stopped clocks releases what is asked for of the permitted streams, over clocks without limit.
+use mathlib.Core.Path.{_≡_, refl, sym, ap, subst, _∙_}
+use mathlib.Core.Bool.{Bool, true, false}
+use mathlib.Core.List.{List, [], _∷_, _++_, append-nil, append-assoc}
+use mathlib.Core.Logic.{_↔_, Iff·trans}
+use mathlib.Core.Option.{none, some, bind, bind-eq-some-iff, Option·some-injective}
+use Prim.Native.Nat.{ℕ, _<_}
+use lib.Dec.{eqb}
+use lib.ListN.{length, List·getD-append}
+use borrow.Author.Tests.{eqb-true, eq-eqb}
+use Rattle.streams.specs.Stream.{Event, Stream, GoesOn}
+use Rattle.streams.specs.Order.{Nearest, nearest-same}
+use Rattle.streams.specs.Corrections.{corrections}
+use Rattle.streams.specs.Choose.{any-has, any-from, Among, nearest, nearest-is, nearest-found, nearest-some}
+use Rattle.streams.specs.Enforced.{then, MayOut, MayIn, Enforced, done}
+use Rattle.streams.specs.Enforced
+use Rattle.streams.specs.Laws.{permitted}
+use Rattle.policy.specs.Rules.{Policy, Place, start, unlimited, stopped, step, steps, inputValues, outputValues, FitsOne, Fits, fits-none, fits-more, Permits}
+use Rattle.policy.specs.Stopped.{stop, shown, step-same, start-stops}
+use Rattle.policy.specs.Number.{states, numberOf}
+use Rattle.policy.specs.Sound.{WellFormed, Sound, Inside}
+use Rattle.policy.specs.Numbered.{numberOf-below}
+use Rattle.policy.specs.Stays.{of-some, step-inside, steps-append, stop-inside, fits-append, runs-append}
+use Rattle.policy.specs.Checked.{well-sound, well-checked}
+use Rattle.enforcer.specs.State.{isMarked}
+use Rattle.enforcer.specs.Tick.{Tick, Ran, arrives, reaches, mayStand, inputChoice, outputChoice, moved, outputTick, tick, put, ran}
+use Rattle.prepare.specs.Table.{marksOf}
+use Rattle.prepare.specs.Live.{arrived, onward, markOf, marks-length, marks-onward, runs-more, unlimited-step, after-in, goes-on-marked}
+
+-- How many signals there are.
+abbrev ins : Policy → ℕ
+ins p = length (p .inputs)
+
+abbrev outs : Policy → ℕ
+outs p = length (p .outputs)
+
+-- What is released for es after w, by the permitted streams of p.
+abbrev pub EnforcedBy : Policy → Stream → List Event → List Event → Type 0
+EnforcedBy p = Enforced corrections (Permits p) (ins p) (outs p)
+
+-- The marks of prepare. Past them anything may stand.
+abbrev pub Prepared : Policy → List ℕ → Type 0
+Prepared p marks = (n : ℕ) → n < states p → isMarked marks n ≡ isMarked (marksOf p) n
+
+pub prepared-front : (p : Policy) (rest : List ℕ) → Prepared p (marksOf p ++ rest)
+prepared-front p rest n h = ap (λ (m : ℕ). eqb m 1) (List·getD-append (marksOf p) rest 0 n (rw marks-length h))
+
+-- The permitted stream w leads, over clocks without limit, to a place that the stopped clocks show as s.
+pub record Leads (p : Policy) (w : Stream) (s : Place) : Type 0 where
+  pub fits : Fits p w
+  pub place : Place
+  pub leads : steps unlimited p (start p) w ≡ some place
+  pub shows : stop p place ≡ s
+
+pub leads-start : (p : Policy) → Leads p [] (start p)
+unfolding steps
+leads-start p = record { fits = fits-none; place = start p; leads = refl; shows = start-stops p }
+
+-- A stream leads to one place.
+pub leads-one : {p : Policy} {w : Stream} {s t : Place} → Leads p w s → Leads p w t → s ≡ t
+leads-one {p} h k = sym (h .shows) ∙ ap (stop p) (Option·some-injective _ _ (sym (h .leads) ∙ k .leads)) ∙ k .shows
+
+module _ (p : Policy) (ok : WellFormed p) {w : Stream} {s : Place} (h : Leads p w s) where
+  pub leads-inside : Inside p s
+  leads-inside = subst (Inside p) (h .shows) (stop-inside p (h .place) (after-in p ok (h .leads) (h .fits)))
+
+  pub leads-on : (e : Event) (u : Place) → FitsOne p e → step stopped p s e ≡ some u → Leads p (w ++ (e ∷ [])) u
+  unfolding steps bind
+  leads-on e u f k =
+      let v = unlimited-step p ok (h .place) e u (rw (h .shows) k) in
+      record {
+        fits = fits-append p (h .fits) (fits-more f fits-none);
+        place = v .0;
+        leads = rw (steps-append, h .leads, v .1);
+        shows = v .2;
+      }
+
+  -- The tick of a permitted event, as the stopped clocks show it.
+  pub leads-by : (e : Event) → Permits p (w ++ (e ∷ [])) → (u : Place) × FitsOne p e × (step stopped p s e ≡ some u)
+  unfolding shown
+  leads-by e r =
+      let m = runs-more p (h .place) e [] .0 (runs-append p (start p) (h .place) w (h .leads) (h .fits) (e ∷ []) .0 r) in
+      (stop p (m .0), m .1, rw (← h .shows, step-same p (well-checked p ok) (h .place) e, m .2))
+
+-- The parts of a tick.
+pub record Ticked (p : Policy) (marks : List ℕ) (s : Place) (e : Event) (r : Tick) : Type 0 where
+  pub input : inputChoice p marks s (e .x) ≡ some (r .event .x)
+  pub output : outputChoice p marks s (r .event .x) (e .y) ≡ some (r .event .y)
+  pub moves : step stopped p s (r .event) ≡ some (r .place)
+
+-- Whatever the marks are.
+module _ (p : Policy) (marks : List ℕ) (s : Place) where
+  pub ticked : (e : Event) (r : Tick) → tick p marks s e ≡ some r → Ticked p marks s e r
+  unfolding tick outputTick moved
+  ticked e r h =
+      let i = bind-eq-some-iff (inputChoice p marks s (e .x)) _ .0 h in
+      let o = bind-eq-some-iff (outputChoice p marks s (i .0) (e .y)) _ .0 (i .2) in
+      let m = bind-eq-some-iff (step stopped p s (record { x = i .0; y = o .0 })) _ .0 (o .2) in
+      subst (Ticked p marks s e) (Option·some-injective _ r (m .2)) (record { input = i .1; output = o .1; moves = m .1 })
+
+  pub output-ticked : (e : Event) (r : Tick) → Ticked p marks s e r → outputTick p marks s (r .event .x) (e .y) ≡ some r
+  unfolding outputTick moved bind
+  output-ticked e r t = rw (t .output, t .moves)
+
+  -- An input that may stand has an output for every answer of the controller.
+  pub input-stands : (x z : ℕ) → inputChoice p marks s x ≡ some z → Among (mayStand p marks s) (inputValues p) z
+  unfolding inputChoice
+  input-stands x z h = nearest-is (mayStand p marks s) x (inputValues p) h .may
+
+  pub output-stands : (x y z : ℕ) → outputChoice p marks s x y ≡ some z → Among (reaches p marks s x) (outputValues p) z
+  unfolding outputChoice
+  output-stands x y z h = nearest-is (reaches p marks s x) y (outputValues p) h .may
+
+  pub output-found : (x y : ℕ) → mayStand p marks s x ≡ true → (r : Tick) × (outputTick p marks s x y ≡ some r)
+  unfolding mayStand outputTick moved outputChoice bind
+  output-found x y h =
+      let z = nearest-some (reaches p marks s x) y (outputValues p) h in
+      let t = arrived p marks s x (z .0) (output-stands x y (z .0) (z .1) .1) in
+      (record { event = record { x = x; y = z .0 }; place = t .0 }, rw (z .1, t .1))
+
+  pub tick-found : (e : Event) (x : ℕ) → inputChoice p marks s (e .x) ≡ some x → (r : Tick) × (tick p marks s e ≡ some r)
+  unfolding tick bind
+  tick-found e x h = let r = output-found x (e .y) (input-stands (e .x) x h .1) in (r .0, rw (h, r .1))
+
+  pub ran-on : (e : Event) (es : Stream) (r : Tick) → tick p marks s e ≡ some r → ran p marks s (e ∷ es) ≡ put p marks r (ran p marks (r .place) es)
+  unfolding ran
+  ran-on e es r h = rw (h, ran)
+
+  pub ran-stuck : (e : Event) (es : Stream) → inputChoice p marks s (e .x) ≡ none → ran p marks s (e ∷ es) .stuck ≡ true
+  unfolding ran tick bind
+  ran-stuck e es h = rw (h, ran)
+
+-- A place of the policy that is marked: what the halves and the run do not refuse by 16.
+pub record Ready (p : Policy) (marks : List ℕ) (s : Place) : Type 0 where
+  pub inside : Inside p s
+  pub marked : isMarked marks (numberOf p s) ≡ true
+
+pub ticked-ready :
+    (p : Policy) (marks : List ℕ) (s : Place) (e : Event) (r : Tick) → Sound p → Inside p s → Ticked p marks s e r → Ready p marks (r .place)
+unfolding reaches
+ticked-ready p marks s e r k i t =
+    record {
+      inside = of-some (Inside p) (t .moves) (step-inside p k s i (r .event));
+      marked = ap (arrives p marks) (sym (t .moves)) ∙ output-stands p marks s (r .event .x) (e .y) (r .event .y) (t .output) .1;
+    }
+
+-- A run over the events es, after w was released: it never stops for want of an input that may stand, "one event is released for each one read", and
+-- the place after them is the one that the released stream leads to.
+pub record Enforces (p : Policy) (w : Stream) (es : List Event) (r : Ran) : Type 0 where
+  pub moving : r .stuck ≡ false
+  pub enforced : EnforcedBy p w es (r .released)
+  pub leads : Leads p (w ++ r .released) (r .place)
+
+-- The choice among the values that may stand, whichever way that is said.
+nearest-may :
+    (may : ℕ → Bool) (n : ℕ) (May : ℕ → Type 0) → ((z : ℕ) → Among may n z ↔ May z) → (wanted a : ℕ) →
+    (nearest may wanted n ≡ some a) ↔ Nearest corrections May wanted a
+nearest-may may n May e wanted a = (
+  λ h. nearest-same corrections {May = Among may n} {Also = May} (λ z. e z .0) (λ z. e z .1) (nearest-is may wanted n h),
+  λ h. nearest-found may wanted n (nearest-same corrections {May = May} {Also = Among may n} (λ z. e z .1) (λ z. e z .0) h),
+)
+
+module _ (p : Policy) (ok : WellFormed p) (marks : List ℕ) (by : Prepared p marks) where
+  marked-by : {s : Place} → Inside p s → (markOf p s ≡ 1) ↔ (isMarked marks (numberOf p s) ≡ true)
+  marked-by {s} i = let e = by (numberOf p s) (numberOf-below p i) in (λ m. e ∙ eq-eqb _ 1 m, λ k. eqb-true _ 1 (sym e ∙ k))
+
+  pub goes-on-ready : {w : Stream} {s : Place} → Leads p w s → GoesOn (Permits p) w ↔ (isMarked marks (numberOf p s) ≡ true)
+  goes-on-ready {w} h =
+      Iff·trans (subst (λ (z : Place). GoesOn (Permits p) w ↔ (markOf p z ≡ 1)) (h .shows) (goes-on-marked p ok (h .leads) (h .fits)))
+      (marked-by (leads-inside p ok h))
+
+  module _ {w : Stream} {s : Place} (h : Leads p w s) where
+    -- An event "takes the state to a live one" exactly if after it the stream can go on for ever.
+    pub reaches-goes-on : (x y : ℕ) → FitsOne p (record { x = x; y = y }) → (reaches p marks s x y ≡ true) ↔ GoesOn (Permits p) (then w x y)
+    unfolding reaches
+    reaches-goes-on x y f = (
+      λ k. let t = arrived p marks s x y k in goes-on-ready (leads-on p ok h _ (t .0) f (t .1)) .1 (t .2),
+      λ g.
+          let t = leads-by p ok h _ (permitted (Permits p) (then w x y) g) in
+          ap (arrives p marks) (t .2) ∙ goes-on-ready (leads-on p ok h _ (t .0) f (t .2)) .0 g,
+    )
+
+    pub reaches-may :
+        (x : ℕ) → x < inputValues p → (y : ℕ) →
+        Among (reaches p marks s x) (outputValues p) y ↔ MayOut (Permits p) (ins p) (outs p) w x y
+    reaches-may x k y = (
+      λ a. (a .0, reaches-goes-on x y (record { x = k; y = a .0 }) .0 (a .1)),
+      λ m. (m .0, reaches-goes-on x y (record { x = k; y = m .0 }) .1 (m .1)),
+    )
+
+    pub stands-may : (x : ℕ) → Among (mayStand p marks s) (inputValues p) x ↔ MayIn (Permits p) (ins p) (outs p) w x
+    unfolding mayStand
+    stands-may x = (
+      λ a. let y = any-from (reaches p marks s x) (outputValues p) (a .1) in (a .0, (y .0, reaches-may x (a .0) (y .0) .0 (y .1, y .2))),
+      λ m.
+          let a = reaches-may x (m .0) (m .1 .0) .1 (m .1 .1) in
+          (m .0, any-has (reaches p marks s x) (outputValues p) (m .1 .0) (a .0) (a .1)),
+    )
+
+    pub input-nearest : (x z : ℕ) → (inputChoice p marks s x ≡ some z) ↔ Nearest corrections (MayIn (Permits p) (ins p) (outs p) w) x z
+    unfolding inputChoice
+    input-nearest = nearest-may (mayStand p marks s) (inputValues p) (MayIn (Permits p) (ins p) (outs p) w) stands-may
+
+    pub output-nearest :
+        (x : ℕ) → x < inputValues p → (y z : ℕ) →
+        (outputChoice p marks s x y ≡ some z) ↔ Nearest corrections (MayOut (Permits p) (ins p) (outs p) w x) y z
+    unfolding outputChoice
+    output-nearest x k = nearest-may (reaches p marks s x) (outputValues p) (MayOut (Permits p) (ins p) (outs p) w x) (reaches-may x k)
+
+    pub tick-right :
+        (e : Event) (r : Tick) → tick p marks s e ≡ some r →
+        Enforced.Tick corrections (Permits p) (ins p) (outs p) w e (r .event) × Leads p (w ++ (r .event ∷ [])) (r .place)
+    tick-right e r k =
+        let t = ticked p marks s e r k in
+        let x = input-nearest (e .x) (r .event .x) .0 (t .input) in
+        let y = output-nearest (r .event .x) (x .may .0) (e .y) (r .event .y) .0 (t .output) in
+        (record { input = x; output = y }, leads-on p ok h (r .event) (r .place) (record { x = x .may .0; y = y .may .0 }) (t .moves))
+
+  pub leads-ready : {w : Stream} {s : Place} → Leads p w s → GoesOn (Permits p) w → Ready p marks s
+  leads-ready h g = record { inside = leads-inside p ok h; marked = goes-on-ready h .0 g }
+
+  -- "With the marks of prepare and a live state, run and the input half never give 17".
+  module _ {s : Place} (k : Ready p marks s) where
+    pub input-found : (x : ℕ) → (z : ℕ) × (inputChoice p marks s x ≡ some z)
+    unfolding inputChoice
+    input-found x =
+        let o = marks-onward p (k .inside) .0 (marked-by (k .inside) .1 (k .marked)) in
+        let i = of-some (Inside p) (o .leads) (step-inside p (well-sound p ok) s (k .inside) (o .event)) in
+        nearest-some (mayStand p marks s) x (inputValues p)
+        (onward p marks s .1
+        (record {
+          event = o .event;
+          fits = o .fits;
+          next = o .next;
+          leads = o .leads;
+          marked = eqb-true _ 1 (marked-by i .0 (o .marked));
+        }))
+
+    pub tick-ready : (e : Event) → (r : Tick) × (tick p marks s e ≡ some r) × Ready p marks (r .place)
+    tick-ready e =
+        let z = input-found (e .x) in
+        let r = tick-found p marks s e (z .0) (z .1) in
+        (r .0, r .1, ticked-ready p marks s e (r .0) (well-sound p ok) (k .inside) (ticked p marks s e (r .0) (r .1)))
+
+  pub never-stuck : {s : Place} → Ready p marks s → (es : Stream) → ran p marks s es .stuck ≡ false
+  unfolding ran
+  never-stuck k [] = refl
+  never-stuck {s} k (e ∷ es) = let r = tick-ready k e in ap (λ (q : Ran). q .stuck) (ran-on p marks s e es (r .0) (r .1)) ∙ never-stuck (r .2) es
+
+  pub ran-enforces : {w : Stream} {s : Place} → Leads p w s → GoesOn (Permits p) w → (es : List Event) → Enforces p w es (ran p marks s es)
+  unfolding ran
+  ran-enforces h g [] = record { moving = refl; enforced = done; leads = rw append-nil h }
+  ran-enforces {w} {s} h g (e ∷ es) =
+      let r = tick-ready (leads-ready h g) e in
+      let t = tick-right h e (r .0) (r .1) in
+      let k = ran-enforces (t .1) (t .0 .output .may .1) es in
+      subst (Enforces p w (e ∷ es)) (sym (ran-on p marks s e es (r .0) (r .1)))
+      (record {
+        moving = k .moving;
+        enforced = Enforced.tick (t .0) (k .enforced);
+        leads = rw append-assoc at (k .leads);
+      })

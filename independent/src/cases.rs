@@ -1,0 +1,356 @@
+//! Random calls. A group is all the calls made around one random policy, or
+//! a pair to be joined, or some times to be converted.
+
+use crate::call::Call;
+use crate::damage;
+use crate::join;
+use crate::moment::STATE_LENGTH;
+use crate::policies::{self, Family, Size};
+use crate::policy::*;
+use crate::random::Random;
+use crate::subject::{filler, lent_length, marks_and_state, some_events, some_value, Subject};
+
+/// A table on which prepare may take more steps than this is not given to it,
+/// so that no single call takes minutes.
+const MOST_PREPARE_STEPS: usize = 300_000_000;
+
+/// Group `number` of `seed`; always the same.
+pub fn group(seed: u64, number: u64) -> Vec<Call> {
+    let mut random = Random::for_group(seed, number);
+    match random.below(100) {
+        0..=55 => around_policy(&mut random),
+        56..=59 => around_edits(&mut random),
+        60..=77 => around_damage(&mut random),
+        78 => around_prefixes(&mut random),
+        79..=94 => around_join(&mut random),
+        _ => around_ticks(&mut random),
+    }
+}
+
+fn around_policy(random: &mut Random) -> Vec<Call> {
+    let mut subject = Subject::new(policies::any(random));
+    // Of a policy without a live start there is less to ask.
+    if !subject.liveness.live[0] && random.percent(75) {
+        subject = Subject::new(policies::any(random));
+    }
+    let calls = match subject.states() {
+        0..=6_000 => 4,
+        // Each call copies its marks, so large tables get few.
+        _ => 1,
+    };
+    let mut made = Vec::new();
+    if subject.prepare_steps() <= MOST_PREPARE_STEPS {
+        made.push(prepare_call(random, &subject));
+    }
+    for _ in 0..calls {
+        made.push(input_call(random, &subject));
+        made.push(output_call(random, &subject));
+        made.push(run_call(random, &subject));
+    }
+    made
+}
+
+/// Every input, and every output after some input, of a policy that permits
+/// only few of them.
+fn around_edits(random: &mut Random) -> Vec<Call> {
+    let policy = policies::picky(random);
+    let (file, marks, state) = (policy.encode(), vec![1], vec![0; STATE_LENGTH]);
+    let input = |x| Call::Input {
+        file: file.clone(),
+        marks: marks.clone(),
+        state: state.clone(),
+        x,
+    };
+    let some_rule = random.between(0, policy.rules.len() - 1);
+    let permitted = policy.rules[some_rule].input.value;
+    let output = |y| Call::Output {
+        file: file.clone(),
+        marks: marks.clone(),
+        state: state.clone(),
+        x: permitted,
+        y,
+    };
+    let inputs = (0..=policy.input_mask()).map(input);
+    let outputs = (0..=policy.output_mask()).map(output);
+    inputs.chain(outputs).collect()
+}
+
+/// A damaged file given to every function that takes one.
+fn around_damage(random: &mut Random) -> Vec<Call> {
+    let size = random.pick(&[Size::Tiny, Size::Small]);
+    let subject = Subject::new(policies::of_size(random, size));
+    let mut made = Vec::new();
+    for _ in 0..3 {
+        let file = damage::damaged(random, &subject.policy);
+        let length = random.pick(&[0, 1, subject.states(), 700]);
+        let marks = random.bytes(length);
+        made.push(Call::Prepare {
+            file: file.clone(),
+            marks,
+        });
+        made.push(with_file(input_call(random, &subject), file.clone()));
+        made.push(with_file(output_call(random, &subject), file.clone()));
+        made.push(with_file(run_call(random, &subject), file));
+    }
+    made
+}
+
+/// The same call about another file.
+fn with_file(mut call: Call, other: Vec<u8>) -> Call {
+    match &mut call {
+        Call::Prepare { file, .. }
+        | Call::Input { file, .. }
+        | Call::Output { file, .. }
+        | Call::Run { file, .. } => *file = other,
+        Call::Join { a, .. } => *a = other,
+        Call::Ticks { .. } => {}
+    }
+    call
+}
+
+/// A short file cut off at every place.
+fn around_prefixes(random: &mut Random) -> Vec<Call> {
+    let file = policies::of_size(random, Size::Tiny).encode();
+    let marks = random.bytes(40);
+    damage::prefixes(&file[..file.len().min(150)])
+        .into_iter()
+        .map(|file| Call::Prepare {
+            file,
+            marks: marks.clone(),
+        })
+        .collect()
+}
+
+fn around_join(random: &mut Random) -> Vec<Call> {
+    let family = random.pick(&[Family::Small, Family::Small, Family::Large]);
+    let sisters = policies::sisters(random, family, 2);
+    let (a, b) = (sisters[0].encode(), sisters[1].encode());
+    let mut made = vec![join_call(random, &a, &b), join_call(random, &b, &a)];
+    made.push(match random.below(5) {
+        0 => {
+            let other = policies::of_size(random, Size::Tiny).encode();
+            join_call(random, &a, &other)
+        }
+        1 => {
+            let swapped = with_other_signals(random, &sisters[1]).encode();
+            join_call(random, &a, &swapped)
+        }
+        2 => {
+            let file = damaged_part(random, &sisters[0]);
+            join_call(random, &file, &b)
+        }
+        3 => {
+            let file = damaged_part(random, &sisters[1]);
+            join_call(random, &a, &file)
+        }
+        _ => join_call(random, &a, &a),
+    });
+    if random.percent(20) {
+        made.push(join_at_limit(random));
+    }
+    made
+}
+
+/// Something damaged in place of a sister; often not made from her, since
+/// sisters have too few clocks to be wrong in every way.
+fn damaged_part(random: &mut Random, sister: &Policy) -> Vec<u8> {
+    match random.percent(50) {
+        true => damage::damaged(random, sister),
+        false => {
+            let policy = policies::of_size(random, Size::Small);
+            damage::damaged(random, &policy)
+        }
+    }
+}
+
+/// The same policy with its signals named or ordered otherwise, or with an
+/// input turned into an output.
+fn with_other_signals(random: &mut Random, policy: &Policy) -> Policy {
+    let mut other = policy.clone();
+    match random.below(3) {
+        0 => other.inputs.reverse(),
+        1 => other.outputs.reverse(),
+        _ => {
+            other.rules.clear();
+            if let Some(tag) = other.inputs.pop() {
+                other.outputs.insert(0, tag);
+                other.outputs.truncate(MAX_SIGNALS);
+            }
+        }
+    }
+    other
+}
+
+/// Two policies whose join just meets or just passes one limit.
+fn join_at_limit(random: &mut Random) -> Call {
+    let plain = |locations, ceilings: &[u16], rules| {
+        let mut policy = policies::unit(b"A", b"");
+        policy.rules = vec![policy.rules[0].clone(); rules];
+        policy.ceilings = ceilings.to_vec();
+        policy.locations = locations;
+        policy
+    };
+    let (mut a, mut b) = match random.below(9) {
+        0 => (plain(8, &[], 1), plain(8, &[], 1)),
+        1 => (plain(8, &[], 1), plain(9, &[], 1)),
+        2 => (plain(1, &[1, 2], 1), plain(1, &[3, 4], 1)),
+        3 => (plain(1, &[1, 2, 3], 1), plain(1, &[3, 4], 1)),
+        4 => (plain(1, &[], 16), plain(1, &[], 16)),
+        5 => (plain(1, &[], 17), plain(1, &[], 16)),
+        6 => (plain(1, &[255], 1), plain(1, &[255], 1)),
+        7 => (plain(1, &[255], 1), plain(1, &[256], 1)),
+        // 289 pairs, of which so many contradict that about 256 are left.
+        _ => {
+            let (mut a, mut b) = (plain(1, &[], 17), plain(1, &[], 17));
+            let (set, unset) = random.pick(&[(3, 11), (4, 8), (2, 16), (2, 17), (5, 7)]);
+            for rule in &mut a.rules[..set] {
+                rule.input = Condition { care: 1, value: 1 };
+            }
+            for rule in &mut b.rules[..unset] {
+                rule.input = Condition { care: 1, value: 0 };
+            }
+            (a, b)
+        }
+    };
+    if random.percent(50) {
+        std::mem::swap(&mut a, &mut b);
+    }
+    join_call(random, &a.encode(), &b.encode())
+}
+
+fn join_call(random: &mut Random, a: &[u8], b: &[u8]) -> Call {
+    let mut room = vec![0; 6_000];
+    let needed = join::join(a, b, &mut room).unwrap_or(40);
+    let length = lent_length(random, needed);
+    Call::Join {
+        a: a.to_vec(),
+        b: b.to_vec(),
+        out: filler(random, length),
+    }
+}
+
+fn prepare_call(random: &mut Random, subject: &Subject) -> Call {
+    let length = lent_length(random, subject.states());
+    Call::Prepare {
+        file: subject.file.clone(),
+        marks: filler(random, length),
+    }
+}
+
+fn input_call(random: &mut Random, subject: &Subject) -> Call {
+    let (marks, state) = marks_and_state(random, subject);
+    Call::Input {
+        file: subject.file.clone(),
+        marks,
+        state,
+        x: some_value(random, subject.policy.input_mask()),
+    }
+}
+
+fn output_call(random: &mut Random, subject: &Subject) -> Call {
+    let (marks, state) = marks_and_state(random, subject);
+    Call::Output {
+        file: subject.file.clone(),
+        marks,
+        state,
+        x: some_value(random, subject.policy.input_mask()),
+        y: some_value(random, subject.policy.output_mask()),
+    }
+}
+
+fn run_call(random: &mut Random, subject: &Subject) -> Call {
+    let (marks, state) = marks_and_state(random, subject);
+    let events = some_events(random, &subject.policy);
+    let length = lent_length(random, events.len());
+    Call::Run {
+        file: subject.file.clone(),
+        marks,
+        state,
+        events,
+        released: filler(random, length),
+    }
+}
+
+fn around_ticks(random: &mut Random) -> Vec<Call> {
+    (0..8).map(|_| ticks_call(random)).collect()
+}
+
+fn ticks_call(random: &mut Random) -> Call {
+    let tick_length = some_number(random);
+    let milliseconds = match random.below(3) {
+        0 => some_number(random),
+        // Near a whole number of ticks, and near the limit.
+        1 => {
+            let ticks = random.between(0, 1_002) as u32;
+            near(random, tick_length.saturating_mul(ticks))
+        }
+        _ => near(random, tick_length.saturating_mul(1_000)),
+    };
+    Call::Ticks {
+        milliseconds,
+        tick_length,
+        up: random.pick(&[0, 1, 1, 2, 255]),
+    }
+}
+
+/// A number of any magnitude, 0 and the largest included.
+fn some_number(random: &mut Random) -> u32 {
+    match random.below(20) {
+        0 => 0,
+        1 => u32::MAX,
+        2 => 100,
+        _ => (random.next() as u32) >> random.below(32),
+    }
+}
+
+fn near(random: &mut Random, number: u32) -> u32 {
+    match random.below(3) {
+        0 => number.saturating_sub(1),
+        1 => number,
+        _ => number.saturating_add(1),
+    }
+}
+
+#[cfg(test)]
+mod tests {
+    use super::*;
+    use crate::call::FUNCTIONS;
+    use crate::engine::{refusal_in, Model};
+    use crate::refusal::LAST_REFUSAL;
+
+    #[test]
+    fn a_group_is_always_the_same() {
+        for number in 0..50 {
+            assert_eq!(group(5, number), group(5, number));
+        }
+        assert_ne!(group(5, 0), group(6, 0));
+    }
+
+    /// Every refusal each function can give does occur, and so does success.
+    #[test]
+    fn every_function_meets_every_refusal_it_has() {
+        let mut seen = [[0; LAST_REFUSAL + 1]; FUNCTIONS.len()];
+        for number in 0..6_000 {
+            for call in group(9, number) {
+                let refusal = refusal_in(call.make(&mut Model).answer);
+                seen[call.kind()][usize::from(refusal)] += 1;
+            }
+        }
+        let file = [1, 2, 3, 4, 5, 6, 7, 8, 9];
+        let own: [&[usize]; FUNCTIONS.len()] = [
+            &[10, 11],
+            &[10, 15, 16, 17],
+            &[10, 15, 16, 17],
+            &[10, 14, 15, 16, 17],
+            &[12, 13, 14],
+            &[18, 19],
+        ];
+        for (kind, own) in own.iter().enumerate() {
+            let files: &[usize] = if kind == 5 { &[] } else { &file };
+            for (number, &count) in seen[kind].iter().enumerate() {
+                let possible = number == 0 || files.contains(&number) || own.contains(&number);
+                assert_eq!(count > 0, possible, "{} {number}: {count}", FUNCTIONS[kind]);
+            }
+        }
+    }
+}

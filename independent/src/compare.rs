@@ -1,0 +1,340 @@
+//! Sets an engine against the model, call by call and law by law.
+
+use crate::call::{Call, FUNCTIONS};
+use crate::cases;
+use crate::engine::{found_in, refusal_in, Engine, Model};
+use crate::laws::{self, LawTally};
+use crate::refusal::LAST_REFUSAL;
+use std::fmt;
+
+/// One case of the laws is tried for so many groups of calls.
+const GROUPS_FOR_A_LAW_CASE: u64 = 4;
+
+/// What has been compared so far.
+#[derive(Default)]
+pub struct Tally {
+    pub groups: u64,
+    pub calls: u64,
+    /// For each function and each refusal, 0 for none.
+    pub answers: [[u64; LAST_REFUSAL + 1]; FUNCTIONS.len()],
+    /// Events that successful runs released otherwise than they were given.
+    pub edited: u64,
+    pub forwarded: u64,
+    /// Tables with verdict 0 and 1.
+    pub verdicts: [u64; 2],
+    pub laws: LawTally,
+}
+
+impl Tally {
+    fn count(&mut self, call: &Call, answer: u64, bytes: &[u8]) {
+        let refusal = usize::from(refusal_in(answer));
+        self.calls += 1;
+        self.answers[call.kind()][refusal] += 1;
+        match call {
+            Call::Run { events, .. } => {
+                let released = events.iter().zip(bytes).take(found_in(answer));
+                let (same, other): (Vec<_>, Vec<_>) = released.partition(|(a, b)| a == b);
+                self.forwarded += same.len() as u64;
+                self.edited += other.len() as u64;
+            }
+            Call::Prepare { .. } if refusal == 0 => {
+                self.verdicts[usize::from((answer >> 8) as u8 & 1)] += 1;
+            }
+            _ => {}
+        }
+    }
+}
+
+impl fmt::Display for Tally {
+    fn fmt(&self, out: &mut fmt::Formatter) -> fmt::Result {
+        writeln!(out, "groups {} calls {}", self.groups, self.calls)?;
+        writeln!(out, "answers as refusal:count, 0 for none")?;
+        for (name, counts) in FUNCTIONS.iter().zip(&self.answers) {
+            let seen = counts.iter().enumerate().filter(|(_, &count)| count > 0);
+            let words: Vec<String> = seen
+                .map(|(number, count)| format!("{number}:{count}"))
+                .collect();
+            writeln!(out, "  {name} {}", words.join(" "))?;
+        }
+        writeln!(
+            out,
+            "verdict 0: {}, verdict 1: {}",
+            self.verdicts[0], self.verdicts[1]
+        )?;
+        writeln!(
+            out,
+            "events forwarded {}, edited {}",
+            self.forwarded, self.edited
+        )?;
+        writeln!(out, "laws as tried (of these hopeless)")?;
+        for (law, tried, hopeless) in &self.laws.laws {
+            writeln!(out, "  {law} {tried} ({hopeless})")?;
+        }
+        Ok(())
+    }
+}
+
+/// Compares group after group while `goes_on` says so of the number of the
+/// next, or until something differs; the error is the first difference in
+/// words. With `trace`, each call is named before it is made, for a library
+/// that does not return.
+pub fn compare(
+    engine: &mut dyn Engine,
+    seed: u64,
+    goes_on: impl Fn(u64) -> bool,
+    trace: bool,
+    tally: &mut Tally,
+) -> Result<(), String> {
+    while goes_on(tally.groups) {
+        let number = tally.groups;
+        for (place, call) in cases::group(seed, number).iter().enumerate() {
+            if trace {
+                eprintln!("group {number} call {place}");
+            }
+            compare_call(engine, call, tally).map_err(|difference| {
+                format!("seed {seed} group {number} call {place}\n{difference}")
+            })?;
+        }
+        if number.is_multiple_of(GROUPS_FOR_A_LAW_CASE) {
+            if trace {
+                eprintln!("laws {number}");
+            }
+            compare_laws(engine, seed, number, &mut tally.laws)
+                .map_err(|difference| format!("seed {seed} laws {number}\n{difference}"))?;
+        }
+        tally.groups += 1;
+    }
+    Ok(())
+}
+
+fn compare_call(engine: &mut dyn Engine, call: &Call, tally: &mut Tally) -> Result<(), String> {
+    let expected = call.make(&mut Model);
+    let found = call.make(engine);
+    if expected != found {
+        return Err(format!("{call}model:\n{expected}library:\n{found}"));
+    }
+    tally.count(call, expected.answer, &expected.bytes);
+    Ok(())
+}
+
+fn compare_laws(
+    engine: &mut dyn Engine,
+    seed: u64,
+    number: u64,
+    tally: &mut LawTally,
+) -> Result<(), String> {
+    let case = laws::case(seed, number);
+    let described = |breach: String| format!("{breach}\n{}", case.describe());
+    let found = laws::examine(engine, &case, tally).map_err(described)?;
+    let expected = laws::examine(&mut Model, &case, &mut LawTally::default()).map_err(described)?;
+    if found != expected {
+        return Err(described(format!(
+            "model: {expected:?}\nlibrary: {found:?}"
+        )));
+    }
+    Ok(())
+}
+
+#[cfg(test)]
+mod tests {
+    use super::*;
+    use crate::moment::STATE_LENGTH;
+    use crate::parse;
+
+    /// Calls the model, and spoils one thing before or after. A comparison
+    /// that does not notice is worth nothing.
+    struct Spoilt {
+        fault: Fault,
+    }
+
+    #[derive(Clone, Copy, Debug, PartialEq, Eq)]
+    enum Fault {
+        None,
+        RefuseAlways,
+        ForwardEverything,
+        LastRuleWins,
+        InventLiveCount,
+        MarkPastTheStates,
+        WriteMarksOnlyOnSuccess,
+        AnyMarkIsLive,
+        ReleasePastTheEvents,
+        StateMovesOnRefusal,
+        EventsCheckedBeforeState,
+        JoinOutWrittenOnRefusal,
+        JoinKeepsOrderOfB,
+        RoundUpOneTooMany,
+        WideLocationCut,
+        Stray,
+    }
+
+    const FAULTS: [Fault; 15] = [
+        Fault::RefuseAlways,
+        Fault::ForwardEverything,
+        Fault::LastRuleWins,
+        Fault::InventLiveCount,
+        Fault::MarkPastTheStates,
+        Fault::WriteMarksOnlyOnSuccess,
+        Fault::AnyMarkIsLive,
+        Fault::ReleasePastTheEvents,
+        Fault::StateMovesOnRefusal,
+        Fault::EventsCheckedBeforeState,
+        Fault::JoinOutWrittenOnRefusal,
+        Fault::JoinKeepsOrderOfB,
+        Fault::RoundUpOneTooMany,
+        Fault::WideLocationCut,
+        Fault::Stray,
+    ];
+
+    impl Spoilt {
+        fn has(&self, fault: Fault) -> bool {
+            self.fault == fault
+        }
+
+        /// The same policy with the rules of each location turned round.
+        fn file(&self, file: &[u8]) -> Vec<u8> {
+            match parse::check(file) {
+                Ok(mut policy) if self.has(Fault::LastRuleWins) => {
+                    policy.rules.reverse();
+                    policy.rules.sort_by_key(|rule| rule.source);
+                    policy.encode()
+                }
+                _ => file.to_vec(),
+            }
+        }
+
+        fn marks(&self, marks: &[u8]) -> Vec<u8> {
+            match self.has(Fault::AnyMarkIsLive) {
+                true => marks.iter().map(|&mark| mark.min(1)).collect(),
+                false => marks.to_vec(),
+            }
+        }
+
+        fn state(&self, state: &[u16]) -> Vec<u16> {
+            let mut state = state.to_vec();
+            if self.has(Fault::WideLocationCut) && !state.is_empty() {
+                state[0] &= 255;
+            }
+            state
+        }
+    }
+
+    impl Engine for Spoilt {
+        fn prepare(&mut self, file: &[u8], marks: &mut [u8]) -> u64 {
+            if self.has(Fault::RefuseAlways) {
+                return 11;
+            }
+            let before = marks.to_vec();
+            let answer = Model.prepare(&self.file(file), marks);
+            let states = (answer >> 16 & 0xFF_FFFF) as usize;
+            if self.has(Fault::MarkPastTheStates) && answer as u8 == 0 && states < marks.len() {
+                marks[states] = 0;
+            }
+            if self.has(Fault::WriteMarksOnlyOnSuccess) && answer as u8 == 11 {
+                marks.copy_from_slice(&before);
+            }
+            match self.has(Fault::InventLiveCount) && answer as u8 == 0 {
+                true => answer & 0xFF_FFFF_FFFF | 1 << 40,
+                false => answer,
+            }
+        }
+
+        fn input(&mut self, file: &[u8], marks: &[u8], state: &[u16], x: u8) -> u64 {
+            let (marks, state) = (self.marks(marks), self.state(state));
+            Model.input(&self.file(file), &marks, &state, x)
+        }
+
+        fn output(&mut self, file: &[u8], marks: &[u8], state: &mut [u16], x: u8, y: u8) -> u64 {
+            let answer = Model.output(&self.file(file), &self.marks(marks), state, x, y);
+            if self.has(Fault::StateMovesOnRefusal) && answer == 17 {
+                state[0] = 0;
+                state[STATE_LENGTH - 1] = 0;
+                state[1] = state[1].wrapping_add(1);
+            }
+            answer
+        }
+
+        fn run(
+            &mut self,
+            file: &[u8],
+            marks: &[u8],
+            state: &mut [u16],
+            events: &[u8],
+            released: &mut [u8],
+        ) -> u64 {
+            if self.has(Fault::EventsCheckedBeforeState) {
+                let wrong = parse::check(file).is_ok_and(|policy| {
+                    events.iter().any(|event| event & !policy.event_mask() != 0)
+                });
+                if wrong {
+                    return 15;
+                }
+            }
+            let answer = Model.run(
+                &self.file(file),
+                &self.marks(marks),
+                state,
+                events,
+                released,
+            );
+            if self.has(Fault::ForwardEverything) && answer as u8 == 0 {
+                released[..events.len()].copy_from_slice(events);
+            }
+            if self.has(Fault::ReleasePastTheEvents) && released.len() > events.len() {
+                released[events.len()] = 0;
+            }
+            answer
+        }
+
+        fn join(&mut self, a: &[u8], b: &[u8], out: &mut [u8]) -> u64 {
+            if self.has(Fault::JoinKeepsOrderOfB) {
+                return Model.join(b, a, out);
+            }
+            let answer = Model.join(a, b, out);
+            if self.has(Fault::JoinOutWrittenOnRefusal) && answer as u8 == 14 && !out.is_empty() {
+                out[0] = a[0];
+            }
+            answer
+        }
+
+        fn ticks(&mut self, milliseconds: u32, tick_length: u32, up: u8) -> u64 {
+            match self.has(Fault::RoundUpOneTooMany) && up != 0 && tick_length != 0 {
+                true => u64::from(milliseconds / tick_length + 1) << 8,
+                false => Model.ticks(milliseconds, tick_length, up),
+            }
+        }
+
+        fn strayed(&mut self) -> bool {
+            self.has(Fault::Stray)
+        }
+    }
+
+    fn outcome(fault: Fault) -> Result<(), String> {
+        let mut tally = Tally::default();
+        compare(
+            &mut Spoilt { fault },
+            4,
+            |group| group < 800,
+            false,
+            &mut tally,
+        )
+    }
+
+    #[test]
+    fn the_model_agrees_with_itself() {
+        assert_eq!(outcome(Fault::None), Ok(()));
+    }
+
+    #[test]
+    fn every_fault_is_noticed() {
+        for fault in FAULTS {
+            assert!(outcome(fault).is_err(), "{fault:?} went by");
+        }
+    }
+
+    #[test]
+    fn a_difference_names_the_case() {
+        let text = outcome(Fault::RefuseAlways).expect_err("noticed");
+        assert!(text.starts_with("seed 4 group "), "{text}");
+        assert!(text.contains("file "), "{text}");
+    }
+}

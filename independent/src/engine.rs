@@ -1,0 +1,107 @@
+//! The six functions under comparison, with their answers packed into one
+//! number, and the model as one maker of such answers.
+
+use crate::enforce;
+use crate::join;
+use crate::refusal::Refusal;
+use crate::ticks::{self, Rounding};
+
+/// Anything that answers as the library's C functions do: the refusal in the
+/// lowest byte, 0 for none, and above it what the function found.
+pub trait Engine {
+    /// refusal | verdict << 8 | states << 16 | live << 40
+    fn prepare(&mut self, file: &[u8], marks: &mut [u8]) -> u64;
+
+    /// refusal | x' << 8
+    fn input(&mut self, file: &[u8], marks: &[u8], state: &[u16], x: u8) -> u64;
+
+    /// refusal | y' << 8
+    fn output(&mut self, file: &[u8], marks: &[u8], state: &mut [u16], x: u8, y: u8) -> u64;
+
+    /// refusal | events released << 8
+    fn run(
+        &mut self,
+        file: &[u8],
+        marks: &[u8],
+        state: &mut [u16],
+        events: &[u8],
+        released: &mut [u8],
+    ) -> u64;
+
+    /// refusal | length << 8
+    fn join(&mut self, a: &[u8], b: &[u8], out: &mut [u8]) -> u64;
+
+    /// refusal | ticks << 8
+    fn ticks(&mut self, milliseconds: u32, tick_length: u32, up: u8) -> u64;
+
+    /// Whether, since this was last asked, a byte was changed that was not
+    /// lent for writing.
+    fn strayed(&mut self) -> bool {
+        false
+    }
+}
+
+/// The refusal in an answer; 0 for none.
+pub fn refusal_in(answer: u64) -> u8 {
+    answer as u8
+}
+
+/// What stands above the refusal in an answer of all functions but prepare.
+pub fn found_in(answer: u64) -> usize {
+    (answer >> 8) as usize
+}
+
+/// The reading of the paper in this program.
+pub struct Model;
+
+impl Engine for Model {
+    fn prepare(&mut self, file: &[u8], marks: &mut [u8]) -> u64 {
+        match enforce::prepare(file, marks) {
+            Ok(prepared) => {
+                let counts = (prepared.states as u64) << 16 | (prepared.live as u64) << 40;
+                u64::from(prepared.verdict) << 8 | counts
+            }
+            Err(refusal) => u64::from(refusal.number()),
+        }
+    }
+
+    fn input(&mut self, file: &[u8], marks: &[u8], state: &[u16], x: u8) -> u64 {
+        packed(enforce::input_half(file, marks, state, x))
+    }
+
+    fn output(&mut self, file: &[u8], marks: &[u8], state: &mut [u16], x: u8, y: u8) -> u64 {
+        packed(enforce::output_half(file, marks, state, x, y))
+    }
+
+    fn run(
+        &mut self,
+        file: &[u8],
+        marks: &[u8],
+        state: &mut [u16],
+        events: &[u8],
+        released: &mut [u8],
+    ) -> u64 {
+        let end = enforce::run(file, marks, state, events, released);
+        let refusal = end.refusal.map_or(0, Refusal::number);
+        u64::from(refusal) | (end.released as u64) << 8
+    }
+
+    fn join(&mut self, a: &[u8], b: &[u8], out: &mut [u8]) -> u64 {
+        packed(join::join(a, b, out).map(|length| length as u64))
+    }
+
+    fn ticks(&mut self, milliseconds: u32, tick_length: u32, up: u8) -> u64 {
+        let rounding = match up {
+            0 => Rounding::Down,
+            _ => Rounding::Up,
+        };
+        packed(ticks::ticks(milliseconds, tick_length, rounding))
+    }
+}
+
+fn packed<T: Into<u64>>(result: Result<T, Refusal>) -> u64 {
+    match result {
+        Ok(found) => found.into() << 8,
+        Err(refusal) => u64::from(refusal.number()),
+    }
+}

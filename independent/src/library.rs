@@ -1,0 +1,234 @@
+//! The enforcement library through its C functions. Everything is lent with
+//! a guard before and after it, and afterwards all is looked at that the
+//! function had no business to change.
+
+use crate::engine::Engine;
+
+extern "C" {
+    fn groovepawn_prepare(
+        file: *const u8,
+        file_len: usize,
+        marks: *mut u8,
+        marks_len: usize,
+    ) -> u64;
+
+    fn groovepawn_input(
+        file: *const u8,
+        file_len: usize,
+        marks: *const u8,
+        marks_len: usize,
+        state: *const u16,
+        state_len: usize,
+        x: u8,
+    ) -> u32;
+
+    fn groovepawn_output(
+        file: *const u8,
+        file_len: usize,
+        marks: *const u8,
+        marks_len: usize,
+        state: *mut u16,
+        state_len: usize,
+        x: u8,
+        y: u8,
+    ) -> u32;
+
+    fn groovepawn_run(
+        file: *const u8,
+        file_len: usize,
+        marks: *const u8,
+        marks_len: usize,
+        state: *mut u16,
+        state_len: usize,
+        events: *const u8,
+        events_len: usize,
+        released: *mut u8,
+        released_len: usize,
+    ) -> u64;
+
+    fn groovepawn_join(
+        a: *const u8,
+        a_len: usize,
+        b: *const u8,
+        b_len: usize,
+        out: *mut u8,
+        out_len: usize,
+    ) -> u64;
+
+    fn groovepawn_ticks(milliseconds: u32, tick_length: u32, up: u8) -> u32;
+}
+
+const GUARD: usize = 16;
+
+/// A copy of a slice between two guards.
+struct Lent<T> {
+    cells: Vec<T>,
+    length: usize,
+    guard: T,
+}
+
+impl<T: Copy + PartialEq> Lent<T> {
+    fn new(slice: &[T], guard: T) -> Lent<T> {
+        let mut cells = vec![guard; GUARD];
+        cells.extend(slice);
+        cells.extend(vec![guard; GUARD]);
+        Lent {
+            cells,
+            length: slice.len(),
+            guard,
+        }
+    }
+
+    fn pointer(&mut self) -> *mut T {
+        self.cells[GUARD..].as_mut_ptr()
+    }
+
+    fn contents(&self) -> &[T] {
+        &self.cells[GUARD..GUARD + self.length]
+    }
+
+    fn guards_hold(&self) -> bool {
+        let after = &self.cells[GUARD + self.length..];
+        let mut guards = self.cells[..GUARD].iter().chain(after);
+        guards.all(|&cell| cell == self.guard)
+    }
+
+    /// For what was lent for reading.
+    fn is_still(&self, slice: &[T]) -> bool {
+        self.guards_hold() && self.contents() == slice
+    }
+
+    /// For what was lent for writing: hands the contents back.
+    fn give_back(&self, slice: &mut [T]) -> bool {
+        slice.copy_from_slice(self.contents());
+        self.guards_hold()
+    }
+}
+
+fn bytes(slice: &[u8]) -> Lent<u8> {
+    Lent::new(slice, 0xA5)
+}
+
+fn numbers(slice: &[u16]) -> Lent<u16> {
+    Lent::new(slice, 0xA5A5)
+}
+
+#[derive(Default)]
+pub struct Library {
+    strayed: bool,
+}
+
+impl Library {
+    fn expect(&mut self, in_order: bool) {
+        self.strayed |= !in_order;
+    }
+}
+
+// Safety of every call below: each pointer is to the beginning of as many
+// cells as the length beside it says, and all of them outlive the call.
+impl Engine for Library {
+    fn prepare(&mut self, file: &[u8], marks: &mut [u8]) -> u64 {
+        let (mut f, mut m) = (bytes(file), bytes(marks));
+        let answer = unsafe { groovepawn_prepare(f.pointer(), f.length, m.pointer(), m.length) };
+        self.expect(f.is_still(file));
+        self.expect(m.give_back(marks));
+        answer
+    }
+
+    fn input(&mut self, file: &[u8], marks: &[u8], state: &[u16], x: u8) -> u64 {
+        let (mut f, mut m, mut s) = (bytes(file), bytes(marks), numbers(state));
+        let answer = unsafe {
+            groovepawn_input(
+                f.pointer(),
+                f.length,
+                m.pointer(),
+                m.length,
+                s.pointer(),
+                s.length,
+                x,
+            )
+        };
+        self.expect(f.is_still(file));
+        self.expect(m.is_still(marks));
+        self.expect(s.is_still(state));
+        u64::from(answer)
+    }
+
+    fn output(&mut self, file: &[u8], marks: &[u8], state: &mut [u16], x: u8, y: u8) -> u64 {
+        let (mut f, mut m, mut s) = (bytes(file), bytes(marks), numbers(state));
+        let answer = unsafe {
+            groovepawn_output(
+                f.pointer(),
+                f.length,
+                m.pointer(),
+                m.length,
+                s.pointer(),
+                s.length,
+                x,
+                y,
+            )
+        };
+        self.expect(f.is_still(file));
+        self.expect(m.is_still(marks));
+        self.expect(s.give_back(state));
+        u64::from(answer)
+    }
+
+    fn run(
+        &mut self,
+        file: &[u8],
+        marks: &[u8],
+        state: &mut [u16],
+        events: &[u8],
+        released: &mut [u8],
+    ) -> u64 {
+        let (mut f, mut m, mut s) = (bytes(file), bytes(marks), numbers(state));
+        let (mut e, mut r) = (bytes(events), bytes(released));
+        let answer = unsafe {
+            groovepawn_run(
+                f.pointer(),
+                f.length,
+                m.pointer(),
+                m.length,
+                s.pointer(),
+                s.length,
+                e.pointer(),
+                e.length,
+                r.pointer(),
+                r.length,
+            )
+        };
+        self.expect(f.is_still(file));
+        self.expect(m.is_still(marks));
+        self.expect(e.is_still(events));
+        self.expect(s.give_back(state));
+        self.expect(r.give_back(released));
+        answer
+    }
+
+    fn join(&mut self, a: &[u8], b: &[u8], out: &mut [u8]) -> u64 {
+        let (mut first, mut second, mut o) = (bytes(a), bytes(b), bytes(out));
+        let answer = unsafe {
+            groovepawn_join(
+                first.pointer(),
+                first.length,
+                second.pointer(),
+                second.length,
+                o.pointer(),
+                o.length,
+            )
+        };
+        self.expect(first.is_still(a));
+        self.expect(second.is_still(b));
+        self.expect(o.give_back(out));
+        answer
+    }
+
+    fn ticks(&mut self, milliseconds: u32, tick_length: u32, up: u8) -> u64 {
+        u64::from(unsafe { groovepawn_ticks(milliseconds, tick_length, up) })
+    }
+
+    fn strayed(&mut self) -> bool {
+        std::mem::take(&mut self.strayed)
+    }
+}

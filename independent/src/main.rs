@@ -1,0 +1,158 @@
+//! An independent reading of the policy paper, to check the library against.
+
+mod call;
+mod cases;
+mod compare;
+mod damage;
+mod enforce;
+mod engine;
+mod events;
+mod graph;
+mod join;
+mod laws;
+#[cfg(feature = "library")]
+mod library;
+mod moment;
+mod parse;
+mod policies;
+mod policy;
+mod random;
+mod refusal;
+mod rules;
+mod samples;
+mod selfcheck;
+mod subject;
+mod ticks;
+mod vectors;
+mod written;
+
+use compare::Tally;
+use engine::{Engine, Model};
+use std::io::{self, Read, Write};
+use std::process::ExitCode;
+use std::time::{Duration, Instant};
+
+const USAGE: &str = "usage:
+  independent selfcheck
+  independent compare SECONDS SEED [trace]   (needs the feature `library`)
+  independent rehearse SECONDS SEED
+  independent show SEED GROUP
+  independent vectors COUNT SEED > FILE
+  independent replay < FILE";
+
+fn main() -> ExitCode {
+    let words: Vec<String> = std::env::args().skip(1).collect();
+    let words: Vec<&str> = words.iter().map(String::as_str).collect();
+    match perform(&words) {
+        Ok(()) => ExitCode::SUCCESS,
+        Err(complaint) => {
+            eprintln!("{complaint}");
+            ExitCode::FAILURE
+        }
+    }
+}
+
+fn perform(words: &[&str]) -> Result<(), String> {
+    match *words {
+        ["selfcheck"] => selfcheck_all(),
+        ["compare", seconds, seed] => compare_library(number(seconds)?, number(seed)?, false),
+        ["compare", seconds, seed, "trace"] => {
+            compare_library(number(seconds)?, number(seed)?, true)
+        }
+        ["rehearse", seconds, seed] => {
+            compare_engine(&mut Model, number(seconds)?, number(seed)?, false)
+        }
+        ["show", seed, group] => show(number(seed)?, number(group)?),
+        ["vectors", count, seed] => write_vectors(number(count)?, number(seed)?),
+        ["replay"] => replay_all(),
+        _ => Err(USAGE.to_string()),
+    }
+}
+
+fn number(word: &str) -> Result<u64, String> {
+    word.parse()
+        .map_err(|_| format!("not a number: {word}\n{USAGE}"))
+}
+
+fn selfcheck_all() -> Result<(), String> {
+    selfcheck_engine("model", &mut Model)?;
+    #[cfg(feature = "library")]
+    selfcheck_engine("library", &mut library::Library::default())?;
+    Ok(())
+}
+
+fn selfcheck_engine(name: &str, engine: &mut dyn Engine) -> Result<(), String> {
+    let (count, failures) = selfcheck::selfcheck(engine);
+    println!(
+        "{name}: {count} calls written by hand, {} otherwise",
+        failures.len()
+    );
+    match failures.is_empty() {
+        true => Ok(()),
+        false => Err(failures.join("\n")),
+    }
+}
+
+#[cfg(feature = "library")]
+fn compare_library(seconds: u64, seed: u64, trace: bool) -> Result<(), String> {
+    compare_engine(&mut library::Library::default(), seconds, seed, trace)
+}
+
+#[cfg(not(feature = "library"))]
+fn compare_library(_: u64, _: u64, _: bool) -> Result<(), String> {
+    Err("compare needs the library: build with `--features library`".to_string())
+}
+
+fn compare_engine(
+    engine: &mut dyn Engine,
+    seconds: u64,
+    seed: u64,
+    trace: bool,
+) -> Result<(), String> {
+    let began = Instant::now();
+    let goes_on = |_| began.elapsed() < Duration::from_secs(seconds);
+    let mut tally = Tally::default();
+    let result = compare::compare(engine, seed, goes_on, trace, &mut tally);
+    print!("{tally}");
+    let rate = tally.calls as f64 / began.elapsed().as_secs_f64();
+    println!("calls a second {rate:.0}");
+    match result {
+        Ok(()) => {
+            println!("no difference");
+            Ok(())
+        }
+        Err(difference) => Err(format!("difference: {difference}")),
+    }
+}
+
+fn show(seed: u64, group: u64) -> Result<(), String> {
+    for (place, call) in cases::group(seed, group).iter().enumerate() {
+        print!("call {place}\n{call}model:\n{}", call.make(&mut Model));
+    }
+    println!("laws\n{}", laws::case(seed, group).describe());
+    Ok(())
+}
+
+fn write_vectors(count: u64, seed: u64) -> Result<(), String> {
+    let file = vectors::vectors(count as usize, seed);
+    let written = io::stdout().write_all(&file);
+    written.map_err(|error| format!("standard output: {error}"))?;
+    eprintln!("{} bytes", file.len());
+    Ok(())
+}
+
+fn replay_all() -> Result<(), String> {
+    let mut file = Vec::new();
+    let read = io::stdin().read_to_end(&mut file);
+    read.map_err(|error| format!("standard input: {error}"))?;
+    println!(
+        "model: {} records hold",
+        vectors::replay(&file, &mut Model)?
+    );
+    #[cfg(feature = "library")]
+    println!(
+        "library: {} records hold",
+        vectors::replay(&file, &mut library::Library::default())?
+    );
+    Ok(())
+}

@@ -1,0 +1,420 @@
+//! Calls and their outcomes as a file that a program without a heap can read
+//! from beginning to end. The README describes the format.
+
+use crate::call::{Call, Outcome, FUNCTIONS};
+use crate::cases;
+use crate::engine::{refusal_in, Engine, Model};
+use crate::refusal::LAST_REFUSAL;
+use crate::written;
+
+pub const MAGIC: [u8; 4] = *b"GPV1";
+
+/// A random call whose record is longer than this is left out.
+const LONGEST_RECORD: usize = 1_200;
+/// No record is added once the file has this length.
+const LONGEST_FILE: usize = 295_000;
+/// The longest that a policy, unpacked, may be, and the slice for a join.
+const LONGEST_POLICY: usize = 8_192;
+/// The longest that any other string, unpacked, may be.
+const LONGEST_STRING: usize = 65_600;
+
+/// Those written by hand, then `count` random ones as far as they fit.
+pub fn vectors(count: usize, seed: u64) -> Vec<u8> {
+    let mut records: Vec<Vec<u8>> = written::all()
+        .iter()
+        .map(|written| record(&written.call, &written.expected))
+        .collect();
+    let mut length: usize = MAGIC.len() + 4 + records.iter().map(Vec::len).sum::<usize>();
+    for record in chosen(seed).take(count) {
+        length += record.len();
+        if length > LONGEST_FILE {
+            break;
+        }
+        records.push(record);
+    }
+    let mut file = MAGIC.to_vec();
+    put_number(&mut file, records.len());
+    file.extend(records.into_iter().flatten());
+    file
+}
+
+/// Random calls, short ones only, and no answer much more often than others.
+fn chosen(seed: u64) -> impl Iterator<Item = Vec<u8>> {
+    let mut taken = 0;
+    let mut answers = [[0; LAST_REFUSAL + 1]; FUNCTIONS.len()];
+    let calls = (0..).flat_map(move |number| cases::group(seed, number));
+    calls.filter_map(move |call| {
+        let outcome = call.make(&mut Model);
+        let refusal = usize::from(refusal_in(outcome.answer));
+        let seen = &mut answers[call.kind()][refusal];
+        // Answers that refuse nothing say most, and may be more of the whole.
+        let share = if refusal == 0 { 8 } else { 50 };
+        if *seen > 2 + taken / share {
+            return None;
+        }
+        let record = record(&call, &outcome);
+        let short = record.len() <= LONGEST_RECORD && strings_fit(&call);
+        if !short {
+            return None;
+        }
+        *seen += 1;
+        taken += 1;
+        Some(record)
+    })
+}
+
+/// Whether a reader with the buffers the README names can hold the call.
+fn strings_fit(call: &Call) -> bool {
+    let (policies, others): (Vec<&Vec<u8>>, Vec<&Vec<u8>>) = match call {
+        Call::Prepare { file, marks }
+        | Call::Input { file, marks, .. }
+        | Call::Output { file, marks, .. } => (vec![file], vec![marks]),
+        Call::Run {
+            file,
+            marks,
+            events,
+            released,
+            ..
+        } => (vec![file], vec![marks, events, released]),
+        Call::Join { a, b, out } => (vec![a, b, out], vec![]),
+        Call::Ticks { .. } => (vec![], vec![]),
+    };
+    let fit =
+        |strings: Vec<&Vec<u8>>, longest| strings.iter().all(|string| string.len() <= longest);
+    fit(policies, LONGEST_POLICY) && fit(others, LONGEST_STRING)
+}
+
+/// One record: the kind, the length of the body, the body.
+fn record(call: &Call, outcome: &Outcome) -> Vec<u8> {
+    let body = body(call, outcome);
+    let mut record = vec![call.kind() as u8 + 1];
+    put_number(&mut record, body.len());
+    record.extend(body);
+    record
+}
+
+fn body(call: &Call, outcome: &Outcome) -> Vec<u8> {
+    let mut body = Vec::new();
+    match call {
+        Call::Prepare { file, marks } => {
+            put_string(&mut body, file);
+            put_string(&mut body, marks);
+        }
+        Call::Input {
+            file,
+            marks,
+            state,
+            x,
+        } => {
+            put_string(&mut body, file);
+            put_string(&mut body, marks);
+            put_state(&mut body, state);
+            body.push(*x);
+        }
+        Call::Output {
+            file,
+            marks,
+            state,
+            x,
+            y,
+        } => {
+            put_string(&mut body, file);
+            put_string(&mut body, marks);
+            put_state(&mut body, state);
+            body.extend([*x, *y]);
+        }
+        Call::Run {
+            file,
+            marks,
+            state,
+            events,
+            released,
+        } => {
+            put_string(&mut body, file);
+            put_string(&mut body, marks);
+            put_state(&mut body, state);
+            put_string(&mut body, events);
+            put_string(&mut body, released);
+        }
+        Call::Join { a, b, out } => {
+            put_string(&mut body, a);
+            put_string(&mut body, b);
+            put_string(&mut body, out);
+        }
+        Call::Ticks {
+            milliseconds,
+            tick_length,
+            up,
+        } => {
+            put_number(&mut body, *milliseconds as usize);
+            put_number(&mut body, *tick_length as usize);
+            body.push(*up);
+        }
+    }
+    body.extend(outcome.answer.to_be_bytes());
+    if writes_bytes(call.kind()) {
+        put_string(&mut body, &outcome.bytes);
+    }
+    if writes_state(call.kind()) {
+        put_state(&mut body, &outcome.state);
+    }
+    body
+}
+
+/// Prepare, run and join.
+fn writes_bytes(kind: usize) -> bool {
+    [0, 3, 4].contains(&kind)
+}
+
+/// Output and run.
+fn writes_state(kind: usize) -> bool {
+    [2, 3].contains(&kind)
+}
+
+fn put_number(out: &mut Vec<u8>, number: usize) {
+    out.extend((number as u32).to_be_bytes());
+}
+
+fn put_state(out: &mut Vec<u8>, state: &[u16]) {
+    out.push(state.len() as u8);
+    for number in state {
+        out.extend(number.to_be_bytes());
+    }
+}
+
+/// The most that one piece of a packed string stands for.
+const LONGEST_PIECE: usize = 128;
+
+/// The length, then pieces: a byte below 128 is followed by so many bytes and
+/// one more; any other, less 127, is how often the next byte is repeated.
+fn put_string(out: &mut Vec<u8>, string: &[u8]) {
+    put_number(out, string.len());
+    let mut plain = Vec::new();
+    for same in string.chunk_by(|a, b| a == b) {
+        if same.len() < 3 {
+            plain.extend(same);
+            continue;
+        }
+        put_plain(out, &mut plain);
+        for piece in same.chunks(LONGEST_PIECE) {
+            out.extend([127 + piece.len() as u8, piece[0]]);
+        }
+    }
+    put_plain(out, &mut plain);
+}
+
+fn put_plain(out: &mut Vec<u8>, plain: &mut Vec<u8>) {
+    for piece in plain.chunks(LONGEST_PIECE) {
+        out.push(piece.len() as u8 - 1);
+        out.extend(piece);
+    }
+    plain.clear();
+}
+
+/// Reads a file of vectors from the front.
+struct Reader<'a> {
+    rest: &'a [u8],
+}
+
+/// Why a file of vectors cannot be read.
+const BROKEN: &str = "the file of vectors is cut short or not one";
+
+impl<'a> Reader<'a> {
+    fn take(&mut self, length: usize) -> Result<&'a [u8], String> {
+        if length > self.rest.len() {
+            return Err(BROKEN.to_string());
+        }
+        let (taken, rest) = self.rest.split_at(length);
+        self.rest = rest;
+        Ok(taken)
+    }
+
+    fn byte(&mut self) -> Result<u8, String> {
+        Ok(self.take(1)?[0])
+    }
+
+    /// A number of `length` bytes, the high byte first.
+    fn number(&mut self, length: usize) -> Result<u64, String> {
+        let bytes = self.take(length)?;
+        Ok(bytes
+            .iter()
+            .fold(0, |number, &byte| number << 8 | u64::from(byte)))
+    }
+
+    fn string(&mut self) -> Result<Vec<u8>, String> {
+        let length = self.number(4)? as usize;
+        let mut string = Vec::new();
+        while string.len() < length {
+            let piece = usize::from(self.byte()?);
+            match piece {
+                0..=127 => string.extend(self.take(piece + 1)?),
+                _ => string.extend(vec![self.byte()?; piece - 127]),
+            }
+        }
+        match string.len() == length {
+            true => Ok(string),
+            false => Err(BROKEN.to_string()),
+        }
+    }
+
+    fn state(&mut self) -> Result<Vec<u16>, String> {
+        let length = self.byte()?;
+        (0..length).map(|_| Ok(self.number(2)? as u16)).collect()
+    }
+
+    fn call(&mut self, kind: u8) -> Result<Call, String> {
+        Ok(match kind {
+            1 => Call::Prepare {
+                file: self.string()?,
+                marks: self.string()?,
+            },
+            2 => Call::Input {
+                file: self.string()?,
+                marks: self.string()?,
+                state: self.state()?,
+                x: self.byte()?,
+            },
+            3 => Call::Output {
+                file: self.string()?,
+                marks: self.string()?,
+                state: self.state()?,
+                x: self.byte()?,
+                y: self.byte()?,
+            },
+            4 => Call::Run {
+                file: self.string()?,
+                marks: self.string()?,
+                state: self.state()?,
+                events: self.string()?,
+                released: self.string()?,
+            },
+            5 => Call::Join {
+                a: self.string()?,
+                b: self.string()?,
+                out: self.string()?,
+            },
+            6 => Call::Ticks {
+                milliseconds: self.number(4)? as u32,
+                tick_length: self.number(4)? as u32,
+                up: self.byte()?,
+            },
+            _ => return Err(BROKEN.to_string()),
+        })
+    }
+
+    fn outcome(&mut self, kind: usize) -> Result<Outcome, String> {
+        let answer = self.number(8)?;
+        let bytes = match writes_bytes(kind) {
+            true => self.string()?,
+            false => vec![],
+        };
+        let state = match writes_state(kind) {
+            true => self.state()?,
+            false => vec![],
+        };
+        Ok(Outcome {
+            answer,
+            bytes,
+            state,
+            strayed: false,
+        })
+    }
+
+    fn record(&mut self) -> Result<(Call, Outcome), String> {
+        let kind = self.byte()?;
+        let length = self.number(4)? as usize;
+        let mut body = Reader {
+            rest: self.take(length)?,
+        };
+        let call = body.call(kind)?;
+        let outcome = body.outcome(call.kind())?;
+        match body.rest.is_empty() {
+            true => Ok((call, outcome)),
+            false => Err(BROKEN.to_string()),
+        }
+    }
+}
+
+fn read(file: &[u8]) -> Result<Vec<(Call, Outcome)>, String> {
+    let mut reader = Reader { rest: file };
+    if reader.take(MAGIC.len())? != MAGIC {
+        return Err(BROKEN.to_string());
+    }
+    let count = reader.number(4)?;
+    let records: Result<Vec<_>, String> = (0..count).map(|_| reader.record()).collect();
+    match reader.rest.is_empty() {
+        true => records,
+        false => Err(BROKEN.to_string()),
+    }
+}
+
+/// Puts every stored call to an engine; the error is the first that comes
+/// out otherwise.
+pub fn replay(file: &[u8], engine: &mut dyn Engine) -> Result<usize, String> {
+    let records = read(file)?;
+    for (number, (call, expected)) in records.iter().enumerate() {
+        let found = call.make(engine);
+        if found != *expected {
+            return Err(format!(
+                "record {number}\n{call}stored:\n{expected}found:\n{found}"
+            ));
+        }
+    }
+    Ok(records.len())
+}
+
+#[cfg(test)]
+mod tests {
+    use super::*;
+    use crate::random::Random;
+
+    #[test]
+    fn strings_come_back() {
+        let mut random = Random::new(91);
+        for length in (0..400).chain([65_600]) {
+            for spread in [1, 2, 3, 200] {
+                let string: Vec<u8> = (0..length).map(|_| random.below(spread) as u8).collect();
+                let mut packed = Vec::new();
+                put_string(&mut packed, &string);
+                let mut reader = Reader { rest: &packed };
+                assert_eq!(reader.string(), Ok(string));
+                assert!(reader.rest.is_empty());
+            }
+        }
+    }
+
+    #[test]
+    fn pieces_are_as_the_readme_says() {
+        let mut packed = Vec::new();
+        put_string(&mut packed, &[7, 8, 8, 9, 9, 9, 9, 1]);
+        assert_eq!(packed, [0, 0, 0, 8, 2, 7, 8, 8, 131, 9, 0, 1]);
+    }
+
+    #[test]
+    fn stored_calls_are_read_and_hold() {
+        let file = vectors(500, 6);
+        assert!(file.len() < 300_000, "{}", file.len());
+        let written = written::all().len();
+        assert_eq!(replay(&file, &mut Model), Ok(written + 500));
+        let records = read(&file).expect("just written");
+        assert!(records.iter().all(|(call, _)| strings_fit(call)));
+    }
+
+    #[test]
+    fn a_changed_answer_is_noticed() {
+        let mut file = vectors(0, 1);
+        let last = file.len() - 1;
+        // The last record is a conversion, and the last byte its refusal.
+        file[last] ^= 1;
+        assert!(replay(&file, &mut Model).is_err());
+    }
+
+    #[test]
+    fn a_file_cut_short_is_not_read() {
+        let file = vectors(20, 1);
+        assert!(read(&file[..file.len() - 1]).is_err());
+        assert!(read(&file[..6]).is_err());
+        let more = [file, vec![0]].concat();
+        assert!(read(&more).is_err());
+    }
+}

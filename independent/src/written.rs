@@ -1,0 +1,87 @@
+//! Calls whose outcomes were worked out from the paper by hand. Nothing here
+//! asks the model.
+
+mod files;
+mod halves;
+mod joins;
+mod runs;
+mod times;
+
+use crate::call::{from_hex, Call, Outcome};
+use crate::moment::STATE_LENGTH;
+
+/// What every slice lent for writing holds before a call here.
+const FILLER: u8 = 0xEE;
+
+pub type State = [u16; STATE_LENGTH];
+pub const START: State = [0; STATE_LENGTH];
+
+pub struct Written {
+    pub name: String,
+    pub call: Call,
+    pub expected: Outcome,
+}
+
+pub fn all() -> Vec<Written> {
+    [
+        files::all(),
+        halves::all(),
+        runs::all(),
+        joins::all(),
+        times::all(),
+    ]
+    .into_iter()
+    .flatten()
+    .collect()
+}
+
+fn written(name: &str, call: Call, answer: u64, bytes: Vec<u8>, state: Vec<u16>) -> Written {
+    Written {
+        name: name.to_string(),
+        call,
+        expected: Outcome {
+            answer,
+            bytes,
+            state,
+            strayed: false,
+        },
+    }
+}
+
+/// `bytes` at the beginning of a slice of `length` that held the filler.
+fn filled(bytes: &[u8], length: usize) -> Vec<u8> {
+    let mut slice = bytes.to_vec();
+    slice.resize(length, FILLER);
+    slice
+}
+
+/// A file with a part repeated: `head`, then `times` times `part`.
+fn repeated(head: &str, part: &str, times: usize) -> String {
+    format!("{head} {}", vec![part; times].join(" "))
+}
+
+#[cfg(test)]
+mod tests {
+    use super::*;
+    use crate::call::FUNCTIONS;
+    use crate::engine::refusal_in;
+    use crate::refusal::LAST_REFUSAL;
+
+    #[test]
+    fn every_refusal_number_is_written() {
+        let mut seen = [[false; LAST_REFUSAL + 1]; FUNCTIONS.len()];
+        for written in all() {
+            let refusal = refusal_in(written.expected.answer);
+            seen[written.call.kind()][usize::from(refusal)] = true;
+        }
+        for number in 0..=LAST_REFUSAL {
+            assert!(seen.iter().any(|function| function[number]), "{number}");
+        }
+        // Those a half or a run can give beside the nine of a file.
+        for kind in [1, 2, 3] {
+            assert!([10, 15, 16, 17]
+                .iter()
+                .all(|&number: &usize| seen[kind][number]));
+        }
+    }
+}
