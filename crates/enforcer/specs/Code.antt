@@ -18,6 +18,10 @@ use Rattle.enforcer.specs.declared.matcher.Found.the-variants as Found
 abbrev pub eventXY : ℕ → ℕ → Event
 eventXY x y = record { x = x; y = y }
 
+-- The state's location and four clock values.
+abbrev pub asPlace : State → Place
+asPlace s = record { location = s .location; clocks = s .clocks }
+
 -- The place that the state is, in a policy with so many clocks; and the state that a place is.
 abbrev pub place : ℕ → State → Place
 place clocks s = record { location = s .location; clocks = take clocks (s .clocks) }

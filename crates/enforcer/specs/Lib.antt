@@ -3,3 +3,6 @@ pub mod Tick
 pub mod Entries
 pub mod Code
 pub mod Own
+pub mod Ready
+pub mod Laid
+pub mod Chosen

@@ -6,7 +6,7 @@ use mathlib.Core.Option.{Option, none, some}
 use Prim.Native.Nat.{ℕ, suc, _+_, _-_, _≤_, _<_}
 use native.Mathlib.Omega.{arith}
 use lib.Dec.{ltb, eqb}
-use lib.ListN.{length, take, drop}
+use lib.ListN.{length, take, drop, length-drop}
 use borrow.Author.Tests.{lt-ltb, le-ltb, ltb-true, ltb-false, eqb-false, eq-eqb, ne-eqb}
 use Rattle.streams.specs.Stream.{Event}
 use Rattle.policy.specs.Rules.{Rule, Place, fires, decides}
@@ -35,6 +35,20 @@ below-le a (r ∷ rs) = go (ltb (r .source) a) (below-le a rs)
     go : (t : Bool) → below a rs ≤ length rs → cond t (suc (below a rs)) 0 ≤ suc (length rs)
     go true h = omega arith
     go false h = omega arith
+
+level-le : (a : ℕ) (rs : List Rule) → level a rs ≤ length rs
+unfolding level
+level-le a [] = omega arith
+level-le a (r ∷ rs) = go (eqb (r .source) a) (level-le a rs)
+  where
+    go : (t : Bool) → level a rs ≤ length rs → cond t (suc (level a rs)) 0 ≤ suc (length rs)
+    go true h = omega arith
+    go false h = omega arith
+
+-- The rules before the location's own and those themselves are no more than there are.
+pub own-le : (a : ℕ) (rs : List Rule) → below a rs + level a (drop (below a rs) rs) ≤ length rs
+own-le a rs =
+    omega (arith, below-le a rs, level-le a (drop (below a rs) rs), length-drop (below a rs) rs)
 
 -- One rule more, as a loop over the bytes meets it: i rules of `count` are passed, and the next stands at `at`.
 module _ (clocks : ℕ) (f : List ℕ) (at i count a : ℕ) (more : i < count) where

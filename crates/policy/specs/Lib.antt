@@ -10,3 +10,4 @@ pub mod Stays
 pub mod Parts
 pub mod Bytes
 pub mod ReadBack
+pub mod Layout

@@ -1,0 +1,39 @@
+-- `enforcer::reach::own_of` meets its contract: the rule section reads as the rules.
+use mathlib.Core.Path.{ap, _∙_}
+use native.Mathlib.Omega.{arith}
+use borrow.Author.Needs.{needs}
+use Rattle.enforcer.specs.Code.{ownOf}
+use Rattle.enforcer.specs.Laid.{laid-limits, laid-rules}
+use Rattle.enforcer.proofs.reach.own_of.Statement.{statement}
+use Rattle.enforcer.proofs.reach.own_of.Tie as tie
+
+sub-own-rules : tie.Need-sub-own-rules
+sub-own-rules c = omega (arith, laid-limits (c .before .pre))
+
+part-own-rules-start : tie.Need-part-own-rules-start
+part-own-rules-start c = omega (arith, laid-limits (c .before .pre))
+
+part-own-rules-end : tie.Need-part-own-rules-end
+part-own-rules-end c = omega (arith, laid-limits (c .before .pre))
+
+cast-own-rules : tie.Need-cast-own-rules
+cast-own-rules c = search needs
+
+own-rules-requires : tie.Need-own-rules-requires
+own-rules-requires c κs = omega (arith, laid-limits (c .before .before .before .pre))
+
+returns : tie.Need-returns
+returns c =
+    let s = c .before .before .before .before in
+    c .own-rules .ensures ∙ ap (ownOf (s .args .layout .clocks) (s .args .state .location)) (laid-rules (s .pre))
+
+pub own-of-spec : {M : Type 1} → statement M
+own-of-spec =
+    tie.close
+    (tie.spec
+    sub-own-rules
+    part-own-rules-start
+    part-own-rules-end
+    cast-own-rules
+    own-rules-requires
+    returns)

@@ -1,0 +1,17 @@
+-- `enforcer::reach::values` meets its contract: the shift loses no bit.
+use mathlib.Core.Path.{_∙_}
+use native.Mathlib.Nat.{one-mul}
+use native.Mathlib.Omega.{arith}
+use lib.Pow.{shl-exact}
+use borrow.Author.Needs.{needs}
+use Rattle.enforcer.proofs.reach.values.Statement.{statement}
+use Rattle.enforcer.proofs.reach.values.Tie as tie
+
+shl-result : tie.Need-shl-result
+shl-result c = search needs
+
+returns : tie.Need-returns
+returns c = shl-exact 1 (c .args .signals) 64 (omega arith) (omega arith) ∙ one-mul _
+
+pub values-spec : {M : Type 1} → statement M
+values-spec = tie.close (tie.spec shl-result returns)

@@ -1,0 +1,51 @@
+-- `enforcer::tick::tick` meets its contract: the output half goes on from the chosen input.
+use mathlib.Core.Path.{sym, ap, _∙_}
+use mathlib.Core.Option.{bind}
+use borrow.Author.Needs.{needs}
+use Rattle.enforcer.specs.Tick.{tick}
+use Rattle.enforcer.specs.Chosen.{choiceSaid}
+use Rattle.enforcer.proofs.tick.tick.Statement.{statement}
+use Rattle.enforcer.proofs.tick.tick.Tie as tie
+
+own-of-requires : tie.Need-own-of-requires
+own-of-requires c κs = search needs
+
+choose-input-requires : tie.Need-choose-input-requires
+choose-input-requires c κs = search needs
+
+enum-told : tie.Need-enum-told
+enum-told c = search needs
+
+stuck-requires : tie.Need-stuck-requires
+stuck-requires c κs = search needs
+
+enum-known-z : tie.Need-enum-known-z
+enum-known-z c = search needs
+
+output-tick-requires : tie.Need-output-tick-requires
+output-tick-requires c κs = search needs
+
+returns : tie.Need-returns
+unfolding tick bind
+returns c =
+    let n = c .before .before .before in
+    rw (sym (n .choose-input .ensures) ∙ ap choiceSaid (c .before .enum-told .given .1)) (c .stuck .ensures)
+
+returns-2 : tie.Need-returns-2
+unfolding tick bind
+returns-2 c =
+    let k = c .before .before in
+    rw (sym (k .before .before .choose-input .ensures) ∙ ap choiceSaid (k .z .given .1)) (c .output-tick .ensures)
+
+pub tick-spec : {M : Type 1} → statement M
+tick-spec =
+    tie.close
+    (tie.spec
+    own-of-requires
+    choose-input-requires
+    enum-told
+    stuck-requires
+    enum-known-z
+    output-tick-requires
+    returns
+    returns-2)

@@ -1,0 +1,41 @@
+-- What the chooser's and the tick's own types stand for, and what a chosen output does.
+use mathlib.Core.Path.{_≡_, refl}
+use mathlib.Core.Bool.{Bool, true, false, false≢true}
+use mathlib.Core.List.{List}
+use mathlib.Core.Option.{Option, none, some, bind}
+use Prim.Native.Nat.{ℕ}
+use Rattle.streams.specs.Choose.{nearest-is}
+use Rattle.policy.specs.Rules.{Policy, Place, stopped, step}
+use Rattle.enforcer.specs.Tick as Spec
+use Rattle.enforcer.specs.Code.{stateFrom, eventXY}
+use Rattle.enforcer.specs.declared.state.State.{State}
+use Rattle.enforcer.specs.declared.choose.Half.{Half}
+use Rattle.enforcer.specs.declared.choose.Half.the-variants as Half
+use Rattle.enforcer.specs.declared.choose.Choice.{Choice}
+use Rattle.enforcer.specs.declared.choose.Choice.the-variants as Choice
+use Rattle.enforcer.specs.declared.tick.Ticked.{Ticked}
+
+-- An input may stand if some output goes with it, an output if with its input it reaches a marked state.
+unfoldable pub stands : Policy → List ℕ → Place → Half → ℕ → Bool
+stands p marks s Half.Input = Spec.mayStand p marks s
+stands p marks s (Half.Output x) = Spec.reaches p marks s x
+
+abbrev pub choiceSaid : Choice → Option ℕ
+choiceSaid (Choice.Value z) = some z
+choiceSaid Choice.Nothing = none
+
+abbrev pub tickFrom : State → Option Spec.Tick → Ticked
+tickFrom s none = record { released = false; x = 0; y = 0; state = s }
+tickFrom s (some t) = record { released = true; x = t .event .x; y = t .event .y; state = stateFrom (t .place) }
+
+-- The chosen output's event takes the state on, and that is the tick.
+pub output-chosen : (p : Policy) (marks : List ℕ) (s : Place) (x y : ℕ) {z : ℕ} → Spec.outputChoice p marks s x y ≡ some z →
+    (t : Place) × (step stopped p s (eventXY x z) ≡ some t) × (Spec.outputTick p marks s x y ≡ some (record { event = eventXY x z; place = t }))
+unfolding Spec.outputChoice Spec.reaches Spec.outputTick Spec.moved bind
+output-chosen p marks s x y {z} e = rw e (go (step stopped p s (eventXY x z)) (nearest-is _ _ _ e .may .1))
+  where
+    go : (d : Option Place) → Spec.arrives p marks d ≡ true →
+        (t : Place) × (d ≡ some t)
+        × (bind {B = Spec.Tick} d (λ t. some (record { event = eventXY x z; place = t })) ≡ some (record { event = eventXY x z; place = t }))
+    go none h = absurd (false≢true h)
+    go (some t) h = (t, refl, refl)

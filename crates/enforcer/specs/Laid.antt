@@ -1,0 +1,174 @@
+-- What the layout of a checked file makes sure of: its counts are the policy's, a location's own rules lie within the file, and a step by them alone is the
+-- policy's.
+use mathlib.Core.Path.{_≡_, refl, sym, ap, _∙_, subst}
+use mathlib.Core.Bool.{Bool, true, false, false≢true}
+use mathlib.Core.List.{List}
+use mathlib.Core.Option.{Option, none, some}
+use Prim.Native.Nat.{ℕ, zero, suc, _+_, _-_, _*_, _^_, _≤_, _<_}
+use native.Mathlib.Nat.{mul-le-mul-right, pow-le-pow-right}
+use native.Mathlib.Omega.{arith}
+use lib.ListN.{length, getD, take, drop}
+use lib.Seq.{take-at, getD-take}
+use Rattle.streams.specs.Stream.{Event}
+use Rattle.policy.specs.Rules.{Rule, Policy, Place, inputValues, outputValues, stopped, decides, taken, step}
+use Rattle.policy.specs.File.{part, ruleSize, rulesFrom, rulesOf, ceilingsOf, clocksAt, clockCount, ruleCount, rulesStart, ruleSection, policyOf}
+use Rattle.policy.specs.Check.{refusalOf}
+use Rattle.policy.specs.Number.{four, states, numberFrom, numberOf}
+use Rattle.policy.specs.Numbered.{number-take, number-ceilings, numberOf-below}
+use Rattle.policy.specs.Sound.{WellFormed, Inside}
+use Rattle.policy.specs.Checked.{Framed, frame, checked-file, inputs-length, outputs-length, pairs-length, rules-length, well-sound, well-rising}
+use Rattle.policy.specs.Stays.{Of, step-inside}
+use Rattle.policy.specs.Parts.{rules-part, rules-take, rules-drop}
+use Rattle.policy.specs.Layout.{layoutOf, checkedFrom, checkedOf}
+use Rattle.policy.specs.declared.Layout.{Layout}
+use Rattle.policy.specs.declared.Checked.{Checked}
+use Rattle.enforcer.specs.State.{isMarked}
+use Rattle.enforcer.specs.Tick.{arrives, reaches}
+use Rattle.enforcer.specs.Own.{below, level, own, own-le, decides-own}
+use Rattle.enforcer.specs.Code.{eventXY, place, stateFrom, bare, stepFrom, ownOf}
+use Rattle.enforcer.specs.Ready.{Laid}
+use Rattle.enforcer.specs.declared.own.Own.{Own}
+use Rattle.enforcer.specs.declared.state.State.{State}
+use Rattle.enforcer.specs.declared.next.Step.{Step}
+
+-- The number of a state, as the code works it out.
+abbrev pub stateNumber : Layout → State → ℕ
+stateNumber l s = numberFrom (l .ceilings) (l .clocks) (s .location) (s .clocks)
+
+-- The state has a number, and m says whether that is marked.
+pub record Numbered (f : List ℕ) (l : Layout) (marks : List ℕ) (s : State) (m : Bool) : Type 0 where
+  pub number : stateNumber l s < states (policyOf f)
+  pub mark : isMarked marks (stateNumber l s) ≡ m
+
+-- What the check answers without a refusal is the layout.
+pub laid-of : (f : List ℕ) (r : Checked) → r ≡ checkedOf f → r .refusal ≡ 0 → Laid f (r .layout)
+unfolding checkedOf policyOf
+laid-of f r e z = go (refusalOf f) refl e
+  where
+    go : (n : ℕ) → refusalOf f ≡ n → r ≡ checkedFrom n (layoutOf f) → Laid f (r .layout)
+    go zero p q =
+        subst (Laid f) (ap (λ (c : Checked). c .layout) (sym q))
+        (record {
+          passes = p;
+          inputs = refl;
+          outputs = refl;
+          clocks = refl;
+          locations = refl;
+          rules = refl;
+          start = refl;
+          end = refl;
+          ceilings = refl;
+          states = rw pairs-length;
+        })
+    go (suc n) p q = absurd (omega (arith, ap (λ (c : Checked). c .refusal) q))
+
+-- The location's own rules are among the file's.
+own-few : (f : List ℕ) (a : ℕ) → below a (rulesOf f) + level a (drop (below a (rulesOf f)) (rulesOf f)) ≤ ruleCount f
+own-few f a = omega (arith, own-le a (rulesOf f), rules-length (clockCount f) (ruleSection f) 0 (ruleCount f))
+
+-- Where the clocks and the decision are the same, the step is.
+step-bare : (on : ℕ → ℕ → ℕ) {cs : List ℕ} (rs : List Rule) (p : Policy) (s : Place) (e : Event) → cs ≡ p .ceilings →
+    decides rs s e ≡ decides (p .rules) s e → step on (bare cs rs) s e ≡ step on p s e
+unfolding step taken
+step-bare on rs p s e c d = rw (c, d)
+
+module _ {f : List ℕ} {l : Layout} (k : Laid f l) where
+  framed : Framed f
+  framed = frame f (k .passes)
+
+  -- The policy is as the check leaves it, and the numbers of the layout are within their limits.
+  pub laid-well : WellFormed (policyOf f)
+  laid-well = checked-file f (k .passes)
+
+  pub laid-limits : (l .inputs ≤ 4) × (l .outputs ≤ 4) × (l .clocks ≤ 4) × (l .rules ≤ 256) × (l .«rules_start» ≤ l .«rules_end») × (l .«rules_end» ≤ length f)
+  laid-limits = omega (arith, framed, k)
+
+  -- Of inputs and outputs there are as many values as the code counts, at most 16.
+  pub laid-inputs : (2 ^ l .inputs ≡ inputValues (policyOf f)) × (2 ^ l .inputs ≤ 16)
+  unfolding policyOf
+  laid-inputs = rw (k .inputs) (sym (ap (λ (n : ℕ). 2 ^ n) (inputs-length f framed)), pow-le-pow-right {n = 2} (omega arith) (framed .inputs))
+
+  pub laid-outputs : (2 ^ l .outputs ≡ outputValues (policyOf f)) × (2 ^ l .outputs ≤ 16)
+  unfolding policyOf
+  laid-outputs = rw (k .outputs) (sym (ap (λ (n : ℕ). 2 ^ n) (outputs-length f framed)), pow-le-pow-right {n = 2} (omega arith) (framed .outputs))
+
+  pub laid-clocks : l .clocks ≡ length (policyOf f .ceilings)
+  unfolding policyOf
+  laid-clocks = k .clocks ∙ sym (pairs-length f (clocksAt f + 1) (clockCount f))
+
+  pub laid-ceilings : take (l .clocks) (l .ceilings) ≡ policyOf f .ceilings
+  unfolding policyOf
+  laid-ceilings = rw (k .ceilings) (take-at (ceilingsOf f) _ (l .clocks) (sym laid-clocks))
+
+  -- The rule section, as the part of the file between its ends, reads as the rules.
+  pub laid-rules : rulesFrom (l .clocks) (part f (l .«rules_start») (l .«rules_end» - l .«rules_start»)) 0 (l .rules) ≡ rulesOf f
+  laid-rules =
+      let n : l .«rules_end» - l .«rules_start» ≡ ruleCount f * ruleSize (clockCount f) = omega (arith, framed, k) in
+      rw (n, k .start, k .clocks, k .rules)
+
+  module _ (a : ℕ) {o : Own} (e : o ≡ ownOf (l .clocks) a (rulesOf f)) where
+    -- The bytes of the location's own rules lie within the file.
+    pub own-fits : (l .«rules_start» + o .start + o .count * ruleSize (l .clocks) ≤ length f) × (o .count ≤ 256)
+    own-fits = rw (e, k .clocks, k .start) (omega (arith, own-few f a, mul-le-mul-right (ruleSize (clockCount f)) (own-few f a), framed))
+
+    -- And they read as the location's own rules.
+    own-rules : rulesFrom (l .clocks) (part f (l .«rules_start» + o .start) (o .count * ruleSize (l .clocks))) 0 (o .count) ≡ own a (rulesOf f)
+    unfolding own
+    own-rules =
+        let n = below a (rulesOf f) in
+        let c = level a (drop n (rulesOf f)) in
+        rules-part f (l .clocks) (l .«rules_start» + o .start) (o .count)
+        ∙ rw (e, k .clocks, k .start)
+        (sym (ap (λ (z : List Rule). take c (drop n z)) (rules-part f (clockCount f) (rulesStart f) (ruleCount f))
+        ∙ ap (take c) (rules-drop (clockCount f) f (rulesStart f) n (ruleCount f) (omega (arith, own-few f a)))
+        ∙ rules-take (clockCount f) f (rulesStart f + n * ruleSize (clockCount f)) c (ruleCount f - n) (omega (arith, own-few f a))))
+
+  -- A step by the location's own rules is the policy's.
+  pub own-step : {o : Own} (s : State) (e : Event) → o ≡ ownOf (l .clocks) (s .location) (rulesOf f) →
+      step stopped
+      (bare (take (l .clocks) (l .ceilings))
+      (rulesFrom (l .clocks) (part f (l .«rules_start» + o .start) (o .count * ruleSize (l .clocks))) 0 (o .count)))
+      (place (l .clocks) s) e
+      ≡ step stopped (policyOf f) (place (l .clocks) s) e
+  unfolding policyOf
+  own-step s e h =
+      step-bare stopped _ (policyOf f) (place (l .clocks) s) e laid-ceilings
+      (rw (own-rules (s .location) h) (decides-own (place (l .clocks) s) e (well-rising (policyOf f) laid-well)))
+
+  -- The state that a place is stands for that place, and has its number.
+  pub place-back : {t : Place} → Inside (policyOf f) t → place (l .clocks) (stateFrom t) ≡ t
+  place-back {t} h =
+      ap (λ (vs : List ℕ). record { location = t .location; clocks = vs }) (take-at (t .clocks) _ (l .clocks) (h .clocks ∙ sym laid-clocks))
+
+  pub next-number : {t : Place} → Inside (policyOf f) t → stateNumber l (stateFrom t) ≡ numberOf (policyOf f) t
+  next-number {t} h =
+      rw (← number-take (l .ceilings) (l .clocks) (t .location) (four (t .clocks)), ap (λ (s : Place). s .clocks) (place-back h), ← laid-clocks)
+      (number-ceilings (l .ceilings) (l .clocks) (t .location) (t .clocks) (policyOf f .ceilings)
+      (λ i g. sym (getD-take (l .clocks) (l .ceilings) i 0 g) ∙ ap (λ (cs : List ℕ). getD cs i 0) laid-ceilings))
+
+  -- A step leads to a place of the policy.
+  pub next-inside : (s : State) (e : Event) → Inside (policyOf f) (place (l .clocks) s) →
+      Of (Inside (policyOf f)) (step stopped (policyOf f) (place (l .clocks) s) e)
+  next-inside s e h = step-inside (policyOf f) (well-sound (policyOf f) laid-well) (place (l .clocks) s) h e
+
+  -- By the answer r of a step, whether the event reaches a marked place: not without a next state, and else by the mark of its number.
+  module _ (marks : List ℕ) (s : State) (x y : ℕ) {r : Step}
+      (e : r ≡ stepFrom s (step stopped (policyOf f) (place (l .clocks) s) (eventXY x y))) where
+    pub reaches-none : r .permitted ≡ false → reaches (policyOf f) marks (place (l .clocks) s) x y ≡ false
+    unfolding reaches
+    reaches-none p = go (step stopped (policyOf f) (place (l .clocks) s) (eventXY x y)) e
+      where
+        go : (d : Option Place) → r ≡ stepFrom s d → arrives (policyOf f) marks d ≡ false
+        go none q = refl
+        go (some t) q = absurd (false≢true (sym p ∙ ap (λ (z : Step). z .permitted) q))
+
+    pub reaches-next : Inside (policyOf f) (place (l .clocks) s) → r .permitted ≡ true →
+        Numbered f l marks (r .state) (reaches (policyOf f) marks (place (l .clocks) s) x y)
+    unfolding reaches
+    reaches-next h p = go (step stopped (policyOf f) (place (l .clocks) s) (eventXY x y)) e (next-inside s (eventXY x y) h)
+      where
+        go : (d : Option Place) → r ≡ stepFrom s d → Of (Inside (policyOf f)) d → Numbered f l marks (r .state) (arrives (policyOf f) marks d)
+        go none q i = absurd (false≢true (sym (ap (λ (z : Step). z .permitted) q) ∙ p))
+        go (some t) q i =
+            let n = ap (λ (z : Step). stateNumber l (z .state)) q ∙ next-number i in
+            record { number = rw n (numberOf-below (policyOf f) i); mark = ap (isMarked marks) n }

@@ -1,0 +1,43 @@
+-- What the check's code answers: the layout of a file, or its refusal.
+use mathlib.Core.List.{List, [], _∷_}
+use Prim.Native.Nat.{ℕ, zero, suc}
+use Rattle.policy.specs.File
+use Rattle.policy.specs.Number.{four, statesOf}
+use Rattle.policy.specs.Check.{refusalOf}
+use Rattle.policy.specs.declared.Layout.{Layout}
+use Rattle.policy.specs.declared.Checked.{Checked}
+
+abbrev pub layoutOf : List ℕ → Layout
+layoutOf f =
+    record {
+      inputs = File.inputCount f;
+      outputs = File.outputCount f;
+      clocks = File.clockCount f;
+      locations = File.locationCount f;
+      rules = File.ruleCount f;
+      «rules_start» = File.rulesStart f;
+      «rules_end» = File.rulesEnd f;
+      ceilings = four (File.ceilingsOf f);
+      states = statesOf (File.ceilingsOf f) (File.clockCount f) (File.locationCount f);
+    }
+
+abbrev pub noLayout : Layout
+noLayout =
+    record {
+      inputs = 0;
+      outputs = 0;
+      clocks = 0;
+      locations = 0;
+      rules = 0;
+      «rules_start» = 0;
+      «rules_end» = 0;
+      ceilings = 0 ∷ 0 ∷ 0 ∷ 0 ∷ [];
+      states = 0;
+    }
+
+abbrev pub checkedFrom : ℕ → Layout → Checked
+checkedFrom zero l = record { refusal = 0; layout = l }
+checkedFrom (suc n) l = record { refusal = suc n; layout = noLayout }
+
+unfoldable pub checkedOf : List ℕ → Checked
+checkedOf f = checkedFrom (refusalOf f) (layoutOf f)
