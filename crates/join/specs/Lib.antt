@@ -7,5 +7,6 @@ pub mod Free
 pub mod Laws
 pub mod Entry
 pub mod Again
+pub mod Written
 pub mod Turns
 pub mod Examples

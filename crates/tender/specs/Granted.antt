@@ -233,7 +233,7 @@ module _ (file marks : List ℕ) (passed : refusalOf file ≡ 0) (long : states 
       ⊎-elim (λ g. inr (g, rw (granted, goes-on-ready p ok (marksOf p) (λ n h. refl) l .0 g)))
       (λ d. inl (d, rw (granted, numberOf-start, hopeless-start p ok .0 d))) (goes-on-or-ends p ok (l .leads) (l .fits))
 
-not-refused : {A : Type 0} (n : ℕ) (a b : A) → answer n a ≡ gives b → n ≡ 0
+pub not-refused : {A : Type 0} (n : ℕ) (a b : A) → answer n a ≡ gives b → n ≡ 0
 not-refused zero a b e = refl
 not-refused (suc n) a b e = let z : _≡_ {A = ℕ} 0 1 = cc in absurd (omega arith)
 

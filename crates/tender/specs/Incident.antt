@@ -1,0 +1,139 @@
+-- The incident: on a long transfer a sixteen-bit clock wrapped, and a stale credit pulse passed as fresh. Sample K is that rule, "credit K only while
+-- the clock is at most 2", and after however many quiet ticks no stale pulse passes.
+use mathlib.Core.Path.{_≡_, refl, ap, ap₂, _∙_}
+use mathlib.Core.Bool.{true, false}
+use mathlib.Core.List.{List, [], _∷_, _++_, map}
+use mathlib.Core.Option.{bind}
+use Prim.Native.Nat.{ℕ, zero, suc, _+_, _≤_}
+use native.Mathlib.Omega.{arith}
+use lib.ListN.{length, drop, replicate, length-append, length-replicate, length-map}
+use lib.Count.{ones, onesIn}
+use Rattle.streams.specs.Stream.{Stream}
+use Rattle.streams.specs.Choose.{any, nearest, better}
+use Rattle.streams.specs.Corrections.{distance, nearer}
+use Rattle.policy.specs.Rules.{Place, start, step, decides, fires, hold, within, taken, advance}
+use Rattle.policy.specs.Number.{states, statesOf, numberFrom, locationFrom, clocksFrom}
+use Rattle.policy.specs.File.{policyOf, outputsAt, clocksAt, locationsAt, rulesAt, rulesStart, rulesEnd, pairsFrom, rulesFrom, ruleFrom, boundsFrom}
+use Rattle.policy.specs.Check.{refusalOf, inputsRefusal, outputsRefusal, clocksRefusal, locationsRefusal, rulesSectionRefusal, sectionRefusal, tagsGood, among, all, rulesRefusal, ruleRefusal, headGood, maskGood, boundsGood, boundGood}
+use Rattle.policy.specs.Checked.{checked-file, well-sound}
+use Rattle.policy.specs.Stays.{start-inside}
+use Rattle.enforcer.specs.State.{stateOf}
+use Rattle.enforcer.specs.Tick.{Ran, ran, tick, outputTick, moved, outputChoice, inputChoice, mayStand, reaches}
+use Rattle.enforcer.specs.Entries.{eventOf, byteOf, eventGood}
+use Rattle.prepare.specs.Table.{roundsBy, roundBy, goesOn, tab}
+use Rattle.prepare.specs.Entry.{preparedMarks}
+use Rattle.prepare.specs.Enforces.{Ready}
+use Rattle.tender.specs.Samples.{K}
+use Rattle.tender.specs.Granted.{marks-granted, prepared-granted, run-ready}
+use Rattle.tender.specs.Demand2.{fromStart}
+
+-- n quiet ticks, and then the event b.
+abbrev pub quietThen : ℕ → ℕ → List ℕ
+quietThen n b = replicate n 0x00 ++ (b ∷ [])
+
+K-passes : refusalOf K ≡ 0
+unfolding
+    refusalOf inputsRefusal outputsRefusal clocksRefusal locationsRefusal rulesSectionRefusal sectionRefusal tagsGood among all rulesRefusal ruleRefusal
+    headGood maskGood boundsGood boundGood outputsAt clocksAt locationsAt rulesAt rulesStart rulesEnd pairsFrom rulesFrom ruleFrom boundsFrom statesOf
+K-passes = refl
+
+-- K's one location, with the clock at v.
+abbrev pub clockAt : ℕ → Place
+clockAt v = record { location = 0; clocks = v ∷ [] }
+
+-- The clock's values are 0 to its ceiling 3, so there are four states, and all of them are live.
+abbrev live : List ℕ → List ℕ
+live rest = 1 ∷ 1 ∷ 1 ∷ 1 ∷ rest
+
+-- K's run from there. Whoever unfolds it unfolds all that a tick of K goes through.
+runAt : List ℕ → ℕ → Stream → Ran
+unfolding
+    policyOf outputsAt clocksAt locationsAt rulesAt rulesStart pairsFrom rulesFrom ruleFrom boundsFrom statesOf numberFrom locationFrom clocksFrom ran tick
+    outputTick moved outputChoice inputChoice mayStand reaches step decides fires hold within taken advance bind nearest better nearer distance any ones
+    onesIn roundsBy roundBy goesOn tab
+runAt rest v = ran (policyOf K) (live rest) (clockAt v)
+
+-- One quiet event more, before the others.
+abbrev quietly : Ran → Ran
+quietly r = record { released = eventOf 0x00 ∷ r .released; place = r .place; stuck = r .stuck }
+
+-- What is released of n quiet ticks and then a pulse: the quiet events, then the event b, and after it the clock is at v.
+abbrev released : ℕ → ℕ → ℕ → Ran
+released n b v = record { released = map eventOf (quietThen n b); place = clockAt v; stuck = false }
+
+module _ (rest : List ℕ) where
+  -- At its ceiling the clock stands still through every quiet tick, and the pulse does not pass.
+  at-ceiling : (n : ℕ) → runAt rest 3 (map eventOf (quietThen n 0x10)) ≡ released n 0x00 3
+  unfolding runAt
+  at-ceiling zero = refl
+  at-ceiling (suc n) = ap quietly (at-ceiling n)
+
+  -- Three ticks from the start it is there.
+  stale : (n : ℕ) → 3 ≤ n → runAt rest 0 (map eventOf (quietThen n 0x10)) ≡ released n 0x00 3
+  unfolding runAt
+  stale zero h = absurd (omega arith)
+  stale (suc zero) h = absurd (omega arith)
+  stale (suc (suc zero)) h = absurd (omega arith)
+  stale (suc (suc (suc n))) h = ap (λ r. quietly (quietly (quietly r))) (at-ceiling n)
+
+  fresh : (n : ℕ) → n ≤ 2 → runAt rest 0 (map eventOf (quietThen n 0x10)) ≡ released n 0x10 (n + 1)
+  unfolding runAt
+  fresh zero h = refl
+  fresh (suc zero) h = refl
+  fresh (suc (suc zero)) h = refl
+  fresh (suc (suc (suc n))) h = absurd (omega arith)
+
+pulse-good : (n : ℕ) → all (eventGood K) (quietThen n 0x10) ≡ true
+unfolding all runAt
+pulse-good zero = refl
+pulse-good (suc n) = pulse-good n
+
+bytes-back : (bytes : List ℕ) → map byteOf (map eventOf bytes) ≡ bytes
+bytes-back [] = refl
+bytes-back (b ∷ bs) = ap₂ {C = List ℕ} _∷_ (omega arith) (bytes-back bs)
+
+module _ (marks : List ℕ) (room : 4 ≤ length marks) where
+  long : states (policyOf K) ≤ length marks
+  unfolding runAt
+  long = room
+
+  marked : preparedMarks K marks ≡ live (drop 4 marks)
+  unfolding preparedMarks runAt
+  marked = rw (marks-granted K marks .1 (K-passes, long))
+
+  from-start :
+      (n b v : ℕ) → runAt (drop 4 marks) 0 (map eventOf (quietThen n 0x10)) ≡ released n b v →
+      (out : List ℕ) → n + 1 ≤ length out →
+      fromStart K marks (quietThen n 0x10) out
+      ≡ record { refusal = 0; count = n + 1; state = stateOf (clockAt v); out = quietThen n b ++ drop (n + 1) out }
+  unfolding runAt
+  from-start n b v e out l =
+      let p = policyOf K in
+      let M = preparedMarks K marks in
+      let ready : Ready p M (start p) = record { inside = start-inside p (well-sound p (checked-file K K-passes)); marked = rw marked } in
+      let many : (c : ℕ) → length (quietThen n c) ≡ n + 1 = λ c. simp (length-append, length-replicate) in
+      run-ready K M (prepared-granted K marks K-passes long) (start p) ready (quietThen n 0x10) out (rw many l) (pulse-good n)
+      ∙ rw (marked, e, bytes-back, length-map, many b)
+
+-- From the start and with the marks of prepare, for which K's four states need four bytes.
+module _ (n : ℕ) (marks out : List ℕ) (room : 4 ≤ length marks) (long : n + 1 ≤ length out) where
+  -- A pulse after more than 2 quiet ticks is stale: however many they were, 10 gives 00. The clock stands at its ceiling.
+  pub stale-credit :
+      3 ≤ n →
+      fromStart K marks (quietThen n 0x10) out
+      ≡ record { refusal = 0; count = n + 1; state = stateOf (clockAt 3); out = quietThen n 0x00 ++ drop (n + 1) out }
+  stale-credit h = from-start marks room n 0x00 3 (stale (drop 4 marks) n h) out long
+
+  -- A pulse after at most 2 is fresh, and passes.
+  pub fresh-credit :
+      n ≤ 2 →
+      fromStart K marks (quietThen n 0x10) out
+      ≡ record { refusal = 0; count = n + 1; state = stateOf (clockAt (n + 1)); out = quietThen n 0x10 ++ drop (n + 1) out }
+  fresh-credit h = from-start marks room n 0x10 (n + 1) (fresh (drop 4 marks) n h) out long
+
+-- "K after 65,537 quiet ticks: 10 gives 00."
+pub after-65537 :
+    (marks out : List ℕ) → 4 ≤ length marks → 65538 ≤ length out →
+    fromStart K marks (quietThen 65537 0x10) out
+    ≡ record { refusal = 0; count = 65538; state = stateOf (clockAt 3); out = quietThen 65537 0x00 ++ drop 65538 out }
+after-65537 marks out room long = stale-credit 65537 marks out room long (omega arith)
