@@ -13,8 +13,8 @@ use Rattle.streams.specs.Stream.{Event}
 use Rattle.policy.specs.Rules.{Rule, Policy, Place, inputValues, outputValues, stopped, decides, taken, step}
 use Rattle.policy.specs.File.{part, ruleSize, rulesFrom, rulesOf, ceilingsOf, clocksAt, clockCount, ruleCount, rulesStart, ruleSection, policyOf}
 use Rattle.policy.specs.Check.{refusalOf}
-use Rattle.policy.specs.Number.{four, states, numberFrom, numberOf}
-use Rattle.policy.specs.Numbered.{number-take, number-ceilings, numberOf-below}
+use Rattle.policy.specs.Number.{four, states, numberFrom, locationFrom, clocksFrom, numberOf, placeOf}
+use Rattle.policy.specs.Numbered.{number-take, number-ceilings, location-ceilings, clocks-ceilings, clocks-length, numberOf-below}
 use Rattle.policy.specs.Sound.{WellFormed, Inside}
 use Rattle.policy.specs.Checked.{Framed, frame, checked-file, inputs-length, outputs-length, pairs-length, rules-length, well-sound, well-rising}
 use Rattle.policy.specs.Stays.{Of, step-inside}
@@ -25,7 +25,7 @@ use Rattle.policy.specs.declared.Checked.{Checked}
 use Rattle.enforcer.specs.State.{isMarked}
 use Rattle.enforcer.specs.Tick.{arrives, reaches}
 use Rattle.enforcer.specs.Own.{below, level, own, own-le, decides-own}
-use Rattle.enforcer.specs.Code.{eventXY, place, stateFrom, bare, stepFrom, ownOf}
+use Rattle.enforcer.specs.Code.{eventXY, place, stateFrom, stateAt, bare, stepFrom, ownOf}
 use Rattle.enforcer.specs.Ready.{Laid}
 use Rattle.enforcer.specs.declared.own.Own.{Own}
 use Rattle.enforcer.specs.declared.state.State.{State}
@@ -100,6 +100,9 @@ module _ {f : List ℕ} {l : Layout} (k : Laid f l) where
   unfolding policyOf
   laid-ceilings = rw (k .ceilings) (take-at (ceilingsOf f) _ (l .clocks) (sym laid-clocks))
 
+  laid-ceiling : (i : ℕ) → i < l .clocks → getD (l .ceilings) i 0 ≡ getD (policyOf f .ceilings) i 0
+  laid-ceiling i g = sym (getD-take (l .clocks) (l .ceilings) i 0 g) ∙ ap (λ (cs : List ℕ). getD cs i 0) laid-ceilings
+
   -- The rule section, as the part of the file between its ends, reads as the rules.
   pub laid-rules : rulesFrom (l .clocks) (part f (l .«rules_start») (l .«rules_end» - l .«rules_start»)) 0 (l .rules) ≡ rulesOf f
   laid-rules =
@@ -143,8 +146,17 @@ module _ {f : List ℕ} {l : Layout} (k : Laid f l) where
   pub next-number : {t : Place} → Inside (policyOf f) t → stateNumber l (stateFrom t) ≡ numberOf (policyOf f) t
   next-number {t} h =
       rw (← number-take (l .ceilings) (l .clocks) (t .location) (four (t .clocks)), ap (λ (s : Place). s .clocks) (place-back h), ← laid-clocks)
-      (number-ceilings (l .ceilings) (l .clocks) (t .location) (t .clocks) (policyOf f .ceilings)
-      (λ i g. sym (getD-take (l .clocks) (l .ceilings) i 0 g) ∙ ap (λ (cs : List ℕ). getD cs i 0) laid-ceilings))
+      (number-ceilings (l .ceilings) (l .clocks) (t .location) (t .clocks) (policyOf f .ceilings) laid-ceiling)
+
+  -- The state with a number stands for the place with that number.
+  pub numbered-place : (n : ℕ) → place (l .clocks) (stateAt (l .ceilings) (l .clocks) n) ≡ placeOf (policyOf f) n
+  numbered-place n =
+      rw (
+        take-at (clocksFrom (l .ceilings) (l .clocks) n) _ (l .clocks) (clocks-length (l .ceilings) (l .clocks) n),
+        location-ceilings (l .ceilings) (l .clocks) n (policyOf f .ceilings) laid-ceiling,
+        clocks-ceilings (l .ceilings) (l .clocks) n (policyOf f .ceilings) laid-ceiling,
+        laid-clocks,
+      )
 
   -- A step leads to a place of the policy.
   pub next-inside : (s : State) (e : Event) → Inside (policyOf f) (place (l .clocks) s) →

@@ -8,11 +8,12 @@ use native.Mathlib.Omega.{arith}
 use lib.Dec.{eqb}
 use lib.ListN.{length, getD, take, drop, set, replicate, length-append, drop-of-length-le}
 use lib.Seq.{take-suc, drop-cons, set-at}
-use Rattle.streams.specs.Answer.{none-refused}
-use Rattle.policy.specs.File.{pairAt, pairsFrom, inputCount, outputsAt}
-use Rattle.policy.specs.Check.{all, among, tagsGood, isCapital, sectionRefusal, inputsRefusal}
+use Rattle.streams.specs.Answer.{none-unless}
+use Rattle.policy.specs.File.{pairAt, pairsFrom, inputCount, outputsAt, outputCount, clocksAt, clockCount, locationsAt, locationCount}
+use Rattle.policy.specs.File.{ceilingsOf}
+use Rattle.policy.specs.Check.{all, among, tagsGood, isCapital, inputsRefusal, outputsRefusal, clocksRefusal, locationsRefusal}
 use Rattle.policy.specs.Number.{four, statesOf}
-use Rattle.policy.specs.Checked.{section-fits, pairs-length}
+use Rattle.policy.specs.Checked.{section, pairs-length, ceiling-at}
 
 -- The list from i on: its first element, and the rest.
 pub all-turn : (test : ℕ → Bool) (xs : List ℕ) (i : ℕ) → i < length xs →
@@ -87,6 +88,20 @@ states-more cs i l = simp add-one
 pub inputs-fit : (f : List ℕ) → inputsRefusal f ≡ 0 →
     (inputCount f ≤ 4) × (1 + inputCount f ≤ length f) × (outputsAt f ≡ 1 + inputCount f)
 unfolding inputsRefusal outputsAt
-inputs-fit f e =
-    let h = section-fits f 0 1 (inputCount f) 0 4 1 (none-refused (sectionRefusal f 0 1 (inputCount f) 0 4 1) _ .0 e .0) in
-    (h .1, omega arith, refl)
+inputs-fit f e = let h = section f 0 1 (inputCount f) 0 4 1 _ e .0 in (h .1, omega arith, refl)
+
+pub outputs-fit : (f : List ℕ) → outputsRefusal f ≡ 0 → outputCount f ≤ 4
+unfolding outputsRefusal
+outputs-fit f e = section f (outputsAt f) 1 (outputCount f) 0 4 1 _ e .0 .1
+
+pub clocks-fit : (f : List ℕ) → clocksRefusal f ≡ 0 → (clockCount f ≤ 4) × ((i : ℕ) → i < clockCount f → getD (ceilingsOf f) i 0 ≤ 1001)
+unfolding clocksRefusal
+clocks-fit f e =
+    let h = section f (clocksAt f) 1 (clockCount f) 0 4 2 _ e in
+    let good = none-unless _ 3 .0 (h .1) in
+    let many = pairs-length f (clocksAt f + 1) (clockCount f) in
+    (h .0 .1, λ i l. ceiling-at (ceilingsOf f) good i (omega arith) .1)
+
+pub locations-fit : (f : List ℕ) → locationsRefusal f ≡ 0 → locationCount f ≤ 64
+unfolding locationsRefusal
+locations-fit f e = section f (locationsAt f) 1 (locationCount f) 1 64 1 _ e .0 .1

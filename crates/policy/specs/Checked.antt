@@ -2,7 +2,7 @@
 use mathlib.Core.Path.{_≡_, refl, ap}
 use mathlib.Core.Bool.{Bool, true, false, _&&_, _||_, and-eq-true-iff, false≢true}
 use mathlib.Core.List.{List, [], _∷_}
-use mathlib.Core.Logic.{_⊎_, _↔_, ⊎-map}
+use mathlib.Core.Logic.{_⊎_, ⊎-map}
 use Prim.Native.Nat.{ℕ, zero, suc, _+_, _*_, _^_, _≤_, _<_}
 use native.Mathlib.Nat.{mul-le-mul}
 use native.Mathlib.Omega.{arith}
@@ -16,7 +16,7 @@ use Rattle.policy.specs.Stopped.{Lawful, AllLawful, lawful-none, lawful-
 use Rattle.policy.specs.Number.{statesOf}
 use Rattle.policy.specs.File.{part, pairsFrom, boundsFrom, rulesFrom, ruleSize, inputCount, outputsAt, outputCount, clocksAt, clockCount, locationsAt, locationCount, rulesAt, ruleCount, rulesStart, rulesEnd, inputTags, outputTags, ceilingsOf, locationBytes, ruleSection, rulesOf, policyOf}
 use Rattle.policy.specs.Check.{all, sectionRefusal, tagsGood, ceilingGood, maskGood, headGood, boundGood, boundsGood, ruleRefusal, rulesRefusal, inputsRefusal, outputsRefusal, clocksRefusal, locationsRefusal, rulesSectionRefusal, refusalOf}
-use Rattle.policy.specs.Sound.{WellFormed, Each, each-none, each-more, Formed, Sound}
+use Rattle.policy.specs.Sound.{WellFormed, Each, each-none, each-more, each-weak, Formed, Sound}
 
 -- The count is within its limits, and its section within the file.
 pub section-fits : (f : List ℕ) (at width n low high size : ℕ) → sectionRefusal f at width n low high size ≡ 0 →
@@ -29,7 +29,7 @@ section-fits f at width n low high size e =
     (leb-true _ _ (c .0), leb-true _ _ (c .1), leb-true _ _ (none-unless _ 0 .0 (b .1)))
 
 -- A section before its contents.
-section : (f : List ℕ) (at width n low high size contents : ℕ) → sectionRefusal f at width n low high size orElse contents ≡ 0 →
+pub section : (f : List ℕ) (at width n low high size contents : ℕ) → sectionRefusal f at width n low high size orElse contents ≡ 0 →
     ((low ≤ n) × (n ≤ high) × (at + width + n * size ≤ length f)) × (contents ≡ 0)
 section f at width n low high size contents e =
     let k = none-refused (sectionRefusal f at width n low high size) contents .0 e in (section-fits f at width n low high size (k .0), k .1)
@@ -268,10 +268,6 @@ module _ (inputs outputs : ℕ) (cs : List ℕ) (locations : ℕ) where
   each-checked : {rs : List Rule} → Each (Ruled inputs outputs cs locations) rs → Checked cs rs
   each-checked each-none = checked-none
   each-checked (each-more g h) = checked-more (g .lawful) (each-checked h)
-
-pub each-weak : {P Q : Rule → Type 0} → ((r : Rule) → P r → Q r) → {rs : List Rule} → Each P rs → Each Q rs
-each-weak f each-none = each-none
-each-weak f (each-more {r = r} p h) = each-more (f r p) (each-weak f h)
 
 module _ (p : Policy) (k : WellFormed p) where
   well-rules : Rising 0 (p .rules) × Each (Ruled (length (p .inputs)) (length (p .outputs)) (p .ceilings) (p .locations)) (p .rules)

@@ -1,27 +1,30 @@
 -- The file written from a policy passes the check and reads back as that policy.
-use mathlib.Core.Path.{_≡_, refl, ap, ap₂, sym, _∙_}
-use mathlib.Core.Bool.{Bool, true, false, _||_, false≢true, and-eq-true-iff}
+use mathlib.Core.Path.{_≡_, refl, ap₂, sym, _∙_}
+use mathlib.Core.Bool.{true, and-eq-true-iff}
 use mathlib.Core.List.{List, [], _∷_, _++_, append-assoc, append-nil}
+use mathlib.Core.Logic.{_⊎_, ⊎-elim}
 use Prim.Native.Nat.{ℕ, zero, suc, _+_, _*_, _^_, _≤_, _<_}
 use native.Mathlib.Nat.{div-add-mod', mul-le-mul, pow-le-pow-right}
 use native.Mathlib.Omega.{arith}
 use lib.Bits.{and-le-r}
-use lib.Dec.{ltb, eqb}
+use lib.Dec.{eqb}
 use lib.ListN.{length, getD, drop, replicate, length-append, length-replicate}
-use lib.Seq.{drop-drop, drop-append-seam, take-append-seam, getD-drop, getD-take}
-use borrow.Author.Tests.{leb-true, ltb-true, eqb-true, le-leb}
-use Rattle.streams.specs.Answer.{_orElse_, unless, gives, none-refused, none-unless}
+use lib.Seq.{drop-drop, drop-append-seam, take-append-seam, getD-drop}
+use borrow.Author.Tests.{leb-true, le-leb}
+use Rattle.streams.specs.Answer.{gives}
 use Rattle.policy.specs.Rules.{Bound, Rule, Policy}
 use Rattle.policy.specs.Number.{states}
 use Rattle.policy.specs.File.{byteAt, pairAt, part, pairsFrom, boundsFrom, ruleSize, ruleFrom, rulesFrom}
 use Rattle.policy.specs.File.{inputCount, outputsAt, outputCount, clocksAt, clockCount, locationsAt, locationCount, rulesAt, ruleCount}
 use Rattle.policy.specs.File.{rulesStart, rulesEnd, inputTags, outputTags, ceilingsOf, locationBytes, rulesOf, policyOf}
-use Rattle.policy.specs.Check.{all, tagsGood, ceilingGood, maskGood, headGood, boundGood, boundsGood, ruleRefusal, rulesRefusal}
+use Rattle.policy.specs.Check.{all, tagsGood, ceilingGood}
 use Rattle.policy.specs.Check.{sectionRefusal, inputsRefusal, outputsRefusal, clocksRefusal, locationsRefusal, rulesSectionRefusal}
 use Rattle.policy.specs.Check.{refusalOf, checkOf}
 use Rattle.policy.specs.Parts.{rules-part}
 use Rattle.policy.specs.Bytes.{pairBytes, pairsBytes, boundsBytes, ruleBytes, rulesBytes, countsBytes, bytesOf}
-use Rattle.policy.specs.Sound.{WellFormed, Each, each-none, each-more}
+use Rattle.policy.specs.Stopped.{AllLawful, lawful-none, lawful-more}
+use Rattle.policy.specs.Sound.{WellFormed, Each, each-none, each-more, each-weak}
+use Rattle.policy.specs.Checked.{Ruled, well-ruled}
 
 -- What is read at a position from which on the file is known.
 module _ (f : List ℕ) where
@@ -206,39 +209,9 @@ module _ (p : Policy) where
   locations-back =
       items-read (bytesOf p) (locationsAt (bytesOf p)) (replicate (p .locations) 0) (fromRules p) at-locations (length-replicate (p .locations) 0)
 
--- A rule that the check of the rules has passed, after a rule of the source `before`.
-record Passed (inputs outputs : ℕ) (cs : List ℕ) (locations : ℕ) (r : Rule) : Type 0 where
-  before : ℕ
-  head : headGood inputs outputs (length cs) locations before r ≡ true
-  bounds : boundsGood cs (r .bounds) ≡ true
-
-each-passed : (inputs outputs : ℕ) (cs : List ℕ) (locations before : ℕ) (rs : List Rule)
-    → rulesRefusal inputs outputs cs locations before rs ≡ 0 → Each (Passed inputs outputs cs locations) rs
-unfolding rulesRefusal ruleRefusal
-each-passed inputs outputs cs locations before [] e = each-none
-each-passed inputs outputs cs locations before (r ∷ rs) e =
-    let both = none-refused (ruleRefusal inputs outputs cs locations before r) (rulesRefusal inputs outputs cs locations (r .source) rs) .0 e in
-    let one = none-refused (unless (headGood inputs outputs (length cs) locations before r) 6) (unless (boundsGood cs (r .bounds)) 7) .0 (both .0) in
-    each-more (record { before = before; head = none-unless _ 5 .0 (one .0); bounds = none-unless _ 6 .0 (one .1) })
-    (each-passed inputs outputs cs locations (r .source) rs (both .1))
-
-each-map : {P Q : Rule → Type 0} → ((r : Rule) → P r → Q r) → {rs : List Rule} → Each P rs → Each Q rs
-each-map f each-none = each-none
-each-map f (each-more {r = r} p ps) = each-more (f r p) (each-map f ps)
-
-bounds-many : (cs : List ℕ) (bs : List Bound) → boundsGood cs bs ≡ true → length bs ≡ length cs
-unfolding boundsGood
-bounds-many [] [] e = refl
-bounds-many [] (b ∷ bs) e = absurd (false≢true e)
-bounds-many (c ∷ cs) [] e = absurd (false≢true e)
-bounds-many (c ∷ cs) (b ∷ bs) e = ap suc (bounds-many cs bs (and-eq-true-iff (boundGood c b) (boundsGood cs bs) .0 e .1))
-
 module _ (p : Policy) (w : WellFormed p) where
-  passed : Each (Passed (length (p .inputs)) (length (p .outputs)) (p .ceilings) (p .locations)) (p .rules)
-  passed = each-passed (length (p .inputs)) (length (p .outputs)) (p .ceilings) (p .locations) 0 (p .rules) (w .rules)
-
   pub bounded : Each (Bounded (length (p .ceilings))) (p .rules)
-  bounded = each-map (λ r q. bounds-many (p .ceilings) (r .bounds) (q .bounds)) passed
+  bounded = each-weak (λ r q. q .formed .bounds) (well-ruled p w)
 
   pub rules-back : rulesOf (bytesOf p) ≡ p .rules
   rules-back =
@@ -404,25 +377,17 @@ zeros-bytes zero = tt
 zeros-bytes (suc n) = (omega arith, zeros-bytes n)
 
 -- A target, or a high: below a limit, or the one number that has a meaning of its own.
-below-or-at : (n limit own : ℕ) → limit ≤ own → (ltb n limit || eqb n own) ≡ true → n ≤ own
-below-or-at n limit own h = go (ltb n limit) refl
-  where
-    go : (t : Bool) → ltb n limit ≡ t → (t || eqb n own) ≡ true → n ≤ own
-    go true l e = omega (arith, ltb-true n limit l)
-    go false l e = omega (arith, eqb-true n own e)
+below-or-at : {n limit own : ℕ} → limit ≤ own → (n < limit) ⊎ (n ≡ own) → n ≤ own
+below-or-at h = ⊎-elim (λ l. omega arith) (λ e. omega arith)
 
-bounds-bytes : (cs : List ℕ) (bs : List Bound) → all ceilingGood cs ≡ true → boundsGood cs bs ≡ true → AllBytes (boundsBytes bs)
-unfolding all boundsGood boundGood boundsBytes
-bounds-bytes [] [] c e = tt
-bounds-bytes [] (b ∷ bs) c e = absurd (false≢true e)
-bounds-bytes (c ∷ cs) [] d e = absurd (false≢true e)
-bounds-bytes (c ∷ cs) (b ∷ bs) d e =
-    let good = simp and-eq-true-iff at e in
-    let ceiling = simp and-eq-true-iff at d in
+bounds-bytes : {cs : List ℕ} {bs : List Bound} → all ceilingGood cs ≡ true → AllLawful cs bs → AllBytes (boundsBytes bs)
+unfolding all boundsBytes
+bounds-bytes e lawful-none = tt
+bounds-bytes e (lawful-more {c = c} {b = b} l ls) =
+    let ceiling = simp and-eq-true-iff at e in
     let limit : c ≤ 1001 = omega (arith, leb-true) in
-    let low : b .low ≤ c = omega (arith, leb-true) in
-    let high = below-or-at (b .high) c 65535 (omega arith) (good .0 .1 .1) in
-    (omega arith, (omega arith, (omega arith, (omega arith, bounds-bytes cs bs (ceiling .1) (good .1)))))
+    let high : b .high ≤ 65535 = below-or-at (omega arith) (l .high) in
+    (omega arith, (omega arith, (omega arith, (omega arith, bounds-bytes (ceiling .1) ls))))
 
 rules-bytes : {rs : List Rule} → Each (λ r. AllBytes (ruleBytes r)) rs → AllBytes (rulesBytes rs)
 unfolding rulesBytes
@@ -434,22 +399,20 @@ mask-small : (n : ℕ) → n ≤ 4 → 2 ^ n ≤ 16
 mask-small n h = pow-le-pow-right (omega arith) h
 
 module _ (p : Policy) (w : WellFormed p) where
-  rule-bytes : (r : Rule) → Passed (length (p .inputs)) (length (p .outputs)) (p .ceilings) (p .locations) r → AllBytes (ruleBytes r)
-  unfolding ruleBytes headGood maskGood
+  rule-bytes : (r : Rule) → Ruled (length (p .inputs)) (length (p .outputs)) (p .ceilings) (p .locations) r → AllBytes (ruleBytes r)
+  unfolding ruleBytes
   rule-bytes r q =
-      let good = simp and-eq-true-iff at (q .head) in
-      let source : r .source < 256 = omega (arith, ltb-true) in
-      let inCare : r .inCare < 256 = omega (arith, ltb-true, mask-small _ (w .inputs)) in
-      let inValue : r .inValue < 256 = omega (arith, eqb-true, and-le-r (r .inValue) (r .inCare)) in
-      let outCare : r .outCare < 256 = omega (arith, ltb-true, mask-small _ (w .outputs)) in
-      let outValue : r .outValue < 256 = omega (arith, eqb-true, and-le-r (r .outValue) (r .outCare)) in
-      let reset : r .reset < 256 = omega (arith, ltb-true, mask-small _ (w .clocks)) in
-      let target = below-or-at (r .target) (p .locations) 255 (omega arith) (good .1 .1 .1 .1 .1) in
-      (source, (inCare, (inValue, (outCare, (outValue, (reset, (omega arith, bounds-bytes (p .ceilings) (r .bounds) (w .ceilings) (q .bounds))))))))
+      let inValue : r .inValue ≤ r .inCare = omega (arith, and-le-r (r .inValue) (r .inCare)) in
+      let outValue : r .outValue ≤ r .outCare = omega (arith, and-le-r (r .outValue) (r .outCare)) in
+      let target = below-or-at (omega arith) (q .formed .target) in
+      let inputs = mask-small _ (w .inputs) in
+      let outputs = mask-small _ (w .outputs) in
+      let clocks = mask-small _ (w .clocks) in
+      (omega arith, (omega arith, (omega arith, (omega arith, (omega arith, (omega arith, (omega arith, bounds-bytes (w .ceilings) (q .lawful))))))))
 
   pub all-bytes : AllBytes (bytesOf p)
   all-bytes =
-      let rules = rules-bytes (each-map rule-bytes (passed p w)) in
+      let rules = rules-bytes (each-weak rule-bytes (well-ruled p w)) in
       let locations = bytes-append (replicate (p .locations) 0) (fromRules p) (zeros-bytes (p .locations)) (omega arith, (omega arith, rules)) in
       let clocks = bytes-append (pairsBytes (p .ceilings)) (fromLocations p) (ceilings-bytes (p .ceilings) (w .ceilings)) (omega arith, locations) in
       let outputs = bytes-append (p .outputs) (fromClocks p) (tags-bytes (p .inputs) (p .outputs) (w .outputTags)) (omega arith, clocks) in

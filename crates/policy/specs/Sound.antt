@@ -29,6 +29,10 @@ pub data Each (P : Rule → Type 0) : List Rule → Type 0 where
   each-none : Each P []
   each-more : {r : Rule} {rs : List Rule} → P r → Each P rs → Each P (r ∷ rs)
 
+pub each-weak : {P Q : Rule → Type 0} → ((r : Rule) → P r → Q r) → {rs : List Rule} → Each P rs → Each Q rs
+each-weak f each-none = each-none
+each-weak f (each-more {r = r} p h) = each-more (f r p) (each-weak f h)
+
 -- A rule of a policy with so many clocks and locations.
 pub record Formed (clocks locations : ℕ) (r : Rule) : Type 0 where
   pub inputs : bitAnd (r .inValue) (r .inCare) ≡ r .inValue

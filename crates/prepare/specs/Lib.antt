@@ -4,3 +4,4 @@ pub mod Marks
 pub mod Trim
 pub mod Live
 pub mod Enforces
+pub mod Engine

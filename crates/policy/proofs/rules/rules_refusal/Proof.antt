@@ -1,0 +1,104 @@
+-- `rules::rules_refusal` meets its contract. The invariant: the refusal of the rules from i on is that of all. Assumes nothing.
+use mathlib.Core.Path.{_≡_, sym, _∙_}
+use mathlib.Core.List.{List}
+use Prim.Native.Nat.{ℕ, _+_, _-_, _*_, _≤_}
+use native.Mathlib.Nat.{sub-zero}
+use native.Mathlib.Omega.{arith}
+use lib.ListN.{take}
+use denote.Ref.{now}
+use borrow.Author.Needs.{needs}
+use Rattle.streams.specs.Answer.{_orElse_}
+use Rattle.policy.specs.File.{byteAt, ruleSize, rulesFrom}
+use Rattle.policy.specs.Check.{rulesRefusal}
+use Rattle.policy.specs.declared.rules.Shape.{Shape}
+use Rattle.streams.specs.Answer.{first-refused, next-refused}
+use Rattle.policy.proofs.RuleLaws.{rules-turn}
+use Rattle.policy.proofs.rules.rules_refusal.Statement.{statement}
+use Rattle.policy.proofs.rules.rules_refusal.Tie as tie
+
+-- the refusal of n rules from a position on
+abbrev refusal : List ℕ → Shape → ℕ → ℕ → ℕ → ℕ
+refusal section shape at before n =
+    rulesRefusal (shape .inputs) (shape .outputs) (take (shape .clocks) (shape .ceilings)) (shape .locations) before
+    (rulesFrom (shape .clocks) section at n)
+
+abbrev Inv-loop : tie.InvT-loop
+Inv-loop section n shape size at₀ before₀ i₀ at before i =
+    (i ≤ n) × (at ≤ 23 * i) × (refusal section shape at before (n - i) ≡ refusal section shape 0 0 n)
+
+abbrev μ-loop : tie.MeasureT-loop
+μ-loop section n shape size at₀ before₀ i₀ at before i = n - i
+
+-- all rules, as the rule that a turn reads and those after it
+turn : (c : tie.After-rule-refusal Inv-loop μ-loop) →
+    let h = c .before .before in
+    let a = h .before .before .before .args in
+    let f = now (a .section) in
+    let rest = refusal f (a .shape) (h .loop .at + ruleSize (a .shape .clocks)) (byteAt f (h .loop .at)) (a .n - (h .loop .i + 1)) in
+    refusal f (a .shape) 0 0 (a .n) ≡ (c .rule-refusal .result orElse rest)
+turn c =
+    let h = c .before .before in
+    let a = h .before .before .before .args in
+    let cs = take (a .shape .clocks) (a .shape .ceilings) in
+    let next =
+    rules-turn (a .shape .inputs) (a .shape .outputs) cs (a .shape .locations) (h .loop .before) (a .shape .clocks)
+    (now (a .section)) (h .loop .at) (a .n) (h .loop .i) (c .before .loop-test .taken) in
+    simp (c .rule-refusal .ensures) (sym (h .loop .inv .2) ∙ next)
+
+mul-size : tie.Need-mul-size Inv-loop μ-loop
+mul-size c = search needs
+
+add-size : tie.Need-add-size Inv-loop μ-loop
+add-size c = search needs
+
+loop-holds : tie.Need-loop-holds Inv-loop μ-loop
+loop-holds c = (search needs, search needs, rw sub-zero)
+
+rule-refusal-requires : tie.Need-rule-refusal-requires Inv-loop μ-loop
+rule-refusal-requires c κs = search needs
+
+returns : tie.Need-returns Inv-loop μ-loop
+returns c = sym (turn (c .before) ∙ first-refused _ _ (c .if1 .taken))
+
+byte-at-requires : tie.Need-byte-at-requires Inv-loop μ-loop
+byte-at-requires c κs = search needs
+
+add-at : tie.Need-add-at Inv-loop μ-loop
+add-at c = search needs
+
+add-i : tie.Need-add-i Inv-loop μ-loop
+add-i c = search needs
+
+loop-less : tie.Need-loop-less Inv-loop μ-loop
+loop-less c = search needs
+
+loop-again : tie.Need-loop-again Inv-loop μ-loop
+loop-again c = (
+  search needs,
+  search needs,
+  sym (turn (c .before .before) ∙ next-refused _ _ (c .before .if1 .left) ∙ simp (c .byte-at .ensures .0)),
+)
+
+returns-2 : tie.Need-returns-2 Inv-loop μ-loop
+unfolding rulesRefusal rulesFrom
+returns-2 c =
+    let e : c .before .before .before .before .args .n - c .before .loop .i ≡ 0 = omega arith in
+    rw e at (c .before .loop .inv .2)
+
+pub rules-refusal-spec : {M : Type 1} → statement M
+rules-refusal-spec =
+    tie.close
+    (tie.spec
+    Inv-loop
+    μ-loop
+    mul-size
+    add-size
+    loop-holds
+    rule-refusal-requires
+    returns
+    byte-at-requires
+    add-at
+    add-i
+    loop-less
+    loop-again
+    returns-2)

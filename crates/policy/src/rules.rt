@@ -1,0 +1,143 @@
+// The rules of a file, over the part of the file that they are.
+use crate::bytes::byte_at;
+use crate::bytes::pair_at;
+use crate::sections::section_refusal;
+ghost use mathlib.Core.Path.{_≡_};
+ghost use Prim.Native.Nat.{ℕ, _≤_, _<_, _^_};
+ghost use lib.ListN.{take};
+ghost use Rattle.policy.specs.File.{ruleFrom, rulesFrom, boundsFrom, rulesAt};
+ghost use Rattle.policy.specs.Check.{maskGood, headGood, boundsGood, ruleRefusal, rulesRefusal, rulesSectionRefusal};
+ghost use Rattle.policy.specs.Layout.{Shaped, ShapeOf};
+
+// How much the sections before the rules hold.
+pub struct Shape {
+    pub inputs: usize,
+    pub outputs: usize,
+    pub clocks: usize,
+    pub locations: usize,
+    pub ceilings: [u16; 4],
+}
+
+// No care bit is beyond the signals, and no value bit outside the care bits.
+fn mask_good(signals: usize, care: usize, value: usize) -> bool
+    requires { ⌜ signals ≤ 4 ⌝ }
+    ensures { λ r. ⌜ r ≡ maskGood signals care value ⌝ }
+{
+    if care < 1 << signals {
+        value & care == value
+    } else {
+        false
+    }
+}
+
+// The first seven bytes of the rule at `at` keep the rules; `before` is the source of the rule before it.
+fn head_good(section: &[u8], at: usize, shape: Shape, before: usize) -> bool
+    requires { ⌜ (at < 2 ^ 16) × Shaped shape ⌝ }
+    ensures { λ r. ⌜ r ≡ headGood (shape .inputs) (shape .outputs) (shape .clocks) (shape .locations) before (ruleFrom (shape .clocks) (now (section .entry)) at) ⌝ }
+{
+    let source = byte_at(section, at);
+    if source < before {
+        return false;
+    }
+    if shape.locations <= source {
+        return false;
+    }
+    if !mask_good(
+        shape.inputs,
+        byte_at(section, at + 1),
+        byte_at(section, at + 2),
+    ) {
+        return false;
+    }
+    if !mask_good(
+        shape.outputs,
+        byte_at(section, at + 3),
+        byte_at(section, at + 4),
+    ) {
+        return false;
+    }
+    if 1 << shape.clocks <= byte_at(section, at + 5) {
+        return false;
+    }
+    let target = byte_at(section, at + 6);
+    if target < shape.locations {
+        return true;
+    }
+    target == 255
+}
+
+// The bounds from `at` on keep the rules, one for each clock.
+fn bounds_good(section: &[u8], at: usize, ceilings: [u16; 4], clocks: usize) -> bool
+    requires { ⌜ (at < 2 ^ 16) × (clocks ≤ 4) ⌝ }
+    ensures { λ r. ⌜ r ≡ boundsGood (take clocks ceilings) (boundsFrom (now (section .entry)) at clocks) ⌝ }
+{
+    let mut i = 0;
+    while i < clocks {
+        let low = pair_at(section, at + 4 * i) as u16;
+        let high = pair_at(section, at + 4 * i + 2) as u16;
+        let ceiling = ceilings[i];
+        if high < low {
+            return false;
+        }
+        if ceiling < low {
+            return false;
+        }
+        if ceiling <= high {
+            if high != 65535 {
+                return false;
+            }
+        }
+        i += 1;
+    }
+    true
+}
+
+// 6 or 7 where the rule at `at` breaks the rules, else 0.
+fn rule_refusal(section: &[u8], at: usize, shape: Shape, before: usize) -> u8
+    requires { ⌜ (at < 2 ^ 15) × Shaped shape ⌝ }
+    ensures { λ r. ⌜ r ≡ ruleRefusal (shape .inputs) (shape .outputs) (take (shape .clocks) (shape .ceilings)) (shape .locations) before (ruleFrom (shape .clocks) (now (section .entry)) at) ⌝ }
+{
+    if !head_good(section, at, shape, before) {
+        return 6;
+    }
+    let ceilings = shape.ceilings;
+    if bounds_good(section, at + 7, ceilings, shape.clocks) {
+        0
+    } else {
+        7
+    }
+}
+
+// The refusal of the first of the n rules that breaks the rules, else 0.
+fn rules_refusal(section: &[u8], n: usize, shape: Shape) -> u8
+    requires { ⌜ (n ≤ 256) × Shaped shape ⌝ }
+    ensures { λ r. ⌜ r ≡ rulesRefusal (shape .inputs) (shape .outputs) (take (shape .clocks) (shape .ceilings)) (shape .locations) 0 (rulesFrom (shape .clocks) (now (section .entry)) 0 n) ⌝ }
+{
+    let size = 7 + 4 * shape.clocks;
+    let mut at = 0;
+    let mut before = 0;
+    let mut i = 0;
+    while i < n {
+        let r = rule_refusal(section, at, shape, before);
+        if r != 0 {
+            return r;
+        }
+        before = byte_at(section, at);
+        at += size;
+        i += 1;
+    }
+    0
+}
+
+pub fn rules_section_refusal(file: &[u8], at: usize, shape: Shape) -> u8
+    requires { ⌜ (at < 2 ^ 10) × (at ≡ rulesAt (now file)) × ShapeOf (now file) shape ⌝ }
+    ensures { λ r. ⌜ r ≡ rulesSectionRefusal (now (file .entry)) ⌝ }
+{
+    let n = pair_at(file, at);
+    let size = 7 + 4 * shape.clocks;
+    let r = section_refusal(file, at, 2, n, 0, 256, size);
+    if r != 0 {
+        return r;
+    }
+    rules_refusal(&file[at + 2..at + 2 + n * size], n, shape)
+}
