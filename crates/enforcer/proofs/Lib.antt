@@ -1,3 +1,4 @@
 pub mod ChooseLaws
 pub mod Laws
 pub mod RuleLaws
+pub mod RunLaws

@@ -1,5 +1,5 @@
 -- What the chooser's and the tick's own types stand for, and what a chosen output does.
-use mathlib.Core.Path.{_≡_, refl}
+use mathlib.Core.Path.{_≡_, refl, sym, ap, _∙_}
 use mathlib.Core.Bool.{Bool, true, false, false≢true}
 use mathlib.Core.List.{List}
 use mathlib.Core.Option.{Option, none, some, bind}
@@ -39,3 +39,19 @@ output-chosen p marks s x y {z} e = rw e (go (step stopped p s (eventXY x z)) (n
         × (bind {B = Spec.Tick} d (λ t. some (record { event = eventXY x z; place = t })) ≡ some (record { event = eventXY x z; place = t }))
     go none h = absurd (false≢true h)
     go (some t) h = (t, refl, refl)
+
+-- By the answer r of a tick, whether there is one, and which.
+module _ (s : State) (o : Option Spec.Tick) {r : Ticked} (e : r ≡ tickFrom s o) where
+  pub tick-none : r .released ≡ false → o ≡ none
+  tick-none n = go o e
+    where
+      go : (d : Option Spec.Tick) → r ≡ tickFrom s d → d ≡ none
+      go none q = refl
+      go (some t) q = absurd (false≢true (sym n ∙ ap (λ (z : Ticked). z .released) q))
+
+  pub tick-some : r .released ≡ true → (t : Spec.Tick) × (o ≡ some t) × (r ≡ tickFrom s (some t))
+  tick-some y = go o e
+    where
+      go : (d : Option Spec.Tick) → r ≡ tickFrom s d → (t : Spec.Tick) × (d ≡ some t) × (r ≡ tickFrom s (some t))
+      go none q = absurd (false≢true (sym (ap (λ (z : Ticked). z .released) q) ∙ y))
+      go (some t) q = (t, refl, q)

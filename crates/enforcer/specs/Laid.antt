@@ -13,7 +13,7 @@ use Rattle.streams.specs.Stream.{Event}
 use Rattle.policy.specs.Rules.{Rule, Policy, Place, inputValues, outputValues, stopped, decides, taken, step}
 use Rattle.policy.specs.File.{part, ruleSize, rulesFrom, rulesOf, ceilingsOf, clocksAt, clockCount, ruleCount, rulesStart, ruleSection, policyOf}
 use Rattle.policy.specs.Check.{refusalOf}
-use Rattle.policy.specs.Number.{four, states, numberFrom, locationFrom, clocksFrom, numberOf, placeOf}
+use Rattle.policy.specs.Number.{states, numberFrom, locationFrom, clocksFrom, numberOf, placeOf}
 use Rattle.policy.specs.Numbered.{number-take, number-ceilings, location-ceilings, clocks-ceilings, clocks-length, numberOf-below}
 use Rattle.policy.specs.Sound.{WellFormed, Inside}
 use Rattle.policy.specs.Checked.{Framed, frame, checked-file, inputs-length, outputs-length, pairs-length, rules-length, well-sound, well-rising}
@@ -22,10 +22,10 @@ use Rattle.policy.specs.Parts.{rules-part, rules-take, rules-drop}
 use Rattle.policy.specs.Layout.{layoutOf, checkedFrom, checkedOf}
 use Rattle.policy.specs.declared.Layout.{Layout}
 use Rattle.policy.specs.declared.Checked.{Checked}
-use Rattle.enforcer.specs.State.{isMarked}
+use Rattle.enforcer.specs.State.{placeIn, isMarked}
 use Rattle.enforcer.specs.Tick.{arrives, reaches}
 use Rattle.enforcer.specs.Own.{below, level, own, own-le, decides-own}
-use Rattle.enforcer.specs.Code.{eventXY, place, stateFrom, stateAt, bare, stepFrom, ownOf}
+use Rattle.enforcer.specs.Code.{eventXY, asPlace, place, stateFrom, stateAt, bare, stepFrom, ownOf}
 use Rattle.enforcer.specs.Ready.{Laid}
 use Rattle.enforcer.specs.declared.own.Own.{Own}
 use Rattle.enforcer.specs.declared.state.State.{State}
@@ -138,15 +138,22 @@ module _ {f : List ℕ} {l : Layout} (k : Laid f l) where
       step-bare stopped _ (policyOf f) (place (l .clocks) s) e laid-ceilings
       (rw (own-rules (s .location) h) (decides-own (place (l .clocks) s) e (well-rising (policyOf f) laid-well)))
 
+  -- The place that a state is, and its number, by the layout alone.
+  pub laid-place : (s : State) → place (l .clocks) s ≡ placeIn (policyOf f) (asPlace s)
+  laid-place s = rw laid-clocks
+
+  pub laid-number : (s : State) → stateNumber l s ≡ numberOf (policyOf f) (place (l .clocks) s)
+  laid-number s =
+      rw (← number-take (l .ceilings) (l .clocks) (s .location) (s .clocks), ← laid-clocks)
+      (number-ceilings (l .ceilings) (l .clocks) (s .location) (take (l .clocks) (s .clocks)) (policyOf f .ceilings) laid-ceiling)
+
   -- The state that a place is stands for that place, and has its number.
   pub place-back : {t : Place} → Inside (policyOf f) t → place (l .clocks) (stateFrom t) ≡ t
   place-back {t} h =
       ap (λ (vs : List ℕ). record { location = t .location; clocks = vs }) (take-at (t .clocks) _ (l .clocks) (h .clocks ∙ sym laid-clocks))
 
   pub next-number : {t : Place} → Inside (policyOf f) t → stateNumber l (stateFrom t) ≡ numberOf (policyOf f) t
-  next-number {t} h =
-      rw (← number-take (l .ceilings) (l .clocks) (t .location) (four (t .clocks)), ap (λ (s : Place). s .clocks) (place-back h), ← laid-clocks)
-      (number-ceilings (l .ceilings) (l .clocks) (t .location) (t .clocks) (policyOf f .ceilings) laid-ceiling)
+  next-number {t} h = laid-number (stateFrom t) ∙ ap (numberOf (policyOf f)) (place-back h)
 
   -- The state with a number stands for the place with that number.
   pub numbered-place : (n : ℕ) → place (l .clocks) (stateAt (l .ceilings) (l .clocks) n) ≡ placeOf (policyOf f) n

@@ -1,8 +1,11 @@
 pub mod State
 pub mod Tick
+pub mod Ticks
 pub mod Entries
 pub mod Code
 pub mod Own
 pub mod Ready
 pub mod Laid
+pub mod States
 pub mod Chosen
+pub mod Promises

@@ -1,15 +1,23 @@
 // A state, one tick and many. What they answer stands in specs/.
 mod choose;
+mod halves;
 mod matcher;
 mod next;
 mod own;
 mod reach;
+mod runs;
 mod state;
 mod tick;
 
+pub use halves::Answer;
+pub use halves::Output;
+pub use halves::input_half;
+pub use halves::marks_refusal;
 pub use next::Step;
 pub use own::Own;
 pub use reach::may_stand;
 pub use reach::own_of;
 pub use reach::values;
+pub use runs::Ran;
+pub use runs::run;
 pub use state::State;

@@ -3,7 +3,7 @@ use mathlib.Core.Path.{_≡_, refl, sym, ap, subst, _∙_}
 use mathlib.Core.Bool.{Bool, true, false}
 use mathlib.Core.List.{List, [], _∷_, _++_, append-nil, append-assoc}
 use mathlib.Core.Logic.{_↔_, Iff·trans}
-use mathlib.Core.Option.{none, some, bind, bind-eq-some-iff, Option·some-injective}
+use mathlib.Core.Option.{none, some, bind, Option·some-injective}
 use Prim.Native.Nat.{ℕ, _<_}
 use lib.Dec.{eqb}
 use lib.ListN.{length, List·getD-append}
@@ -23,7 +23,8 @@ use Rattle.policy.specs.Numbered.{numberOf-below}
 use Rattle.policy.specs.Stays.{of-some, step-inside, steps-append, stop-inside, fits-append, runs-append}
 use Rattle.policy.specs.Checked.{well-sound, well-checked}
 use Rattle.enforcer.specs.State.{isMarked}
-use Rattle.enforcer.specs.Tick.{Tick, Ran, arrives, reaches, mayStand, inputChoice, outputChoice, moved, outputTick, tick, put, ran}
+use Rattle.enforcer.specs.Tick.{Tick, Ran, arrives, reaches, mayStand, inputChoice, outputChoice, moved, outputTick, tick, ran}
+pub use Rattle.enforcer.specs.Ticks.{Ticked, ticked, input-stands, output-stands, ran-on}
 use Rattle.prepare.specs.Table.{marksOf}
 use Rattle.prepare.specs.Live.{arrived, onward, markOf, marks-length, marks-onward, runs-more, unlimited-step, after-in, goes-on-marked}
 
@@ -82,49 +83,23 @@ module _ (p : Policy) (ok : WellFormed p) {w : Stream} {s : Place} (h : Leads p 
       let m = runs-more p (h .place) e [] .0 (runs-append p (start p) (h .place) w (h .leads) (h .fits) (e ∷ []) .0 r) in
       (stop p (m .0), m .1, rw (← h .shows, step-same p (well-checked p ok) (h .place) e, m .2))
 
--- The parts of a tick.
-pub record Ticked (p : Policy) (marks : List ℕ) (s : Place) (e : Event) (r : Tick) : Type 0 where
-  pub input : inputChoice p marks s (e .x) ≡ some (r .event .x)
-  pub output : outputChoice p marks s (r .event .x) (e .y) ≡ some (r .event .y)
-  pub moves : step stopped p s (r .event) ≡ some (r .place)
-
 -- Whatever the marks are.
 module _ (p : Policy) (marks : List ℕ) (s : Place) where
-  pub ticked : (e : Event) (r : Tick) → tick p marks s e ≡ some r → Ticked p marks s e r
-  unfolding tick outputTick moved
-  ticked e r h =
-      let i = bind-eq-some-iff (inputChoice p marks s (e .x)) _ .0 h in
-      let o = bind-eq-some-iff (outputChoice p marks s (i .0) (e .y)) _ .0 (i .2) in
-      let m = bind-eq-some-iff (step stopped p s (record { x = i .0; y = o .0 })) _ .0 (o .2) in
-      subst (Ticked p marks s e) (Option·some-injective _ r (m .2)) (record { input = i .1; output = o .1; moves = m .1 })
-
   pub output-ticked : (e : Event) (r : Tick) → Ticked p marks s e r → outputTick p marks s (r .event .x) (e .y) ≡ some r
   unfolding outputTick moved bind
   output-ticked e r t = rw (t .output, t .moves)
 
   -- An input that may stand has an output for every answer of the controller.
-  pub input-stands : (x z : ℕ) → inputChoice p marks s x ≡ some z → Among (mayStand p marks s) (inputValues p) z
-  unfolding inputChoice
-  input-stands x z h = nearest-is (mayStand p marks s) x (inputValues p) h .may
-
-  pub output-stands : (x y z : ℕ) → outputChoice p marks s x y ≡ some z → Among (reaches p marks s x) (outputValues p) z
-  unfolding outputChoice
-  output-stands x y z h = nearest-is (reaches p marks s x) y (outputValues p) h .may
-
   pub output-found : (x y : ℕ) → mayStand p marks s x ≡ true → (r : Tick) × (outputTick p marks s x y ≡ some r)
   unfolding mayStand outputTick moved outputChoice bind
   output-found x y h =
       let z = nearest-some (reaches p marks s x) y (outputValues p) h in
-      let t = arrived p marks s x (z .0) (output-stands x y (z .0) (z .1) .1) in
+      let t = arrived p marks s x (z .0) (output-stands p marks s x y (z .0) (z .1) .1) in
       (record { event = record { x = x; y = z .0 }; place = t .0 }, rw (z .1, t .1))
 
   pub tick-found : (e : Event) (x : ℕ) → inputChoice p marks s (e .x) ≡ some x → (r : Tick) × (tick p marks s e ≡ some r)
   unfolding tick bind
-  tick-found e x h = let r = output-found x (e .y) (input-stands (e .x) x h .1) in (r .0, rw (h, r .1))
-
-  pub ran-on : (e : Event) (es : Stream) (r : Tick) → tick p marks s e ≡ some r → ran p marks s (e ∷ es) ≡ put p marks r (ran p marks (r .place) es)
-  unfolding ran
-  ran-on e es r h = rw (h, ran)
+  tick-found e x h = let r = output-found x (e .y) (input-stands p marks s (e .x) x h .1) in (r .0, rw (h, r .1))
 
   pub ran-stuck : (e : Event) (es : Stream) → inputChoice p marks s (e .x) ≡ none → ran p marks s (e ∷ es) .stuck ≡ true
   unfolding ran tick bind

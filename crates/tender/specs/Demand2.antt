@@ -28,7 +28,8 @@ use Rattle.prepare.specs.Entry.{Summary, summaryOf, prepareOf, preparedMarks}
 use Rattle.prepare.specs.Enforces.{EnforcedBy, Leads, leads-start, leads-one, leads-ready, ticked, ticked-ready, tick-found, input-stands, output-ticked, ran-on, ran-stuck, input-found, never-stuck, ran-enforces}
 use Rattle.tender.specs.Samples.{S, T}
 use Rattle.tender.specs.Cases
-use Rattle.tender.specs.Granted.{prepared-marks, prepared-granted, judged, given-passed, given-long, given-goes-on, marks-granted, state-ready, entryRefusal, input-answer, output-answer, run-answer, run-ready, input-17, run-17, events-back, fits-good}
+use Rattle.enforcer.specs.States.{marks-granted}
+use Rattle.tender.specs.Granted.{prepared-marks, prepared-granted, judged, given-passed, given-long, given-goes-on, state-ready, entryRefusal, input-answer, output-answer, run-answer, run-ready, input-17, run-17, events-back, fits-good}
 
 -- For a file that passes the check and a slice for the marks that is long enough.
 module _ (file marks : List ℕ) (passed : refusalOf file ≡ 0) (long : states (policyOf file) ≤ length marks) where

@@ -1,17 +1,17 @@
 -- Where the entries refuse nothing: what their refusals make sure of, and what they answer then.
 use mathlib.Core.Path.{_≡_, refl, ap, ap₂, _∙_}
-use mathlib.Core.Bool.{Bool, true, false, cond, and-eq-true-iff, false≢true}
+use mathlib.Core.Bool.{Bool, true, false, cond, and-eq-true-iff}
 use mathlib.Core.List.{List, [], _∷_, _++_, map}
-use mathlib.Core.Logic.{_↔_, _⊎_, inl, inr, ⊎-elim}
+use mathlib.Core.Logic.{_⊎_, inl, inr, ⊎-elim}
 use mathlib.Core.Option.{Option, none, some}
 use Prim.Native.Nat.{ℕ, zero, suc, _/_, _%_, _-_, _≤_, _<_, zero-le}
 use native.Mathlib.Nat.{le-refl, pow-le-pow-right}
 use native.Mathlib.Omega.{arith}
 use lib.Dec.{leb, ltb}
-use lib.ListN.{length, getD, take, drop, replicate, length-append}
+use lib.ListN.{length, getD, drop, replicate, length-append}
 use lib.Seq.{take-at}
-use borrow.Author.Tests.{leb-true, ltb-true, le-leb, lt-ltb}
-use Rattle.streams.specs.Answer.{refused, gives, _orElse_, unless, answer, none-refused, none-unless}
+use borrow.Author.Tests.{le-leb, lt-ltb}
+use Rattle.streams.specs.Answer.{refused, gives, _orElse_, unless, answer, none-refused}
 use Rattle.streams.specs.Stream.{Event, Stream, GoesOn, Hopeless}
 use Rattle.policy.specs.Rules.{Policy, Place, Permits, FitsOne, Fits, fits-none, fits-more}
 use Rattle.policy.specs.Number.{states, numberOf}
@@ -22,6 +22,7 @@ use Rattle.policy.specs.Numbered.{numberOf-start}
 use Rattle.policy.specs.Checked.{checked-file}
 use Rattle.policy.specs.ReadBack.{all-zeros}
 use Rattle.enforcer.specs.State.{placeIn, stateOf, clocksGood, stateGood, isMarked}
+use Rattle.enforcer.specs.States.{good-inside, marks-granted, state-granted}
 use Rattle.enforcer.specs.Tick.{Ran, inputChoice, outputTick, ran}
 use Rattle.enforcer.specs.Entries.{eventOf, byteOf, chosen, outputFrom, runFrom, marksRefusal, xGood, yGood, eventGood, stateRefusal, inputRefusal, inputOf, outputRefusal, outputOf, runRefusal, runOf}
 use Rattle.prepare.specs.Table.{marksOf}
@@ -56,21 +57,6 @@ stuck-17 s out zero r h e = (refl, go (r .stuck) e)
     go false e = absurd (omega arith)
 stuck-17 s out (suc n) r h e = absurd (omega arith)
 
-below-cons : {c v : ℕ} (cs vs : List ℕ) → v ≤ c → ((i : ℕ) → getD vs i 0 ≤ getD cs i 0) → (i : ℕ) → getD (v ∷ vs) i 0 ≤ getD (c ∷ cs) i 0
-below-cons cs vs h f zero = h
-below-cons cs vs h f (suc i) = f i
-
-clocks-inside :
-    (cs vs : List ℕ) → clocksGood cs vs ≡ true →
-    (length (take (length cs) vs) ≡ length cs) × ((i : ℕ) → getD (take (length cs) vs) i 0 ≤ getD cs i 0)
-unfolding clocksGood
-clocks-inside [] vs e = (refl, λ i. zero-le)
-clocks-inside (c ∷ cs) [] e = absurd (false≢true e)
-clocks-inside (c ∷ cs) (v ∷ vs) e =
-    let k = and-eq-true-iff (leb v c) _ .0 e in
-    let r = clocks-inside cs vs (k .1) in
-    (ap suc (r .0), below-cons cs (take (length cs) vs) (leb-true _ _ (k .0)) (r .1))
-
 clocks-good :
     (cs vs : List ℕ) (n : ℕ) → length vs ≡ length cs → ((i : ℕ) → getD vs i 0 ≤ getD cs i 0) → clocksGood cs (vs ++ replicate n 0) ≡ true
 unfolding clocksGood
@@ -81,14 +67,7 @@ clocks-good (c ∷ cs) (v ∷ vs) n e h =
     and-eq-true-iff (leb v c) _ .1 (le-leb v c (h 0), clocks-good cs vs n (omega arith) (λ i. h (suc i)))
 
 module _ (p : Policy) where
-  -- A state that is not out of range is a place of the policy, and the other way round.
-  pub good-inside : (s : Place) → stateGood p s ≡ true → Inside p (placeIn p s)
-  unfolding stateGood
-  good-inside s e =
-      let k = and-eq-true-iff (ltb (s .location) (p .locations)) _ .0 e in
-      let c = clocks-inside (p .ceilings) (s .clocks) (k .1) in
-      record { location = ltb-true _ _ (k .0); clocks = c .0; stopped = c .1 }
-
+  -- A place of the policy is a state that is not out of range.
   pub inside-good : (t : Place) → Inside p t → stateGood p (stateOf t) ≡ true
   unfolding stateGood
   inside-good t i =
@@ -120,25 +99,9 @@ module _ (file marks : List ℕ) where
       let y : yGood file (byteOf e / 16) ≡ true = ap (λ (d : Event). yGood file (d .y)) k ∙ lt-ltb _ _ (f .y) in
       rw (x, y) (fits-good ok h)
 
-  pub marks-granted : (marksRefusal file marks ≡ 0) ↔ ((refusalOf file ≡ 0) × (states (policyOf file) ≤ length marks))
-  unfolding marksRefusal
-  marks-granted = (
-    λ e. let k = none-refused (refusalOf file) _ .0 e in (k .0, leb-true _ _ (none-unless _ 9 .0 (k .1))),
-    λ k. none-refused (refusalOf file) _ .1 (k .0, none-unless _ 9 .1 (le-leb _ _ (k .1))),
-  )
-
   module _ (s : Place) where
-    pub state-granted :
-        (stateRefusal file marks s ≡ 0)
-        ↔ ((stateGood (policyOf file) s ≡ true) × (isMarked marks (numberOf (policyOf file) (placeIn (policyOf file) s)) ≡ true))
-    unfolding stateRefusal
-    state-granted = (
-      λ e. let k = none-refused (unless (stateGood (policyOf file) s) 16) _ .0 e in (none-unless _ 15 .0 (k .0), none-unless _ 15 .0 (k .1)),
-      λ k. none-refused (unless (stateGood (policyOf file) s) 16) _ .1 (none-unless _ 15 .1 (k .0), none-unless _ 15 .1 (k .1)),
-    )
-
     pub state-ready : stateRefusal file marks s ≡ 0 → Ready (policyOf file) marks (placeIn (policyOf file) s)
-    state-ready e = let k = state-granted .0 e in record { inside = good-inside (policyOf file) s (k .0); marked = k .1 }
+    state-ready e = let k = state-granted file marks s .0 e in record { inside = good-inside (policyOf file) s (k .0); marked = k .1 }
 
     state-16 : (t : Bool) → (stateRefusal file marks s orElse unless t 15) ≤ 16
     unfolding stateRefusal
@@ -192,7 +155,7 @@ module _ (file marks : List ℕ) where
 
   pub ready-state : (t : Place) → Ready (policyOf file) marks t → stateRefusal file marks (stateOf t) ≡ 0
   ready-state t k =
-      state-granted (stateOf t) .1 (
+      state-granted file marks (stateOf t) .1 (
         inside-good (policyOf file) t (k .inside),
         ap (λ (z : Place). isMarked marks (numberOf (policyOf file) z)) (place-back (policyOf file) t (k .inside)) ∙ k .marked,
       )

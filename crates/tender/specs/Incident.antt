@@ -24,7 +24,8 @@ use Rattle.prepare.specs.Table.{roundsBy, roundBy, goesOn, tab}
 use Rattle.prepare.specs.Entry.{preparedMarks}
 use Rattle.prepare.specs.Enforces.{Ready}
 use Rattle.tender.specs.Samples.{K}
-use Rattle.tender.specs.Granted.{marks-granted, prepared-granted, run-ready}
+use Rattle.enforcer.specs.States.{marks-granted}
+use Rattle.tender.specs.Granted.{prepared-granted, run-ready}
 use Rattle.tender.specs.Demand2.{fromStart}
 
 -- n quiet ticks, and then the event b.

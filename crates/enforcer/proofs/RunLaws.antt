@@ -1,0 +1,139 @@
+-- What the proofs of the run cite: where its loop stands, a turn, and the two ends; and that a state in range is that of its place.
+use mathlib.Core.Path.{_≡_, refl, sym, ap, ap₂, _∙_}
+use mathlib.Core.Bool.{Bool, true, false, cond, and-eq-true-iff, false≢true}
+use mathlib.Core.List.{List, [], _∷_, _++_, map}
+use Prim.Native.Nat.{ℕ, zero, suc, _+_, _-_, _*_, _≤_, _<_, zero-le}
+use native.Mathlib.Nat.{add-zero, zero-add, sub-zero, suc-sub-suc}
+use native.Mathlib.Numerals.{add-one}
+use native.Mathlib.Omega.{arith}
+use lib.Dec.{leb, ltb, eqb}
+use lib.ListN.{length, getD, take, drop, set, replicate, length-set, take-append-drop, drop-of-length-le}
+use lib.Seq.{drop-cons, append-snoc, drop-set-lt, take-suc-set}
+use borrow.Author.Tests.{eqb-true}
+use Rattle.policy.specs.Rules.{Policy}
+use Rattle.policy.specs.File.{policyOf}
+use Rattle.policy.specs.Check.{all}
+use Rattle.policy.specs.Stays.{of-some}
+use Rattle.policy.specs.Sound.{Inside}
+use Rattle.policy.specs.declared.Layout.{Layout}
+use Rattle.enforcer.specs.State.{stateOf, clocksGood, stateGood}
+use Rattle.enforcer.specs.Tick as Spec
+use Rattle.enforcer.specs.Ticks.{ticked, ticked-fits, ran-on, ran-none}
+use Rattle.enforcer.specs.Entries.{eventOf, byteOf, RunAnswer, runFrom, runRefusal, runOf}
+use Rattle.enforcer.specs.Code.{asPlace, place, stateFrom}
+use Rattle.enforcer.specs.Ready.{Laid, Standing}
+use Rattle.enforcer.specs.Laid.{laid-clocks, laid-inputs, laid-outputs, place-back, next-inside}
+use Rattle.enforcer.specs.States.{good-inside}
+use Rattle.enforcer.specs.Chosen.{tickFrom, tick-none, tick-some}
+use Rattle.enforcer.specs.Promises.{RunPromise, ranSaid}
+use Rattle.enforcer.specs.declared.state.State.{State}
+use Rattle.enforcer.specs.declared.tick.Ticked.{Ticked}
+use Rattle.enforcer.specs.declared.runs.Ran.{Ran}
+
+-- What a run answers that has written i events to `out` and goes on as r.
+abbrev goesOn : ℕ → List ℕ → Spec.Ran → RunAnswer
+goesOn i out r =
+    record {
+      refusal = cond (r .stuck) 17 0;
+      count = i + length (r .released);
+      state = stateOf (r .place);
+      out = take i out ++ (map byteOf (r .released) ++ drop (i + length (r .released)) out);
+    }
+
+goes-put : (p : Policy) (marks : List ℕ) (t : Spec.Tick) (r : Spec.Ran) (i : ℕ) (out : List ℕ) → i < length out →
+    goesOn i out (Spec.put p marks t r) ≡ goesOn (suc i) (set out i (byteOf (t .event))) r
+goes-put p marks t r i out h =
+    let n : i + suc (length (r .released)) ≡ suc i + length (r .released) = omega arith in
+    rw (n, drop-set-lt (suc i + length (r .released)) out i (byteOf (t .event)) (omega arith), take-suc-set, append-snoc)
+
+goes-ends : (i : ℕ) (out : List ℕ) (k : ℕ) (s : State) (b : Bool) → stateFrom (place k s) ≡ s →
+    goesOn i out (record { released = []; place = place k s; stuck = b }) ≡ ranSaid (record { refusal = cond b 17 0; count = i; state = s }) out
+goes-ends i out k s b w =
+    rw (add-zero, take-append-drop) (ap (λ (u : State). ranSaid (record { refusal = cond b 17 0; count = i; state = u }) out) w)
+
+-- A run from s₀ over the events has written the first i that it releases to `out`, and stands in s.
+pub record Going (f : List ℕ) (l : Layout) (marks events out₀ : List ℕ) (s₀ : State) (i : ℕ) (out : List ℕ) (s : State) : Type 0 where
+  pub most : i ≤ length events
+  pub long : length out ≡ length out₀
+  pub standing : Standing f l marks s
+  pub whole : stateFrom (place (l .clocks) s) ≡ s
+  pub answer :
+      runFrom (asPlace s₀) out₀ 0 (Spec.ran (policyOf f) marks (place (l .clocks) s₀) (map eventOf events))
+      ≡ goesOn i out (Spec.ran (policyOf f) marks (place (l .clocks) s) (map eventOf (drop i events)))
+
+pub going-starts : {f : List ℕ} {l : Layout} {marks : List ℕ} (events out : List ℕ) {s : State} → Standing f l marks s → stateFrom (place (l .clocks) s) ≡ s →
+    Going f l marks events out s 0 out s
+going-starts events out k w = record { most = zero-le; long = refl; standing = k; whole = w; answer = rw zero-add }
+
+module _ {f : List ℕ} {l : Layout} {marks events out₀ : List ℕ} {s₀ : State} {i : ℕ} {out : List ℕ} {s : State}
+    (g : Going f l marks events out₀ s₀ i out s) where
+  abbrev said : ℕ → Type 0
+  said n =
+      ranSaid (record { refusal = n; count = i; state = s }) out
+      ≡ runFrom (asPlace s₀) out₀ 0 (Spec.ran (policyOf f) marks (place (l .clocks) s₀) (map eventOf events))
+
+  pub going-ends : length events ≤ i → said 0
+  unfolding Spec.ran
+  going-ends h = sym (g .answer ∙ rw (drop-of-length-le events) (goes-ends i out (l .clocks) s false (g .whole)))
+
+  -- By the answer r of the tick at the event i.
+  module _ (h : i < length events) {r : Ticked}
+      (e : r ≡ tickFrom s (Spec.tick (policyOf f) marks (place (l .clocks) s) (eventOf (getD events i 0)))) where
+    pub going-stuck : r .released ≡ false → said 17
+    going-stuck n =
+        sym (g .answer ∙ rw (drop-cons events i 0, ran-none _ _ _ _ _ (tick-none s _ e n)) (goes-ends i out (l .clocks) s true (g .whole)))
+
+    pub going-turn : r .released ≡ true → i < length out →
+        (r .x < 16) × (r .y < 16) × Going f l marks events out₀ s₀ (i + 1) (set out i (r .x + r .y * 16)) (r .state)
+    going-turn n o =
+        let k = g .standing .laid in
+        let t = tick-some s _ e n in
+        let p = ticked (policyOf f) marks (place (l .clocks) s) (eventOf (getD events i 0)) (t .0) (t .1) in
+        let z = ticked-fits (policyOf f) marks (place (l .clocks) s) p in
+        let d = of-some (Inside (policyOf f)) (p .moves) (next-inside k s (t .0 .event) (g .standing .inside)) in
+        let b = place-back k d in
+        rw (t .2) (
+          omega (arith, z, laid-inputs k),
+          omega (arith, z, laid-outputs k),
+          record {
+            most = omega arith;
+            long = length-set out i _ ∙ g .long;
+            standing = record { laid = k; enough = g .standing .enough; inside = rw b d };
+            whole = ap stateFrom b;
+            answer =
+                g .answer
+                ∙ rw (b, add-one, drop-cons events i 0, ran-on _ _ _ _ _ _ (t .1))
+                (goes-put (policyOf f) marks (t .0) (Spec.ran (policyOf f) marks (t .0 .place) (map eventOf (drop (suc i) events))) i out o);
+          },
+        )
+
+zeros : (vs : List ℕ) → all (eqb 0) vs ≡ true → replicate (length vs) 0 ≡ vs
+unfolding all
+zeros [] e = refl
+zeros (v ∷ vs) e = let k = and-eq-true-iff (eqb 0 v) _ .0 e in ap₂ {C = List ℕ} _∷_ (eqb-true 0 v (k .0)) (zeros vs (k .1))
+
+clocks-back : (cs vs : List ℕ) → clocksGood cs vs ≡ true → take (length cs) vs ++ replicate (length vs - length cs) 0 ≡ vs
+unfolding clocksGood
+clocks-back [] vs e = rw sub-zero (zeros vs e)
+clocks-back (c ∷ cs) [] e = absurd (false≢true e)
+clocks-back (c ∷ cs) (v ∷ vs) e = rw suc-sub-suc (ap (_∷_ v) (clocks-back cs vs (and-eq-true-iff (leb v c) _ .0 e .1)))
+
+-- A state whose unused clocks are 0 is that of its place.
+pub good-back : {f : List ℕ} {l : Layout} → Laid f l → (s : State) → length (s .clocks) ≡ 4 → stateGood (policyOf f) (asPlace s) ≡ true →
+    stateFrom (place (l .clocks) s) ≡ s
+unfolding stateGood
+good-back {f} {l} k s n e =
+    let cs = policyOf f .ceilings in
+    let g = and-eq-true-iff (ltb (s .location) (policyOf f .locations)) _ .0 e .1 in
+    let i = good-inside (policyOf f) (asPlace s) e .clocks in
+    ap (λ (vs : List ℕ). record { location = s .location; clocks = vs }) (rw (laid-clocks k, i, ← n) (clocks-back cs (s .clocks) g))
+
+-- A refusal is answered with the state that was given, and nothing is written.
+pub run-refused : {file marks events out : List ℕ} {s : State} {r : Ran} {n : ℕ} → r ≡ record { refusal = n; count = 0; state = s } → (n ≡ 0 → ⊥) →
+    runRefusal file marks (asPlace s) events out ≡ n → RunPromise file marks s events out r out
+unfolding runOf
+run-refused {out = out} {s = s} {n = n} e h k = record { said = rw (e, k) (go n h _) }
+  where
+    go : (m : ℕ) → (m ≡ 0 → ⊥) → (q : Spec.Ran) → record { refusal = m; count = 0; state = asPlace s; out = out } ≡ runFrom (asPlace s) out m q
+    go zero h q = absurd (h refl)
+    go (suc m) h q = refl

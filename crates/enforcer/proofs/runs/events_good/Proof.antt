@@ -1,0 +1,100 @@
+-- `enforcer::runs::events_good` meets its contract. The loop's invariant: the events are good exactly if those from i on are.
+use mathlib.Core.Path.{_≡_, sym, _∙_}
+use mathlib.Core.Bool.{_&&_}
+use Prim.Native.Nat.{_+_, _-_, _≤_}
+use native.Mathlib.Omega.{arith}
+use lib.ListN.{length, getD, drop}
+use denote.Ref.{now}
+use borrow.Author.Needs.{needs}
+use borrow.Author.Tests.{lt-ltb, le-ltb}
+use Rattle.policy.specs.Rules.{inputValues, outputValues}
+use Rattle.policy.specs.File.{policyOf}
+use Rattle.policy.specs.Check.{all}
+use Rattle.policy.proofs.Laws.{all-turn, all-end}
+use Rattle.enforcer.specs.Entries.{eventGood}
+use Rattle.enforcer.specs.Laid.{laid-limits, laid-inputs, laid-outputs}
+use Rattle.enforcer.proofs.runs.events_good.Statement.{statement}
+use Rattle.enforcer.proofs.runs.events_good.Tie as tie
+
+abbrev Inv-loop : tie.InvT-loop
+Inv-loop file events inputs outputs i₀ i = (i ≤ length events) × (all (eventGood file) events ≡ all (eventGood file) (drop i events))
+
+abbrev μ-loop : tie.MeasureT-loop
+μ-loop file events inputs outputs i₀ i = length events - i
+
+-- The values counted are those of the inputs and of the outputs.
+counted : (c : tie.After-values2 Inv-loop μ-loop) →
+    let p = policyOf (now (c .before .before .before .before .args .file)) in
+    (c .before .values .result ≡ inputValues p) × (c .values2 .result ≡ outputValues p)
+counted c =
+    let k = c .before .before .before .before .pre in
+    (c .before .values .ensures ∙ laid-inputs k .0, c .values2 .ensures ∙ laid-outputs k .0)
+
+-- The events are good if the event i is and those after it are.
+turn : (c : tie.In-loop Inv-loop μ-loop) →
+    let a = c .before .before .before .before .before .before .args in
+    let i = c .before .loop .i in
+    all (eventGood (now (a .file))) (now (a .events))
+    ≡ (eventGood (now (a .file)) (getD (now (a .events)) i 0) && all (eventGood (now (a .file))) (drop (i + 1) (now (a .events))))
+turn c = c .before .loop .inv .1 ∙ all-turn _ _ _ (c .loop-test .taken)
+
+values-requires : tie.Need-values-requires Inv-loop μ-loop
+values-requires c κs = laid-limits (c .before .before .pre) .0
+
+values-requires-2 : tie.Need-values-requires-2 Inv-loop μ-loop
+values-requires-2 c κs = laid-limits (c .before .before .before .pre) .1
+
+loop-holds : tie.Need-loop-holds Inv-loop μ-loop
+loop-holds c = search needs
+
+shared-slice-read-event : tie.Need-shared-slice-read-event Inv-loop μ-loop
+shared-slice-read-event c = search needs
+
+cast-event : tie.Need-cast-event Inv-loop μ-loop
+cast-event c = omega (arith, c .shared-slice-known3 .given (c .before .before .loop .i))
+
+returns : tie.Need-returns Inv-loop μ-loop
+returns c =
+    let l = c .before .before in
+    rw (turn l, le-ltb _ _ (rw (counted (l .before .before) .0) at (c .if1 .taken)))
+
+returns-2 : tie.Need-returns-2 Inv-loop μ-loop
+returns-2 c =
+    let l = c .before .before .before in
+    let k = counted (l .before .before) in
+    rw (turn l, lt-ltb _ _ (rw (k .0) at (c .before .if1 .left)), le-ltb _ _ (rw (k .1) at (c .if2 .taken)))
+
+add-i : tie.Need-add-i Inv-loop μ-loop
+add-i c = search needs
+
+loop-less : tie.Need-loop-less Inv-loop μ-loop
+loop-less c = search needs
+
+loop-again : tie.Need-loop-again Inv-loop μ-loop
+loop-again c =
+    let l = c .before .before .before in
+    let k = counted (l .before .before) in (
+      omega arith,
+      turn l ∙ rw (lt-ltb _ _ (rw (k .0) at (c .before .if1 .left)), lt-ltb _ _ (rw (k .1) at (c .if2 .left))),
+    )
+
+returns-3 : tie.Need-returns-3 Inv-loop μ-loop
+returns-3 c = sym (c .before .loop .inv .1 ∙ all-end _ _ _ (c .loop-test .left))
+
+pub events-good-spec : {M : Type 1} → statement M
+events-good-spec =
+    tie.close
+    (tie.spec
+    Inv-loop
+    μ-loop
+    values-requires
+    values-requires-2
+    loop-holds
+    shared-slice-read-event
+    cast-event
+    returns
+    returns-2
+    add-i
+    loop-less
+    loop-again
+    returns-3)

@@ -1,0 +1,142 @@
+-- `enforcer::runs::run` meets its contract: at each return the refusals before it are none.
+use mathlib.Core.Path.{_≡_, sym, _∙_}
+use Prim.Native.Nat.{_≤_}
+use native.Mathlib.Omega.{arith}
+use lib.ListN.{length}
+use denote.Ref.{now}
+use borrow.Author.Needs.{needs}
+use borrow.Author.Tests.{le-leb, lt-leb, not-true, not-false}
+use Rattle.streams.specs.Answer.{unless, first-refused}
+use Rattle.policy.specs.File.{policyOf}
+use Rattle.policy.specs.Number.{states}
+use Rattle.policy.specs.Check.{all}
+use Rattle.enforcer.specs.Entries.{eventGood, marksRefusal, stateRefusal, runRefusal, runOf}
+use Rattle.enforcer.specs.Code.{asPlace}
+use Rattle.enforcer.specs.Ready.{Laid}
+use Rattle.enforcer.specs.Laid.{laid-place}
+use Rattle.enforcer.specs.States.{state-granted, granted-laid, granted-standing}
+use Rattle.enforcer.proofs.RunLaws.{good-back, run-refused}
+use Rattle.enforcer.proofs.runs.run.Statement.{statement}
+use Rattle.enforcer.proofs.runs.run.Tie as tie
+
+clocks : (c : tie.Start) → length (c .args .state .clocks) ≡ 4
+clocks c = search needs
+
+abbrev start : tie.Else1 → tie.Start
+start c = c .before .before .before .before .before .before .before
+
+-- No refusal up to 10, so the file has the layout, and there are marks enough.
+none1 : (c : tie.Else1) → let a = start c .args in marksRefusal (now (a .file)) (now (a .marks)) ≡ 0
+none1 c = sym (c .before .marks-refusal .ensures) ∙ c .if1 .left
+
+laid : (c : tie.Else1) →
+    let a = start c .args in
+    Laid (now (a .file)) (c .before .before .check .result .layout) × (states (policyOf (now (a .file))) ≤ length (now (a .marks)))
+laid c = granted-laid _ (c .before .before .check .ensures .said) (none1 c)
+
+-- No 16, and only 15 is left to ask.
+none3 : (c : tie.Else3) →
+    let a = start (c .before .before .before .before) .args in
+    stateRefusal (now (a .file)) (now (a .marks)) (asPlace (a .state)) ≡ 0
+none3 c = sym (c .before .state-refusal .ensures) ∙ c .if3 .left
+
+past : (c : tie.Else3) →
+    let a = start (c .before .before .before .before) .args in
+    runRefusal (now (a .file)) (now (a .marks)) (asPlace (a .state)) (now (a .events)) (now (a .out))
+    ≡ unless (all (eventGood (now (a .file))) (now (a .events))) 15
+unfolding runRefusal
+past c =
+    let l = c .before .before .before in
+    rw (none1 (l .before), le-leb _ _ (l .if2 .left), none3 c)
+
+check-requires : tie.Need-check-requires
+check-requires c κs = search needs
+
+marks-refusal-requires : tie.Need-marks-refusal-requires
+marks-refusal-requires c κs = search needs
+
+refused-requires : tie.Need-refused-requires
+refused-requires c κs = search needs
+
+returns : tie.Need-returns
+unfolding runRefusal
+returns c =
+    let t = c .before .if1 .taken in
+    run-refused (c .refused .ensures) t (rw (← c .before .before .marks-refusal .ensures) (first-refused _ _ t))
+
+refused-requires-2 : tie.Need-refused-requires-2
+refused-requires-2 c κs = search needs
+
+returns-2 : tie.Need-returns-2
+unfolding runRefusal
+returns-2 c = run-refused (c .refused2 .ensures) (λ z. omega arith) (rw (none1 (c .before .before), lt-leb _ _ (c .before .if2 .taken)))
+
+state-refusal-requires : tie.Need-state-refusal-requires
+state-refusal-requires c κs = laid (c .before .before)
+
+refused-requires-3 : tie.Need-refused-requires-3
+refused-requires-3 c κs = search needs
+
+returns-3 : tie.Need-returns-3
+unfolding runRefusal
+returns-3 c =
+    let t = c .before .if3 .taken in
+    let r = c .before .before in
+    let l = r .before .before in
+    run-refused (c .refused3 .ensures) t
+    (rw (none1 (l .before), le-leb _ _ (l .if2 .left), ← r .state-refusal .ensures) (first-refused _ _ t))
+
+events-good-requires : tie.Need-events-good-requires
+events-good-requires c κs = laid (c .before .before .before .before) .0
+
+refused-requires-4 : tie.Need-refused-requires-4
+refused-requires-4 c κs = search needs
+
+returns-4 : tie.Need-returns-4
+unfolding runRefusal
+returns-4 c =
+    let g = c .before .before in
+    let e = sym (g .events-good .ensures) ∙ not-true _ (c .before .if4 .taken) in
+    run-refused (c .refused4 .ensures) (λ z. omega arith) (rw (past (g .before), e))
+
+release-requires : tie.Need-release-requires
+release-requires c κs =
+    let g = c .before .before in
+    let l = g .before .before .before .before in
+    let s = start (l .before) in
+    let k = laid (l .before) in
+    let z = none3 (g .before) in (
+      (granted-standing k z, good-back (k .0) _ (clocks s) (state-granted _ _ _ .0 z .0)),
+      (l .if2 .left, sym (g .events-good .ensures) ∙ not-false _ (c .before .if4 .left)),
+    )
+
+same-length : tie.Need-same-length
+same-length c = search needs
+
+returns-5 : tie.Need-returns-5
+unfolding runOf
+returns-5 c =
+    let r = c .before .before in
+    let g = r .before .before .before in
+    let e = sym (g .events-good .ensures) ∙ not-false _ (r .before .before .if4 .left) in
+    record { said = rw (past (g .before), e, ← laid-place (laid (g .before .before .before .before .before) .0) _) (r .release .ensures) }
+
+pub run-spec : {M : Type 1} → statement M
+run-spec =
+    tie.close
+    (tie.spec
+    check-requires
+    marks-refusal-requires
+    refused-requires
+    returns
+    refused-requires-2
+    returns-2
+    state-refusal-requires
+    refused-requires-3
+    returns-3
+    events-good-requires
+    refused-requires-4
+    returns-4
+    release-requires
+    same-length
+    returns-5)

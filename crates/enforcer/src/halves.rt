@@ -1,0 +1,145 @@
+// The input half, and the output half by value.
+use crate::choose::Choice;
+use crate::reach::own_of;
+use crate::reach::values;
+use crate::state::State;
+use crate::tick::choose_input;
+use crate::tick::output_tick;
+use policy::Checked;
+use policy::Layout;
+ghost use mathlib.Core.Path.{_≡_};
+ghost use Prim.Native.Nat.{_≤_};
+ghost use lib.ListN.{length};
+ghost use Rattle.policy.specs.Number.{states};
+ghost use Rattle.policy.specs.File.{policyOf};
+ghost use Rattle.policy.specs.Layout.{checkedOf};
+ghost use Rattle.enforcer.specs.State.{stateGood};
+ghost use Rattle.enforcer.specs.Entries.{marksRefusal, stateRefusal};
+ghost use Rattle.enforcer.specs.Code.{asPlace};
+ghost use Rattle.enforcer.specs.Ready.{Laid};
+ghost use Rattle.enforcer.specs.Promises.{InputPromise, OutputPromise};
+
+pub enum Answer {
+    Value(u8),
+    Refused(u8),
+}
+
+// What the output half hands back: where it refuses, the state it was given.
+pub struct Output {
+    pub answer: Answer,
+    pub state: State,
+}
+
+// 1 to 9 as the check has it, then 10.
+pub fn marks_refusal(file: &[u8], checked: Checked, marks: &[u8]) -> u8
+    requires { ⌜ checked ≡ checkedOf (now file) ⌝ }
+    ensures { λ r. ⌜ r ≡ marksRefusal (now (file .entry)) (now (marks .entry)) ⌝ }
+{
+    if checked.refusal != 0 {
+        return checked.refusal;
+    }
+    if marks.len() < checked.layout.states {
+        10
+    } else {
+        0
+    }
+}
+
+// The location and the clock values are in range. An unused clock has the ceiling 0.
+fn state_good(file: &[u8], layout: Layout, state: State) -> bool
+    requires { ⌜ Laid (now file) layout ⌝ }
+    ensures { λ r. ⌜ r ≡ stateGood (policyOf (now (file .entry))) (asPlace state) ⌝ }
+{
+    if layout.locations <= state.location as usize {
+        return false;
+    }
+    let ceilings = layout.ceilings;
+    let clocks = state.clocks;
+    let mut i = 0;
+    while i < 4 {
+        if ceilings[i] < clocks[i] {
+            return false;
+        }
+        i += 1;
+    }
+    true
+}
+
+// 16 where the state is not in range or not marked, else 0.
+pub fn state_refusal(file: &[u8], layout: Layout, marks: &[u8], state: State) -> u8
+    requires { ⌜ Laid (now file) layout × (states (policyOf (now file)) ≤ length (now marks)) ⌝ }
+    ensures { λ r. ⌜ r ≡ stateRefusal (now (file .entry)) (now (marks .entry)) (asPlace state) ⌝ }
+{
+    if !state_good(file, layout, state) {
+        return 16;
+    }
+    let ceilings = layout.ceilings;
+    let number = state.number(ceilings, layout.clocks);
+    if marks[number] == 1 { 0 } else { 16 }
+}
+
+pub fn input_half(file: &[u8], marks: &[u8], state: State, x: u8) -> Answer
+    ensures { λ r. ⌜ InputPromise (now (file .entry)) (now (marks .entry)) state x r ⌝ }
+{
+    let checked = policy::check(file);
+    let r = marks_refusal(file, checked, marks);
+    if r != 0 {
+        return Answer::Refused(r);
+    }
+    let layout = checked.layout;
+    let r = state_refusal(file, layout, marks, state);
+    if r != 0 {
+        return Answer::Refused(r);
+    }
+    if values(layout.inputs) <= x as usize {
+        return Answer::Refused(15);
+    }
+    let own = own_of(file, layout, state);
+    match choose_input(file, layout, own, marks, state, x) {
+        Choice::Value(z) => Answer::Value(z),
+        Choice::Nothing => Answer::Refused(17),
+    }
+}
+
+impl State {
+    // The state takes the x that was passed to the controller and its answer y, and hands back the next state.
+    pub fn output(self, file: &[u8], marks: &[u8], x: u8, y: u8) -> Output
+        ensures { λ r. ⌜ OutputPromise (now (file .entry)) (now (marks .entry)) self x y r ⌝ }
+    {
+        let checked = policy::check(file);
+        let r = marks_refusal(file, checked, marks);
+        if r != 0 {
+            return refused(self, r);
+        }
+        let layout = checked.layout;
+        let r = state_refusal(file, layout, marks, self);
+        if r != 0 {
+            return refused(self, r);
+        }
+        if values(layout.inputs) <= x as usize {
+            return refused(self, 15);
+        }
+        if values(layout.outputs) <= y as usize {
+            return refused(self, 15);
+        }
+        let own = own_of(file, layout, self);
+        let t = output_tick(file, layout, own, marks, self, x, y);
+        if !t.released {
+            return refused(self, 17);
+        }
+        let next = t.state;
+        Output {
+            answer: Answer::Value(t.y),
+            state: next,
+        }
+    }
+}
+
+fn refused(state: State, refusal: u8) -> Output
+    ensures { λ r. ⌜ r ≡ record { answer = Answer.Refused refusal; state = state } ⌝ }
+{
+    Output {
+        answer: Answer::Refused(refusal),
+        state,
+    }
+}

@@ -1,0 +1,116 @@
+// A run: many ticks.
+use crate::halves::marks_refusal;
+use crate::halves::state_refusal;
+use crate::reach::values;
+use crate::state::State;
+use crate::tick::tick;
+use policy::Layout;
+ghost use mathlib.Core.Path.{_≡_};
+ghost use mathlib.Core.Bool.{true};
+ghost use mathlib.Core.List.{map};
+ghost use Prim.Native.Nat.{ℕ, _≤_};
+ghost use lib.ListN.{length};
+ghost use Rattle.policy.specs.File.{policyOf};
+ghost use Rattle.policy.specs.Check.{all};
+ghost use Rattle.enforcer.specs.Tick.{ran};
+ghost use Rattle.enforcer.specs.Entries.{eventOf, eventGood, runFrom};
+ghost use Rattle.enforcer.specs.Code.{asPlace, place, stateFrom};
+ghost use Rattle.enforcer.specs.Ready.{Laid, Standing};
+ghost use Rattle.enforcer.specs.Promises.{RunPromise, ranSaid};
+
+// How many events were released and the state after them, with the refusal's number or 0.
+pub struct Ran {
+    pub refusal: u8,
+    pub count: usize,
+    pub state: State,
+}
+
+// No event has a bit beyond its signals.
+fn events_good(file: &[u8], layout: Layout, events: &[u8]) -> bool
+    requires { ⌜ Laid (now file) layout ⌝ }
+    ensures { λ r. ⌜ r ≡ all (eventGood (now (file .entry))) (now (events .entry)) ⌝ }
+{
+    let inputs = values(layout.inputs);
+    let outputs = values(layout.outputs);
+    let mut i = 0;
+    while i < events.len() {
+        let event = events[i] as usize;
+        if inputs <= event % 16 {
+            return false;
+        }
+        if outputs <= event / 16 {
+            return false;
+        }
+        i += 1;
+    }
+    true
+}
+
+// Releases one event for each one read, until nothing may stand.
+fn release(
+    file: &[u8],
+    layout: Layout,
+    marks: &[u8],
+    start: State,
+    events: &[u8],
+    out: &mut [u8],
+) -> Ran
+    requires { ⌜ Standing (now file) layout (now marks) start × (stateFrom (place (layout .clocks) start) ≡ start) ⌝ }
+    requires { ⌜ (length (now events) ≤ length (now out)) × (all (eventGood (now file)) (now events) ≡ true) ⌝ }
+    ensures { λ r. ⌜ ranSaid r (now (out .exit)) ≡ runFrom (asPlace start) (now (out .entry)) 0 (ran (policyOf (now (file .entry))) (now (marks .entry)) (place (layout .clocks) start) (map eventOf (now (events .entry)))) ⌝ }
+{
+    let mut state = start;
+    let mut i = 0;
+    while i < events.len() {
+        let event = events[i];
+        let t = tick(file, layout, marks, state, event % 16, event / 16);
+        if !t.released {
+            return Ran {
+                refusal: 17,
+                count: i,
+                state,
+            };
+        }
+        out[i] = t.x + t.y * 16;
+        let next = t.state;
+        state = next;
+        i += 1;
+    }
+    Ran {
+        refusal: 0,
+        count: i,
+        state,
+    }
+}
+
+pub fn run(file: &[u8], marks: &[u8], state: State, events: &[u8], out: &mut [u8]) -> Ran
+    ensures { λ r. ⌜ RunPromise (now (file .entry)) (now (marks .entry)) state (now (events .entry)) (now (out .entry)) r (now (out .exit)) ⌝ }
+{
+    let checked = policy::check(file);
+    let r = marks_refusal(file, checked, marks);
+    if r != 0 {
+        return refused(state, r);
+    }
+    if out.len() < events.len() {
+        return refused(state, 14);
+    }
+    let layout = checked.layout;
+    let r = state_refusal(file, layout, marks, state);
+    if r != 0 {
+        return refused(state, r);
+    }
+    if !events_good(file, layout, events) {
+        return refused(state, 15);
+    }
+    release(file, layout, marks, state, events, out)
+}
+
+fn refused(state: State, refusal: u8) -> Ran
+    ensures { λ r. ⌜ r ≡ record { refusal = refusal; count = 0; state = state } ⌝ }
+{
+    Ran {
+        refusal,
+        count: 0,
+        state,
+    }
+}
