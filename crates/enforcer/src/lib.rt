@@ -1,6 +1,7 @@
 // A state, one tick and many. What they answer stands in specs/.
 mod choose;
 mod halves;
+mod lent;
 mod matcher;
 mod next;
 mod own;
@@ -13,6 +14,7 @@ pub use halves::Answer;
 pub use halves::Output;
 pub use halves::input_half;
 pub use halves::marks_refusal;
+pub use lent::output_half;
 pub use next::Step;
 pub use own::Own;
 pub use reach::may_stand;

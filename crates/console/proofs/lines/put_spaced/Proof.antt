@@ -1,0 +1,36 @@
+-- `console::lines::put_spaced` meets its contract: the digits, then the space.
+use native.Mathlib.Omega.{arith}
+use lib.ListN.{length-append}
+use borrow.Author.Needs.{needs}
+use Rattle.console.specs.Wrote.{wrote-then}
+use Rattle.console.specs.Text.{ascii, decimal}
+use Rattle.console.proofs.lines.put_spaced.Statement.{statement}
+use Rattle.console.proofs.lines.put_spaced.Tie as tie
+
+put-decimal-requires : tie.Need-put-decimal-requires
+put-decimal-requires c κs = omega (arith, length-append (decimal (c .before .before .args .n)) (ascii " "))
+
+slice-aggregate-put-bytes : tie.Need-slice-aggregate-put-bytes
+slice-aggregate-put-bytes c = search needs
+
+put-bytes-requires : tie.Need-put-bytes-requires
+put-bytes-requires c κs =
+    let n = c .before .before .before .before .before .before .before .args .n in omega (arith, length-append (decimal n) (ascii " "))
+
+same-length : tie.Need-same-length
+same-length c = search needs
+
+returns : tie.Need-returns
+returns c =
+    let d = c .before .before .before .before .before .before .before in
+    wrote-then (omega arith) (d .put-decimal .ensures) (c .before .before .put-bytes .ensures)
+
+pub put-spaced-spec : {M : Type 1} → statement M
+put-spaced-spec =
+    tie.close
+    (tie.spec
+    put-decimal-requires
+    slice-aggregate-put-bytes
+    put-bytes-requires
+    same-length
+    returns)

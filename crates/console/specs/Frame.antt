@@ -1,0 +1,48 @@
+-- The input's frame: "a two-byte count (at most 5,974), the policy, a two-byte count (at most 16,384), the events".
+use mathlib.Core.List.{List}
+use Prim.Native.Nat.{ℕ, _+_, _*_}
+use lib.Dec.{leb}
+use lib.ListN.{length, getD, take, drop}
+use Rattle.streams.specs.Answer.{_orElse_, unless}
+use Rattle.console.specs.declared.frame.Part.{Part}
+
+-- "All two-byte numbers have the high byte first." Past the end stands 0.
+abbrev pub pairAt : List ℕ → ℕ → ℕ
+pairAt input at = getD input at 0 * 256 + getD input (at + 1) 0
+
+-- Of a count at `at` and the bytes that it counts: "count whole (1), within its limit (2), .. all there (1)".
+unfoldable pub countRefusal : List ℕ → (at most : ℕ) → ℕ
+countRefusal input at most =
+    unless (leb (at + 2) (length input)) 1 orElse unless (leb (pairAt input at) most) 2
+    orElse unless (leb (at + 2 + pairAt input at) (length input)) 1
+
+module _ (input : List ℕ) where
+  -- "first count whole (1), within its limit (2), policy bytes all there (1)"
+  abbrev pub policyFrameRefusal : ℕ
+  policyFrameRefusal = countRefusal input 0 5974
+
+  abbrev pub policyEnd : ℕ
+  policyEnd = 2 + pairAt input 0
+
+  abbrev pub policyPart : List ℕ
+  policyPart = take (pairAt input 0) (drop 2 input)
+
+  -- "second count whole (1), within its limit (2), events all there (1), nothing after them (8)"
+  abbrev pub eventsStart : ℕ
+  eventsStart = policyEnd + 2
+
+  abbrev pub eventsEnd : ℕ
+  eventsEnd = eventsStart + pairAt input policyEnd
+
+  abbrev pub eventsFrameRefusal : ℕ
+  eventsFrameRefusal = countRefusal input policyEnd 16384 orElse unless (leb (length input) eventsEnd) 8
+
+  abbrev pub eventsPart : List ℕ
+  eventsPart = take (pairAt input policyEnd) (drop eventsStart input)
+
+  -- The refusal, and where the part stands.
+  abbrev pub policyFramed : Part
+  policyFramed = record { refusal = policyFrameRefusal; start = 2; end = policyEnd }
+
+  abbrev pub eventsFramed : Part
+  eventsFramed = record { refusal = eventsFrameRefusal; start = eventsStart; end = eventsEnd }

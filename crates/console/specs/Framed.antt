@@ -1,0 +1,95 @@
+-- Laws of the frame: what is not refused is all there, and a policy and events that are put into a frame are read back.
+use mathlib.Core.Path.{_≡_, subst}
+use mathlib.Core.List.{List, [], _∷_, _++_, append-nil}
+use Prim.Native.Nat.{ℕ, _+_, _/_, _%_, _≤_}
+use native.Mathlib.Omega.{arith}
+use lib.Dec.{leb}
+use lib.ListN.{length, take, drop, length-append}
+use lib.Seq.{getD-append-seam, getD-append-add, take-append-seam, drop-append-add}
+use borrow.Author.Tests.{leb-true, le-leb}
+use Rattle.streams.specs.Answer.{unless, none-refused, none-unless}
+use Rattle.console.specs.Frame.{
+  pairAt,
+  countRefusal,
+  policyFrameRefusal,
+  policyEnd,
+  policyPart,
+  eventsFrameRefusal,
+  eventsStart,
+  eventsEnd,
+  eventsPart,
+}
+
+-- A count that is not refused is within its limit, and what it counts within the input.
+pub count-fits :
+    (input : List ℕ) (at most : ℕ) → countRefusal input at most ≡ 0 →
+    (pairAt input at ≤ most) × (at + 2 + pairAt input at ≤ length input)
+unfolding countRefusal
+count-fits input at most e =
+    let a = none-refused (unless (leb (at + 2) (length input)) 1) _ .0 e in
+    let b = none-refused (unless (leb (pairAt input at) most) 2) _ .0 (a .1) in
+    (leb-true _ _ (none-unless _ 1 .0 (b .0)), leb-true _ _ (none-unless _ 0 .0 (b .1)))
+
+-- The events end with the input.
+pub events-fit :
+    (input : List ℕ) → eventsFrameRefusal input ≡ 0 →
+    (pairAt input (policyEnd input) ≤ 16384) × (eventsEnd input ≡ length input)
+events-fit input e =
+    let a = none-refused (countRefusal input (policyEnd input) 16384) _ .0 e in
+    let fits = count-fits input (policyEnd input) 16384 (a .0) in
+    let none : length input ≤ eventsEnd input = leb-true _ _ (none-unless _ 7 .0 (a .1)) in
+    (fits .0, omega (arith, fits .1))
+
+-- The bytes stand in the input, after their count at `at`.
+record Stands (input : List ℕ) (at : ℕ) (bytes : List ℕ) : Type 0 where
+  count : pairAt input at ≡ length bytes
+  part : take (length bytes) (drop (at + 2) input) ≡ bytes
+  within : at + 2 + length bytes ≤ length input
+
+abbrev pub counted : List ℕ → List ℕ
+counted bytes = length bytes / 256 ∷ length bytes % 256 ∷ bytes
+
+stands : (before bytes after : List ℕ) → Stands (before ++ (counted bytes ++ after)) (length before) bytes
+stands before bytes after =
+    let high = getD-append-seam before (length bytes / 256) (length bytes % 256 ∷ bytes ++ after) 0 in
+    let low = getD-append-add before (counted bytes ++ after) 1 0 in
+    record {
+      count = omega arith;
+      part = rw drop-append-add (take-append-seam bytes after);
+      within = simp length-append (omega arith);
+    }
+
+accepted : {input : List ℕ} {at : ℕ} {bytes : List ℕ} (most : ℕ) → Stands input at bytes → length bytes ≤ most → countRefusal input at most ≡ 0
+unfolding countRefusal
+accepted {input} {at} {bytes} most s h =
+    rw (
+      s .count,
+      le-leb (at + 2) (length input) (omega (arith, s .within)),
+      le-leb (length bytes) most h,
+      le-leb (at + 2 + length bytes) (length input) (s .within),
+    )
+
+-- "a two-byte count (at most 5,974), the policy, a two-byte count (at most 16,384), the events"
+abbrev pub framed : (policy events : List ℕ) → List ℕ
+framed policy events = counted policy ++ counted events
+
+module _ (policy events : List ℕ) where
+  policy-stands : Stands (framed policy events) 0 policy
+  policy-stands = stands [] policy (counted events)
+
+  policy-end : length (counted policy) ≡ policyEnd (framed policy events)
+  policy-end = omega (arith, policy-stands .count)
+
+  events-stand : Stands (framed policy events) (policyEnd (framed policy events)) events
+  events-stand =
+      subst (λ (at : ℕ). Stands (framed policy events) at events) policy-end
+      (rw append-nil at (stands (counted policy) events []))
+
+  pub policy-read : length policy ≤ 5974 → (policyFrameRefusal (framed policy events) ≡ 0) × (policyPart (framed policy events) ≡ policy)
+  policy-read h = (accepted 5974 policy-stands h, rw (policy-stands .count) (policy-stands .part))
+
+  pub events-read : length events ≤ 16384 → (eventsFrameRefusal (framed policy events) ≡ 0) × (eventsPart (framed policy events) ≡ events)
+  events-read h =
+      let e = events-stand in
+      let n : length (framed policy events) ≤ eventsStart (framed policy events) + length events = omega (arith, policy-end, length-append (counted policy) (counted events)) in
+      (rw (accepted 16384 e h, e .count, le-leb _ _ n), rw (e .count) (e .part))

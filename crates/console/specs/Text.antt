@@ -1,0 +1,73 @@
+-- What `enforce` prints, as bytes.
+use mathlib.Core.Path.{_≡_, refl}
+use mathlib.Core.Bool.{cond}
+use mathlib.Core.List.{List, [], _∷_, _++_}
+use Prim.Native.Nat.{ℕ, zero, suc, _+_, _/_, _%_}
+use Prim.Native.Char.{code}
+use Prim.Native.String.{String, [] as none, _∷_ as _before_}
+use lib.Dec.{ltb, eqb}
+
+-- A text that is written out, a byte for each character.
+abbrev pub ascii : String → List ℕ
+ascii none = []
+ascii (c before rest) = code c ∷ ascii rest
+
+-- "in decimal": the digits of n, at most k of them in front of the last.
+abbrev pub digit : ℕ → ℕ
+digit n = code "0" + n % 10
+
+unfoldable pub digits : (k n : ℕ) → List ℕ
+digits zero n = digit n ∷ []
+digits (suc k) n = cond (ltb n 10) [] (digits k (n / 10)) ++ (digit n ∷ [])
+
+unfoldable pub decimal : ℕ → List ℕ
+decimal n = digits n n
+
+-- A label and a number; a number and a space.
+abbrev pub labelled : String → ℕ → List ℕ
+labelled label n = ascii label ++ decimal n
+
+abbrev pub spaced : ℕ → List ℕ
+spaced n = decimal n ++ ascii " "
+
+-- "one line for the verdict, the states and the live states"
+unfoldable pub verdictLine : (verdict states live : ℕ) → List ℕ
+verdictLine verdict states live =
+    labelled "verdict " verdict ++ labelled " states " states ++ labelled " live " live ++ ascii "\n"
+
+-- "A refusal prints one line only, as `refused 11`. Every line ends with one line feed."
+unfoldable pub refusedLine : ℕ → List ℕ
+refusedLine n = labelled "refused " n ++ ascii "\n"
+
+-- "two letters for input and output, F forwarded or E edited"
+abbrev pub letter : (given released : ℕ) → ℕ
+letter given released = cond (eqb given released) (code "F") (code "E")
+
+-- "for each event, in decimal: tick from 1, x, y, x', y'; then two letters"
+abbrev pub halves : (x y : ℕ) → List ℕ
+halves x y = spaced x ++ spaced y
+
+unfoldable pub tickLine : (tick x y x′ y′ : ℕ) → List ℕ
+tickLine tick x y x′ y′ =
+    spaced tick ++ halves x y ++ halves x′ y′ ++ (letter x x′ ∷ letter y y′ ∷ ascii "\n")
+
+-- An event byte: "input x in the low four bits, output y in the high four".
+abbrev pub eventLine : (tick event released : ℕ) → List ℕ
+eventLine tick event released = tickLine tick (event % 16) (event / 16) (released % 16) (released / 16)
+
+-- A line for each event and what was released for it, the first at tick `from`.
+unfoldable pub tickLines : (from : ℕ) (events released : List ℕ) → List ℕ
+tickLines from [] released = []
+tickLines from (e ∷ events) [] = []
+tickLines from (e ∷ events) (r ∷ released) = eventLine from e r ++ tickLines (from + 1) events released
+
+-- The sample, T with the events 01 11, for which 00 10 is released:
+-- verdict 1 states 2 live 1
+-- 1 1 0 0 0 EF
+-- 2 1 1 0 1 EF
+pub sample : verdictLine 1 2 1 ++ tickLines 1 (1 ∷ 17 ∷ []) (0 ∷ 16 ∷ []) ≡
+    118 ∷ 101 ∷ 114 ∷ 100 ∷ 105 ∷ 99 ∷ 116 ∷ 32 ∷ 49 ∷ 32 ∷ 115 ∷ 116 ∷ 97 ∷ 116 ∷ 101 ∷ 115 ∷ 32 ∷ 50 ∷ 32 ∷ 108 ∷ 105 ∷ 118 ∷ 101 ∷ 32 ∷ 49 ∷ 10
+    ∷ 49 ∷ 32 ∷ 49 ∷ 32 ∷ 48 ∷ 32 ∷ 48 ∷ 32 ∷ 48 ∷ 32 ∷ 69 ∷ 70 ∷ 10
+    ∷ 50 ∷ 32 ∷ 49 ∷ 32 ∷ 49 ∷ 32 ∷ 48 ∷ 32 ∷ 49 ∷ 32 ∷ 69 ∷ 70 ∷ 10 ∷ []
+unfolding digits decimal verdictLine tickLine tickLines
+sample = refl
