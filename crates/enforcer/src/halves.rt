@@ -56,7 +56,7 @@ fn state_good(file: &[u8], layout: Layout, state: State) -> bool
     let ceilings = layout.ceilings;
     let clocks = state.clocks;
     let mut i = 0;
-    while i < 4 {
+    while i < State::CLOCKS {
         if ceilings[i] < clocks[i] {
             return false;
         }

@@ -7,6 +7,8 @@ pub mod Free
 pub mod Laws
 pub mod Entry
 pub mod Again
+pub mod Limits
 pub mod Written
-pub mod Turns
 pub mod Examples
+pub mod Lay
+pub mod Promise

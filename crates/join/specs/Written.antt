@@ -2,18 +2,22 @@
 use mathlib.Core.Path.{_≡_, refl}
 use mathlib.Core.Bool.{true}
 use mathlib.Core.List.{List}
+use mathlib.Core.Logic.{_↔_}
 use Prim.Native.Nat.{ℕ, _≤_}
 use lib.ListN.{length, take}
 use lib.Seq.{take-at}
 use borrow.Author.Tests.{leb-true}
+use Rattle.streams.specs.Stream.{Stream}
 use Rattle.streams.specs.Answer.{unless, none-refused, none-unless}
+use Rattle.policy.specs.Rules.{Permits}
 use Rattle.policy.specs.File.{policyOf}
 use Rattle.policy.specs.Check.{refusalOf}
 use Rattle.policy.specs.Sound.{WellFormed}
-use Rattle.policy.specs.Checked.{checked-file}
+use Rattle.policy.specs.Checked.{checked-file, well-sound}
 use Rattle.policy.specs.ReadBack.{read-back, written-passes}
 use Rattle.join.specs.Join.{join}
 use Rattle.join.specs.Joins.{Joins}
+use Rattle.join.specs.Steps.{permits-both, permits-join}
 use Rattle.join.specs.Entry.{sameSignals, joinFits, joinedFile, joinRefusal, joinedOut}
 use Rattle.join.specs.Again.{joins-of, join-well}
 
@@ -61,3 +65,12 @@ module _ (a b out : List ℕ) (e : joinRefusal a b out ≡ 0) where
   pub joined-written : take (length (joinedFile a b out)) (joinedOut a b out) ≡ joinedFile a b out
   unfolding joinedOut
   joined-written = rw e (take-at (joinedFile a b out) _ _ refl)
+
+  -- It permits what both permit.
+  pub joined-permits : (w : Stream) → Permits (policyOf (joinedFile a b out)) w ↔ (Permits (policyOf a) w × Permits (policyOf b) w)
+  joined-permits w =
+      let p = policyOf a in
+      let q = policyOf b in
+      let f = well-sound p (checked-file a (unrefused .first)) in
+      let g = well-sound q (checked-file b (unrefused .second)) in
+      rw joined-policy (permits-both p q f g joined-joins w, λ h. permits-join p q f g joined-joins w (h .0) (h .1))

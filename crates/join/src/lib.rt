@@ -1,1 +1,105 @@
 // Two policies are joined into one. What the join answers stands in specs/.
+mod counts;
+mod lay;
+mod rules;
+
+use crate::counts::counts_length;
+use crate::counts::lay_counts;
+use crate::counts::same_signals;
+use crate::counts::within_limits;
+use crate::rules::lay_rules;
+use policy::Layout;
+use policy::check;
+ghost use mathlib.Core.Path.{_≡_};
+ghost use Prim.Native.Nat.{_+_, _≤_, _<_, _^_};
+ghost use lib.ListN.{length};
+ghost use Rattle.join.specs.Entry.{joinedFile, writtenOver};
+ghost use Rattle.join.specs.Lay.{Laid, LayoutOf, Ready, joinedCount, joinedRules, countsLength};
+ghost use Rattle.join.specs.Promise.{JoinPromise};
+
+// The length written, or the refusal's number.
+pub enum Joined {
+    Length(usize),
+    Refused(u8),
+}
+
+// The rules of the join of two checked files, from the slice's start on.
+fn lay_joined(a: &[u8], x: Layout, b: &[u8], y: Layout, out: &mut [u8]) -> usize
+    requires { ⌜ Ready (now a) x (now b) y ⌝ }
+    ensures { λ r. ⌜ Laid (joinedRules (now (a .entry)) (now (b .entry))) (now (out .entry)) 0 (now (out .exit)) r ⌝ }
+    ensures { λ r. ⌜ r < 2 ^ 27 ⌝ }
+{
+    let start = x.rules_start;
+    let end = x.rules_end;
+    let other_start = y.rules_start;
+    let other_end = y.rules_end;
+    lay_rules(&a[start..end], x, &b[other_start..other_end], y, out)
+}
+
+// How many bytes they take: they are laid into a part with no bytes.
+fn rules_length(a: &[u8], x: Layout, b: &[u8], y: Layout, out: &mut [u8]) -> usize
+    requires { ⌜ Ready (now a) x (now b) y ⌝ }
+    ensures { λ r. ⌜ (r ≡ length (joinedRules (now (a .entry)) (now (b .entry)))) × (r < 2 ^ 27) × (now (out .exit) ≡ now (out .entry)) ⌝ }
+{
+    lay_joined(a, x, b, y, &mut out[..0])
+}
+
+// The counts, and the rules into the part of the slice that begins after them. The length written is handed back.
+fn write_joined(a: &[u8], x: Layout, b: &[u8], y: Layout, rules: usize, out: &mut [u8]) -> usize
+    requires { ⌜ Ready (now a) x (now b) y ⌝ }
+    requires { ⌜ (rules ≡ joinedCount (now a) (now b)) × (rules ≤ 256) × (countsLength x y + length (joinedRules (now a) (now b)) ≤ length (now out)) ⌝ }
+    ensures { λ r. ⌜ r ≡ length (joinedFile (now (a .entry)) (now (b .entry)) (now (out .entry))) ⌝ }
+    ensures { λ r. ⌜ now (out .exit) ≡ writtenOver (now (a .entry)) (now (b .entry)) (now (out .entry)) 0 ⌝ }
+{
+    let start = lay_counts(a, x, b, y, rules, out);
+    start + lay_joined(a, x, b, y, &mut out[start..])
+}
+
+// 13 where there are too many rules, 14 where the slice is too short; otherwise the join is written.
+fn join_within(a: &[u8], x: Layout, b: &[u8], y: Layout, out: &mut [u8]) -> Joined
+    requires { ⌜ Ready (now a) x (now b) y ⌝ }
+    ensures { λ r. ⌜ JoinPromise (now (a .entry)) (now (b .entry)) (now (out .entry)) r (now (out .exit)) ⌝ }
+{
+    let laid = rules_length(a, x, b, y, out);
+    let rules = laid / (7 + 4 * (x.clocks + y.clocks));
+    if 256 < rules {
+        return Joined::Refused(13);
+    }
+    if out.len() < counts_length(x, y) + laid {
+        return Joined::Refused(14);
+    }
+    Joined::Length(write_joined(a, x, b, y, rules, out))
+}
+
+// The two files are checked already: 12, 13, 14, or the join.
+fn join_checked(a: &[u8], x: Layout, b: &[u8], y: Layout, out: &mut [u8]) -> Joined
+    requires { ⌜ LayoutOf (now a) x × LayoutOf (now b) y ⌝ }
+    ensures { λ r. ⌜ JoinPromise (now (a .entry)) (now (b .entry)) (now (out .entry)) r (now (out .exit)) ⌝ }
+{
+    if !same_signals(a, x, b, y) {
+        return Joined::Refused(12);
+    }
+    if !within_limits(x, y) {
+        return Joined::Refused(13);
+    }
+    join_within(a, x, b, y, out)
+}
+
+// A by 1 to 9, B likewise, then 12, 13, 14. A refusal writes nothing, and bytes past the written part stay.
+pub fn join(a: &[u8], b: &[u8], out: &mut [u8]) -> Joined
+    ensures { λ r. ⌜ JoinPromise (now (a .entry)) (now (b .entry)) (now (out .entry)) r (now (out .exit)) ⌝ }
+{
+    let first = check(a);
+    let refusal = first.refusal;
+    if refusal != 0 {
+        return Joined::Refused(refusal);
+    }
+    let second = check(b);
+    let other = second.refusal;
+    if other != 0 {
+        return Joined::Refused(other);
+    }
+    let x = first.layout;
+    let y = second.layout;
+    join_checked(a, x, b, y, out)
+}

@@ -1,0 +1,98 @@
+-- `join::join_within` meets its contract: 13 and 14 leave the slice as it was, and otherwise the joined file is written.
+use mathlib.Core.Path.{ap}
+use Prim.Native.Nat.{ℕ, _<_}
+use native.Mathlib.Omega.{arith}
+use lib.ListN.{length}
+use denote.Ref.{now}
+use Rattle.policy.specs.File.{byteAt}
+use Rattle.join.proofs.FileLaws.{sizes, few, rules-counted, file-length, too-many, too-short, written}
+use borrow.Author.Needs.{needs}
+use Rattle.join.proofs.join_within.Statement.{statement}
+use Rattle.join.proofs.join_within.Tie as tie
+
+rules-length-requires : tie.Need-rules-length-requires
+rules-length-requires c κs = search needs
+
+add-rules : tie.Need-add-rules
+add-rules c = omega (arith, few (c .before .before .before .before .before .before .before .before .before .pre))
+
+mul-rules : tie.Need-mul-rules
+mul-rules c = omega (arith, few (c .before .before .before .before .before .before .before .before .before .pre))
+
+add-rules-2 : tie.Need-add-rules-2
+add-rules-2 c = omega (arith, few (c .before .before .before .before .before .before .before .before .before .pre))
+
+div-rules : tie.Need-div-rules
+div-rules c = omega arith
+
+same-length : tie.Need-same-length
+same-length c = search needs
+
+returns : tie.Need-returns
+returns c =
+    let s = c .before .before .before .before .before .before .before .before .before .before in
+    let e = c .before .before .before .before .before .rules-length .ensures in
+    rw (e .2) (too-many (s .pre) (now (s .args .out)) (rw (rules-counted (s .pre) (e .0)) at (c .if1 .taken)))
+
+counts-length-requires : tie.Need-counts-length-requires
+counts-length-requires c κs = let p = c .before .before .before .before .before .before .before .before .before .before .pre in omega (arith, few p, sizes (p .first))
+
+add-if2 : tie.Need-add-if2
+add-if2 c =
+    let p = c .before .before .before .before .before .before .before .before .before .before .before .pre in
+    omega (arith, few p, sizes (p .first), c .counts-length .ensures, c .before .before .before .before .before .before .rules-length .ensures .1)
+
+same-length-2 : tie.Need-same-length-2
+same-length-2 c = search needs
+
+returns-2 : tie.Need-returns-2
+returns-2 c =
+    let s = c .before .before .before .before .before .before .before .before .before .before .before .before in
+    let out = now (s .args .out) in
+    let e = c .before .before .before .before .before .before .before .rules-length .ensures in
+    let a : (i : ℕ) → byteAt (now (s .args .a)) i < 256 = λ i. omega (arith, c .before .before .before .before .before .before .before .before .before .before .before .shared-slice-known .given i) in
+    let b : (i : ℕ) → byteAt (now (s .args .b)) i < 256 = λ i. omega (arith, c .before .before .before .before .before .before .before .before .before .before .shared-slice-known2 .given i) in
+    let h = rw (rules-counted (s .pre) (e .0)) at (c .before .before .if1 .left) in
+    rw (e .2) (too-short (s .pre) out h (omega (arith, ap length (e .2), e .0, file-length (s .pre) a b out, c .before .counts-length .ensures, c .if2 .taken)))
+
+write-joined-requires : tie.Need-write-joined-requires
+write-joined-requires c κs =
+    let s = c .before .before .before .before .before .before .before .before .before .before .before .before .before in
+    let e = c .before .before .before .before .before .before .before .before .rules-length .ensures in
+    (s .pre, (rules-counted (s .pre) (e .0), c .before .before .before .if1 .left, omega (arith, e .0, c .before .before .counts-length .ensures, c .before .if2 .left)))
+
+same-length-3 : tie.Need-same-length-3
+same-length-3 c = search needs
+
+returns-3 : tie.Need-returns-3
+returns-3 c =
+    let s = c .before .before .before .before .before .before .before .before .before .before .before .before .before .before .before .before in
+    let out = now (s .args .out) in
+    let e = c .before .before .before .before .before .before .before .before .before .before .before .rules-length .ensures in
+    let a : (i : ℕ) → byteAt (now (s .args .a)) i < 256 = λ i. omega (arith, c .before .before .before .before .before .before .before .before .before .before .before .before .before .before .before .shared-slice-known .given i) in
+    let b : (i : ℕ) → byteAt (now (s .args .b)) i < 256 = λ i. omega (arith, c .before .before .before .before .before .before .before .before .before .before .before .before .before .before .shared-slice-known2 .given i) in
+    let d = c .before .before .before .before in
+    let h = rw (rules-counted (s .pre) (e .0)) at (c .before .before .before .before .before .before .if1 .left) in
+    let w = c .before .before .write-joined .ensures in
+    written (s .pre) out h
+    (omega (arith, ap length (e .2), e .0, file-length (s .pre) a b out, d .before .counts-length .ensures, d .if2 .left)) (rw (e .2) at (w .0))
+    (rw (e .2) at (w .1))
+
+pub join-within-spec : {M : Type 1} → statement M
+join-within-spec =
+    tie.close
+    (tie.spec
+    rules-length-requires
+    add-rules
+    mul-rules
+    add-rules-2
+    div-rules
+    same-length
+    returns
+    counts-length-requires
+    add-if2
+    same-length-2
+    returns-2
+    write-joined-requires
+    same-length-3
+    returns-3)

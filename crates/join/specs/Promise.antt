@@ -1,0 +1,28 @@
+-- What the join promises: its answer and what the slice holds then are those of specs/Entry.antt, for any two files and any slice.
+use mathlib.Core.Path.{_≡_, sym, _∙_}
+use mathlib.Core.List.{List}
+use Prim.Native.Nat.{ℕ}
+use native.Mathlib.Omega.{arith}
+use Rattle.streams.specs.Answer.{Answer, refused, gives}
+use Rattle.join.specs.declared.Joined.{Joined}
+use Rattle.join.specs.declared.Joined.the-variants.{Length, Refused}
+use Rattle.join.specs.Entry.{joinOf, joinedOut}
+
+abbrev pub joinedSaid : Joined → Answer ℕ
+joinedSaid (Length n) = gives n
+joinedSaid (Refused n) = refused n
+
+pub record JoinPromise (a b before : List ℕ) (r : Joined) (after : List ℕ) : Type 0 where
+  pub answers : joinedSaid r ≡ joinOf a b before
+  pub writes : after ≡ joinedOut a b before
+
+said-one : (r s : Joined) → joinedSaid r ≡ joinedSaid s → r ≡ s
+said-one (Length n) (Length m) e = let h : n ≡ m = cc in rw h
+said-one (Length n) (Refused m) e = let z : _≡_ {A = ℕ} 0 1 = cc in absurd (omega arith)
+said-one (Refused n) (Length m) e = let z : _≡_ {A = ℕ} 0 1 = cc in absurd (omega arith)
+said-one (Refused n) (Refused m) e = let h : n ≡ m = cc in rw h
+
+-- It allows one answer and one later slice.
+pub join-one : {a b before after later : List ℕ} {r s : Joined} → JoinPromise a b before r after → JoinPromise a b before s later →
+    (r ≡ s) × (after ≡ later)
+join-one {r = r} {s = s} g h = (said-one r s (g .answers ∙ sym (h .answers)), g .writes ∙ sym (h .writes))
