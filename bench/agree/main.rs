@@ -1,0 +1,117 @@
+//! Sets the plain program against the reference model, on random calls and
+//! on the laws of joins and runs.
+
+// The model and its random cases, as they stand. Not all of it is used here.
+#[path = "../../independent/src/call.rs"]
+#[allow(dead_code)]
+mod call;
+#[path = "../../independent/src/cases.rs"]
+mod cases;
+#[path = "../../independent/src/compare.rs"]
+mod compare;
+#[path = "../../independent/src/damage.rs"]
+mod damage;
+#[path = "../../independent/src/enforce.rs"]
+mod enforce;
+#[path = "../../independent/src/engine.rs"]
+mod engine;
+#[path = "../../independent/src/events.rs"]
+mod events;
+#[path = "../../independent/src/graph.rs"]
+mod graph;
+#[path = "../../independent/src/join.rs"]
+mod join;
+#[path = "../../independent/src/laws.rs"]
+mod laws;
+#[path = "../../independent/src/moment.rs"]
+mod moment;
+#[path = "../../independent/src/parse.rs"]
+mod parse;
+#[path = "../../independent/src/policies.rs"]
+mod policies;
+#[path = "../../independent/src/policy.rs"]
+mod policy;
+#[path = "../../independent/src/random.rs"]
+mod random;
+#[path = "../../independent/src/refusal.rs"]
+mod refusal;
+#[path = "../../independent/src/rules.rs"]
+mod rules;
+#[path = "../../independent/src/subject.rs"]
+mod subject;
+#[path = "../../independent/src/ticks.rs"]
+mod ticks;
+
+use bench::engine::{Engine as _, Plain};
+use compare::Tally;
+use engine::{Engine, Model};
+use std::process::ExitCode;
+
+const USAGE: &str = "usage: agree GROUPS SEED";
+
+fn main() -> ExitCode {
+    let words: Vec<String> = std::env::args().skip(1).collect();
+    match agree(&words) {
+        Ok(tally) => {
+            println!("{tally}no difference");
+            ExitCode::SUCCESS
+        }
+        Err(complaint) => {
+            eprintln!("{complaint}");
+            ExitCode::FAILURE
+        }
+    }
+}
+
+fn agree(words: &[String]) -> Result<Tally, String> {
+    let [groups, seed] = words else {
+        return Err(USAGE.to_string());
+    };
+    let (groups, seed) = (number(groups)?, number(seed)?);
+    let mut tally = Tally::default();
+    let goes_on = |group| group < groups;
+    compare::compare(&mut PlainSide, seed, goes_on, false, &mut tally)?;
+    Ok(tally)
+}
+
+fn number(word: &str) -> Result<u64, String> {
+    word.parse()
+        .map_err(|_| format!("not a number: {word}\n{USAGE}"))
+}
+
+/// The plain program where the model expects a library.
+struct PlainSide;
+
+impl Engine for PlainSide {
+    fn prepare(&mut self, file: &[u8], marks: &mut [u8]) -> u64 {
+        Plain.prepare(file, marks)
+    }
+
+    fn input(&mut self, file: &[u8], marks: &[u8], state: &[u16], x: u8) -> u64 {
+        Plain.input(file, marks, state, x)
+    }
+
+    fn output(&mut self, file: &[u8], marks: &[u8], state: &mut [u16], x: u8, y: u8) -> u64 {
+        Plain.output(file, marks, state, x, y)
+    }
+
+    fn run(
+        &mut self,
+        file: &[u8],
+        marks: &[u8],
+        state: &mut [u16],
+        events: &[u8],
+        released: &mut [u8],
+    ) -> u64 {
+        Plain.run(file, marks, state, events, released)
+    }
+
+    fn join(&mut self, a: &[u8], b: &[u8], out: &mut [u8]) -> u64 {
+        Plain.join(a, b, out)
+    }
+
+    /// The conversion is not measured, so the plain program has none.
+    fn ticks(&mut self, milliseconds: u32, tick_length: u32, up: u8) -> u64 {
+        Model.ticks(milliseconds, tick_length, up)
+    }
+}

@@ -1,0 +1,129 @@
+//! All that is measured, in the order of the table.
+
+use crate::file::Policy;
+use crate::policies;
+use crate::streams::{Stream, STREAMS};
+use crate::work::{InputWork, JoinWork, OutputWork, PrepareWork, Work};
+
+/// Long enough that the one check of the file is a small part of a run, and
+/// that no branch predictor learns the stream.
+const TICKS: usize = 16_384;
+
+/// How many moments of a run the halves are called at.
+const MOMENTS: usize = 1_024;
+
+pub struct Case {
+    pub name: String,
+    pub work: Box<dyn Work>,
+}
+
+pub fn all() -> Vec<Case> {
+    let runs = STREAMS.iter().map(run);
+    let halves = STREAMS
+        .iter()
+        .flat_map(|stream| [input(stream), output(stream)]);
+    let prepares = [
+        prepare("1,024 states", policies::thousand()),
+        prepare("10,000 states", policies::ten_thousand()),
+        prepare("65,536 states", policies::full()),
+        prepare("the longest file", policies::long()),
+    ];
+    let joins = [
+        join("small", policies::small_pair()),
+        join("the largest", policies::largest_pair()),
+    ];
+    runs.chain(halves).chain(prepares).chain(joins).collect()
+}
+
+fn run(stream: &Stream) -> Case {
+    case("run, a tick", stream.name, stream.run(TICKS))
+}
+
+fn input(stream: &Stream) -> Case {
+    let (ready, events) = stream.ready(MOMENTS);
+    case("input half", stream.name, InputWork::new(ready, &events))
+}
+
+fn output(stream: &Stream) -> Case {
+    let (ready, events) = stream.ready(MOMENTS);
+    case("output half", stream.name, OutputWork::new(ready, &events))
+}
+
+fn prepare(size: &str, policy: Policy) -> Case {
+    case("prepare", size, PrepareWork::new(&policy))
+}
+
+fn join(size: &str, pair: (Policy, Policy)) -> Case {
+    case("join", size, JoinWork::new(pair))
+}
+
+fn case(function: &str, what: &str, work: impl Work + 'static) -> Case {
+    Case {
+        name: format!("{function}: {what}"),
+        work: Box::new(work),
+    }
+}
+
+#[cfg(test)]
+mod tests {
+    use super::*;
+    use crate::engine::{refusal_in, Engine, Plain};
+    use crate::work::outcome_of;
+
+    /// Writes nothing and claims success.
+    struct Idle;
+
+    impl Engine for Idle {
+        fn prepare(&self, _: &[u8], _: &mut [u8]) -> u64 {
+            0
+        }
+
+        fn input(&self, _: &[u8], _: &[u8], _: &[u16], _: u8) -> u64 {
+            0
+        }
+
+        fn output(&self, _: &[u8], _: &[u8], _: &mut [u16], _: u8, _: u8) -> u64 {
+            0
+        }
+
+        fn run(&self, _: &[u8], _: &[u8], _: &mut [u16], _: &[u8], _: &mut [u8]) -> u64 {
+            0
+        }
+
+        fn join(&self, _: &[u8], _: &[u8], _: &mut [u8]) -> u64 {
+            0
+        }
+    }
+
+    #[test]
+    fn nothing_measured_is_refused() {
+        for mut case in all() {
+            let outcome = outcome_of(case.work.as_mut(), &Plain);
+            let refused = outcome
+                .answers
+                .iter()
+                .any(|&answer| refusal_in(answer) != 0);
+            assert!(!refused, "{}", case.name);
+        }
+    }
+
+    /// Rounds can be repeated in the same buffers.
+    #[test]
+    fn a_pass_leaves_nothing_that_the_next_one_feels() {
+        for mut case in all() {
+            let work = case.work.as_mut();
+            let first = outcome_of(work, &Plain);
+            work.pass(&Plain);
+            assert!(work.outcome() == first, "{}", case.name);
+        }
+    }
+
+    #[test]
+    fn a_side_that_does_nothing_is_noticed() {
+        for mut case in all() {
+            let work = case.work.as_mut();
+            let plain = outcome_of(work, &Plain);
+            assert!(outcome_of(work, &Idle) != plain, "{}", case.name);
+        }
+    }
+}

@@ -1,0 +1,19 @@
+//! The enforcement library measured against a plain program doing the same
+//! work.
+
+pub mod cases;
+mod clock;
+pub mod engine;
+mod file;
+mod generated;
+pub mod instructions;
+#[cfg(feature = "library")]
+pub mod library;
+pub mod measure;
+pub mod plain;
+mod policies;
+mod random;
+mod ready;
+pub mod report;
+pub mod streams;
+pub mod work;

@@ -1,0 +1,134 @@
+//! The enforcement library through its C functions, on the very slices it is
+//! lent: nothing is copied, so that only its own work is measured.
+
+use crate::engine::Engine;
+
+extern "C" {
+    fn groovepawn_prepare(
+        file: *const u8,
+        file_len: usize,
+        marks: *mut u8,
+        marks_len: usize,
+    ) -> u64;
+
+    fn groovepawn_input(
+        file: *const u8,
+        file_len: usize,
+        marks: *const u8,
+        marks_len: usize,
+        state: *const u16,
+        state_len: usize,
+        x: u8,
+    ) -> u32;
+
+    fn groovepawn_output(
+        file: *const u8,
+        file_len: usize,
+        marks: *const u8,
+        marks_len: usize,
+        state: *mut u16,
+        state_len: usize,
+        x: u8,
+        y: u8,
+    ) -> u32;
+
+    fn groovepawn_run(
+        file: *const u8,
+        file_len: usize,
+        marks: *const u8,
+        marks_len: usize,
+        state: *mut u16,
+        state_len: usize,
+        events: *const u8,
+        events_len: usize,
+        released: *mut u8,
+        released_len: usize,
+    ) -> u64;
+
+    fn groovepawn_join(
+        a: *const u8,
+        a_len: usize,
+        b: *const u8,
+        b_len: usize,
+        out: *mut u8,
+        out_len: usize,
+    ) -> u64;
+}
+
+pub struct Library;
+
+// Safety of every call below: each pointer and the length beside it are those
+// of one slice, which outlives the call.
+impl Engine for Library {
+    fn prepare(&self, file: &[u8], marks: &mut [u8]) -> u64 {
+        unsafe { groovepawn_prepare(file.as_ptr(), file.len(), marks.as_mut_ptr(), marks.len()) }
+    }
+
+    fn input(&self, file: &[u8], marks: &[u8], state: &[u16], x: u8) -> u64 {
+        let answer = unsafe {
+            groovepawn_input(
+                file.as_ptr(),
+                file.len(),
+                marks.as_ptr(),
+                marks.len(),
+                state.as_ptr(),
+                state.len(),
+                x,
+            )
+        };
+        u64::from(answer)
+    }
+
+    fn output(&self, file: &[u8], marks: &[u8], state: &mut [u16], x: u8, y: u8) -> u64 {
+        let answer = unsafe {
+            groovepawn_output(
+                file.as_ptr(),
+                file.len(),
+                marks.as_ptr(),
+                marks.len(),
+                state.as_mut_ptr(),
+                state.len(),
+                x,
+                y,
+            )
+        };
+        u64::from(answer)
+    }
+
+    fn run(
+        &self,
+        file: &[u8],
+        marks: &[u8],
+        state: &mut [u16],
+        events: &[u8],
+        released: &mut [u8],
+    ) -> u64 {
+        unsafe {
+            groovepawn_run(
+                file.as_ptr(),
+                file.len(),
+                marks.as_ptr(),
+                marks.len(),
+                state.as_mut_ptr(),
+                state.len(),
+                events.as_ptr(),
+                events.len(),
+                released.as_mut_ptr(),
+                released.len(),
+            )
+        }
+    }
+
+    fn join(&self, a: &[u8], b: &[u8], out: &mut [u8]) -> u64 {
+        unsafe {
+            groovepawn_join(
+                a.as_ptr(),
+                a.len(),
+                b.as_ptr(),
+                b.len(),
+                out.as_mut_ptr(),
+                out.len(),
+            )
+        }
+    }
+}

@@ -1,0 +1,22 @@
+//! The work of the library as a plain program: safe Rust without proofs, by
+//! the same method. It checks the file anew at each entry, reads the rules
+//! where they stand in the file, and uses no memory but what it is lent.
+
+#![forbid(unsafe_code)]
+
+mod check;
+mod enforcer;
+mod join;
+mod policy;
+mod prepare;
+mod refusal;
+mod rule;
+mod state;
+
+#[cfg(test)]
+mod tests;
+
+pub use enforcer::{input, output, run, RunEnd};
+pub use join::join;
+pub use prepare::{prepare, Prepared};
+pub use refusal::Refusal;

@@ -1,0 +1,29 @@
+//! The refusal numbers of the entries here.
+
+#[derive(Clone, Copy, Debug, PartialEq, Eq)]
+#[repr(u8)]
+pub enum Refusal {
+    CutShort = 1,
+    CountOutsideLimits = 2,
+    BadTag = 3,
+    BadCeiling = 4,
+    BadLocationByte = 5,
+    BadRule = 6,
+    BadBounds = 7,
+    LeftOver = 8,
+    TooManyStates = 9,
+    MarksTooShort = 10,
+    StartNotLive = 11,
+    SignalsDiffer = 12,
+    JoinTooLarge = 13,
+    SliceTooShort = 14,
+    BeyondSignals = 15,
+    BadState = 16,
+    NothingReachesLive = 17,
+}
+
+impl Refusal {
+    pub fn number(self) -> u8 {
+        self as u8
+    }
+}

@@ -1,0 +1,85 @@
+//! The samples and the marked cases of the policy paper.
+
+use super::state::STATE_LENGTH;
+use super::*;
+
+const S: &str = "02 41 42 01 52 00 01 00 00 03
+    00 03 03 00 00 00 FF  00 02 02 01 01 00 FF  00 00 00 00 00 00 00";
+const D: &str = "01 52 01 43 01 00 03 02 00 00 00 04
+    00 01 01 00 00 01 01 00 00 FF FF  00 00 00 00 00 01 00 00 00 FF FF
+    01 00 00 01 01 01 00 00 00 FF FF  01 00 00 01 00 00 01 00 00 00 02";
+const T: &str = "01 41 01 42 00 02 00 00 00 02
+    00 01 01 00 00 00 01  00 00 00 00 00 00 00";
+const K: &str = "00 01 4B 01 00 03 01 00 00 02
+    00 00 00 01 01 00 FF 00 03 FF FF  00 00 00 00 00 00 00 00 00 FF FF";
+const N: &str = "00 00 00 01 00 00 00";
+
+fn bytes(hex: &str) -> Vec<u8> {
+    let byte = |word: &str| u8::from_str_radix(word, 16).expect("two hex digits");
+    hex.split_whitespace().map(byte).collect()
+}
+
+/// Verdict, states and live states.
+fn prepared(policy: &str) -> Result<(u8, usize, usize), Refusal> {
+    let prepared = prepare(&bytes(policy), &mut [9; 16])?;
+    Ok((prepared.verdict, prepared.states, prepared.live))
+}
+
+/// What a run from the start releases.
+fn released(policy: &str, events: &[u8]) -> Result<Vec<u8>, Refusal> {
+    let file = bytes(policy);
+    let mut marks = [9; 16];
+    prepare(&file, &mut marks)?;
+    let mut released = vec![9; events.len()];
+    let mut state = [0; STATE_LENGTH];
+    let end = run(&file, &marks, &mut state, events, &mut released);
+    match end.refusal {
+        Some(refusal) => Err(refusal),
+        None => Ok(released),
+    }
+}
+
+#[test]
+fn tables_of_the_samples() {
+    assert_eq!(prepared(S), Ok((0, 1, 1)));
+    assert_eq!(prepared(D), Ok((0, 8, 8)));
+    assert_eq!(prepared(T), Ok((1, 2, 1)));
+    assert_eq!(prepared(N), Err(Refusal::StartNotLive));
+}
+
+#[test]
+fn refusal_11_leaves_the_marks() {
+    let mut marks = [9; 2];
+    let refused = prepare(&bytes(N), &mut marks);
+    assert_eq!((refused, marks), (Err(Refusal::StartNotLive), [0, 9]));
+}
+
+#[test]
+fn streams_of_the_samples() {
+    let cases = [
+        (S, "03", "01"),
+        (S, "12", "02"),
+        (S, "13", "11"),
+        (S, "11", "11"),
+        (D, "01 00 00 00 00", "01 00 00 00 10"),
+        (T, "01 11", "00 10"),
+        (K, "00 00 10", "00 00 10"),
+        (K, "00 00 00 10", "00 00 00 00"),
+        (S, "", ""),
+    ];
+    for (policy, events, expected) in cases {
+        assert_eq!(released(policy, &bytes(events)), Ok(bytes(expected)));
+    }
+}
+
+#[test]
+fn a_clock_does_not_wrap() {
+    let mut events = vec![0; 65_537];
+    events.push(0x10);
+    assert_eq!(released(K, &events), Ok(vec![0; events.len()]));
+}
+
+#[test]
+fn an_event_beyond_the_signals_is_refused() {
+    assert_eq!(released(S, &[0x04]), Err(Refusal::BeyondSignals));
+}

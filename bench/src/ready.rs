@@ -1,0 +1,43 @@
+//! A policy that can be run.
+
+use crate::engine::{refusal_in, Engine, Plain, State, START};
+use crate::file::{Policy, MOST_STATES};
+use crate::work::FILLER;
+
+/// A policy with its marks.
+pub struct Ready {
+    pub file: Vec<u8>,
+    pub marks: Vec<u8>,
+}
+
+impl Ready {
+    /// The policy has a live start. The marks are always those of the plain
+    /// program.
+    pub fn new(policy: &Policy) -> Ready {
+        let file = policy.encode();
+        let mut marks = vec![FILLER; MOST_STATES];
+        let answer = Plain.prepare(&file, &mut marks);
+        assert_eq!(refusal_in(answer), 0, "a measured policy is refused");
+        Ready { file, marks }
+    }
+
+    /// What the stream is corrected to, from the start.
+    pub fn corrected(&self, events: &[u8]) -> Vec<u8> {
+        let mut released = vec![FILLER; events.len()];
+        let mut state = START;
+        let answer = Plain.run(&self.file, &self.marks, &mut state, events, &mut released);
+        assert_eq!(refusal_in(answer), 0, "a measured stream is refused");
+        released
+    }
+
+    /// The state before each event of a stream that needs no correction.
+    pub fn states_along(&self, stream: &[u8]) -> Vec<State> {
+        let mut state = START;
+        let mut states = Vec::new();
+        for &event in stream {
+            states.push(state);
+            Plain.output(&self.file, &self.marks, &mut state, event & 15, event >> 4);
+        }
+        states
+    }
+}

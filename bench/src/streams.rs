@@ -1,0 +1,105 @@
+//! The runs that are measured: a policy, and a stream that needs many edits
+//! or none.
+
+use crate::file::Policy;
+use crate::policies;
+use crate::random::Random;
+use crate::ready::Ready;
+use crate::work::RunWork;
+
+#[derive(Clone, Copy, Debug, PartialEq, Eq)]
+pub enum Edits {
+    None,
+    Many,
+}
+
+pub struct Stream {
+    pub name: &'static str,
+    pub policy: fn() -> Policy,
+    pub edits: Edits,
+}
+
+pub const STREAMS: [Stream; 6] = [
+    stream("short, no edits", policies::short, Edits::None),
+    stream("short, many edits", policies::short, Edits::Many),
+    stream("long, no edits", policies::long, Edits::None),
+    stream("long, many edits", policies::long, Edits::Many),
+    stream("crowded, no edits", policies::crowded, Edits::None),
+    stream("crowded, many edits", policies::crowded, Edits::Many),
+];
+
+const fn stream(name: &'static str, policy: fn() -> Policy, edits: Edits) -> Stream {
+    Stream {
+        name,
+        policy,
+        edits,
+    }
+}
+
+impl Stream {
+    pub fn named(name: &str) -> Option<&'static Stream> {
+        STREAMS.iter().find(|stream| stream.name == name)
+    }
+
+    pub fn run(&self, ticks: usize) -> RunWork {
+        let (ready, events) = self.ready(ticks);
+        RunWork::new(ready, events)
+    }
+
+    /// The policy with its marks, and so many events. A released stream comes
+    /// back unchanged, so it is one that needs no edits.
+    pub fn ready(&self, ticks: usize) -> (Ready, Vec<u8>) {
+        let policy = (self.policy)();
+        let ready = Ready::new(&policy);
+        let wild = any_events(&policy, ticks);
+        let events = match self.edits {
+            Edits::None => ready.corrected(&wild),
+            Edits::Many => wild,
+        };
+        (ready, events)
+    }
+}
+
+fn any_events(policy: &Policy, count: usize) -> Vec<u8> {
+    let mut random = Random::new(3);
+    let mask = policy.event_mask();
+    (0..count).map(|_| random.byte() & mask).collect()
+}
+
+#[cfg(test)]
+mod tests {
+    use super::*;
+    use crate::engine::Plain;
+    use crate::work::Work;
+    use std::collections::BTreeSet;
+
+    /// The share of the events that a run releases otherwise.
+    fn edited(stream: &Stream, ticks: usize) -> f64 {
+        let (_, events) = stream.ready(ticks);
+        let mut run = stream.run(ticks);
+        run.pass(&Plain);
+        let released = run.outcome().bytes;
+        let other = events.iter().zip(released).filter(|(a, b)| *a != b);
+        other.count() as f64 / ticks as f64
+    }
+
+    #[test]
+    fn streams_need_many_edits_or_none() {
+        for stream in &STREAMS {
+            let share = edited(stream, 4_096);
+            match stream.edits {
+                Edits::None => assert_eq!(share, 0.0, "{}", stream.name),
+                Edits::Many => assert!(share > 0.2, "{}: {share}", stream.name),
+            }
+        }
+    }
+
+    #[test]
+    fn the_long_run_visits_most_locations() {
+        let stream = Stream::named("long, many edits").expect("there is one");
+        let (ready, events) = stream.ready(4_096);
+        let states = ready.states_along(&ready.corrected(&events));
+        let locations: BTreeSet<u16> = states.iter().map(|state| state[0]).collect();
+        assert!(locations.len() > 50, "{}", locations.len());
+    }
+}

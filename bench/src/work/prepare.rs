@@ -1,0 +1,44 @@
+//! The marks of a policy.
+
+use super::{Outcome, Work, FILLER};
+use crate::engine::Engine;
+use crate::file::{Policy, MOST_STATES};
+
+/// One call of prepare.
+pub struct PrepareWork {
+    file: Vec<u8>,
+    marks: Vec<u8>,
+    answer: u64,
+}
+
+impl PrepareWork {
+    pub fn new(policy: &Policy) -> PrepareWork {
+        PrepareWork {
+            file: policy.encode(),
+            marks: vec![FILLER; MOST_STATES],
+            answer: 0,
+        }
+    }
+}
+
+impl Work for PrepareWork {
+    fn units(&self) -> usize {
+        1
+    }
+
+    fn pass(&mut self, engine: &dyn Engine) {
+        self.answer = engine.prepare(&self.file, &mut self.marks);
+    }
+
+    fn spoil(&mut self) {
+        self.marks.fill(FILLER);
+    }
+
+    fn outcome(&self) -> Outcome {
+        Outcome {
+            answers: vec![self.answer],
+            bytes: self.marks.clone(),
+            states: vec![],
+        }
+    }
+}
