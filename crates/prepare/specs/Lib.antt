@@ -5,3 +5,6 @@ pub mod Trim
 pub mod Live
 pub mod Enforces
 pub mod Engine
+pub mod Promise
+pub mod Counted
+pub mod Judged

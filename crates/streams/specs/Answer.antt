@@ -43,3 +43,8 @@ first-refused (suc a) b h = refl
 pub next-refused : (a b : ℕ) → a ≡ 0 → (a orElse b) ≡ b
 next-refused zero b e = refl
 next-refused (suc a) b e = absurd (omega arith)
+
+-- What is given is what the entry gives, and nothing is refused.
+pub given-only : {A : Type 0} (n : ℕ) (a b : A) → answer n a ≡ gives b → (n ≡ 0) × (a ≡ b)
+given-only zero a b e = (refl, cc)
+given-only (suc n) a b e = let z : _≡_ {A = ℕ} 0 1 = cc in absurd (omega arith)

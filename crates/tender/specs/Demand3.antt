@@ -7,7 +7,7 @@ use Prim.Native.Nat.{ℕ, _≤_, _/_, _%_, _^_}
 use lib.Dec.{ltb}
 use lib.ListN.{length, take, drop, replicate}
 use lib.Seq.{take-at}
-use Rattle.streams.specs.Answer.{refused, gives, answer}
+use Rattle.streams.specs.Answer.{refused, gives, given-only}
 use Rattle.streams.specs.Stream.{Stream, _∩_}
 use Rattle.streams.specs.Enforced.{Enforced}
 use Rattle.streams.specs.Corrections.{corrections}
@@ -31,7 +31,7 @@ use Rattle.join.specs.Written.{unrefused, joined-joins, joined-passes, joined-p
 -- "A released stream enforced again from the start comes back unchanged."
 pub use Rattle.tender.specs.Demand2.{comes-back}
 use Rattle.tender.specs.Samples.{T}
-use Rattle.tender.specs.Granted.{not-refused, judged}
+use Rattle.tender.specs.Granted.{judged}
 use Rattle.tender.specs.Demand2.{Run, Right, ReleasedFor, Released, releases, fromStart, hopeless-exactly, prepared-otherwise, not-forwarding}
 
 -- "Wherever the joins named are made": for some slice the join of a and b gives a length, and f is as many bytes of what the slice holds then.
@@ -58,15 +58,15 @@ made : {a b f : List ℕ} → Joined a b f → Made a b f
 unfolding joinOf join
 made {a} {b} {f} j =
     let out = j .slice in
-    let e = not-refused (joinRefusal a b out) _ _ (j .given) in
+    let only = given-only (joinRefusal a b out) (length (joinedFile a b out)) (j .size) (j .given) in
+    let e = only .0 in
     let p = policyOf a in
     let q = policyOf b in
     let k = unrefused a b out e in
     let g = well-sound p (checked-file a (k .first)) in
     let h = well-sound q (checked-file b (k .second)) in
     let i = joined-joins a b out e in
-    let n : length (joinedFile a b out) ≡ j .size = cc (ap (λ (z : ℕ). answer z (length (joinedFile a b out))) e) in
-    let file : f ≡ joinedFile a b out = j .written ∙ rw (← n) (joined-written a b out e) in
+    let file : f ≡ joinedFile a b out = j .written ∙ rw (← only .1) (joined-written a b out e) in
     let policy : policyOf f ≡ join p q = ap policyOf file ∙ joined-policy a b out e in
     let t : tags f ≡ tags a = ap (λ (z : Policy). (z .inputs, z .outputs)) policy in
     record {

@@ -11,7 +11,7 @@ use lib.Dec.{leb, ltb}
 use lib.ListN.{length, getD, drop, replicate, length-append}
 use lib.Seq.{take-at}
 use borrow.Author.Tests.{le-leb, lt-ltb}
-use Rattle.streams.specs.Answer.{refused, gives, _orElse_, unless, answer, none-refused}
+use Rattle.streams.specs.Answer.{refused, gives, _orElse_, unless, given-only, none-refused}
 use Rattle.streams.specs.Stream.{Event, Stream, GoesOn, Hopeless}
 use Rattle.policy.specs.Rules.{Policy, Place, Permits, FitsOne, Fits, fits-none, fits-more}
 use Rattle.policy.specs.Number.{states, numberOf}
@@ -196,15 +196,11 @@ module _ (file marks : List ℕ) (passed : refusalOf file ≡ 0) (long : states 
       ⊎-elim (λ g. inr (g, rw (granted, goes-on-ready p ok (marksOf p) (λ n h. refl) l .0 g)))
       (λ d. inl (d, rw (granted, numberOf-start, hopeless-start p ok .0 d))) (goes-on-or-ends p ok (l .leads) (l .fits))
 
-pub not-refused : {A : Type 0} (n : ℕ) (a b : A) → answer n a ≡ gives b → n ≡ 0
-not-refused zero a b e = refl
-not-refused (suc n) a b e = let z : _≡_ {A = ℕ} 0 1 = cc in absurd (omega arith)
-
 -- Where prepare gives a summary, the file has passed, the slice is long enough, and the start goes on for ever.
 module _ (file marks : List ℕ) (s : Summary) (e : prepareOf file marks ≡ gives s) where
   given : (refusalOf file ≡ 0) × (states (policyOf file) ≤ length marks)
   unfolding prepareOf
-  given = marks-granted file marks .0 (none-refused (marksRefusal file marks) _ .0 (not-refused _ _ s e) .0)
+  given = marks-granted file marks .0 (none-refused (marksRefusal file marks) _ .0 (given-only _ _ s e .0) .0)
 
   pub given-passed : refusalOf file ≡ 0
   given-passed = given .0
