@@ -11,7 +11,7 @@ use lib.Dec.{leb, ltb}
 use lib.ListN.{length, getD, drop, replicate, length-append}
 use lib.Seq.{take-at}
 use borrow.Author.Tests.{le-leb, lt-ltb}
-use Rattle.streams.specs.Answer.{refused, gives, _orElse_, unless, given-only, none-refused}
+use Rattle.streams.specs.Answer.{refused, gives, _orElse_, unless, none-refused}
 use Rattle.streams.specs.Stream.{Event, Stream, GoesOn, Hopeless}
 use Rattle.policy.specs.Rules.{Policy, Place, Permits, FitsOne, Fits, fits-none, fits-more}
 use Rattle.policy.specs.Number.{states, numberOf}
@@ -28,6 +28,7 @@ use Rattle.enforcer.specs.Entries.{eventOf, byteOf, chosen, outputFrom, runFrom
 use Rattle.prepare.specs.Table.{marksOf}
 use Rattle.prepare.specs.Entry.{Summary, summaryOf, prepareOf, preparedMarks}
 use Rattle.prepare.specs.Live.{marks-length, goes-on-or-ends, hopeless-start}
+use Rattle.prepare.specs.Promise.{gives-past}
 use Rattle.prepare.specs.Enforces.{Prepared, prepared-front, leads-start, Ready, goes-on-ready}
 
 else-none : (a b : ℕ) → a orElse b orElse 0 ≡ a orElse b
@@ -199,8 +200,7 @@ module _ (file marks : List ℕ) (passed : refusalOf file ≡ 0) (long : states 
 -- Where prepare gives a summary, the file has passed, the slice is long enough, and the start goes on for ever.
 module _ (file marks : List ℕ) (s : Summary) (e : prepareOf file marks ≡ gives s) where
   given : (refusalOf file ≡ 0) × (states (policyOf file) ≤ length marks)
-  unfolding prepareOf
-  given = marks-granted file marks .0 (none-refused (marksRefusal file marks) _ .0 (given-only _ _ s e .0) .0)
+  given = marks-granted file marks .0 (gives-past file marks s e .0)
 
   pub given-passed : refusalOf file ≡ 0
   given-passed = given .0
