@@ -1,0 +1,57 @@
+-- `groovepawn::groovepawn_output` meets its contract: the answer and the state of the output half for five numbers, and a refusal for any other state.
+use borrow.Author.Tests.{eq-eqb, ne-eqb}
+use Rattle.groovepawn.specs.Words.{outputWord, outputState}
+use borrow.Author.Needs.{needs}
+use Rattle.groovepawn.proofs.groovepawn_output.Statement.{statement}
+use Rattle.groovepawn.proofs.groovepawn_output.Tie as tie
+
+odd-refusal-requires : tie.Need-odd-refusal-requires
+odd-refusal-requires c κs = search needs
+
+cast-result : tie.Need-cast-result
+cast-result c = search needs
+
+returns : tie.Need-returns
+unfolding outputWord outputState
+returns c = let n = ne-eqb _ 5 (c .before .if1 .taken) in record { said = rw n (c .odd-refusal .ensures); next = rw n }
+
+state-of-requires : tie.Need-state-of-requires
+state-of-requires c κs = search needs
+
+output-requires : tie.Need-output-requires
+output-requires c κs = search needs
+
+put-state-requires : tie.Need-put-state-requires
+put-state-requires c κs = search needs
+
+answer-word-requires : tie.Need-answer-word-requires
+answer-word-requires c κs = search needs
+
+same-length : tie.Need-same-length
+same-length c = search needs
+
+returns-2 : tie.Need-returns-2
+unfolding outputWord outputState
+returns-2 c = 
+    let p = c .before .before .before in
+    let o = p .before .before .before in
+    let s = o .before in
+    let five = eq-eqb _ 5 (s .before .before .if1 .left) in
+    record {
+      said = rw (five, ← s .state-of .ensures, ← o .output .ensures .said) (c .answer-word .ensures);
+      next = rw (five, ← s .state-of .ensures, ← o .output .ensures .said) (p .put-state .ensures);
+    }
+
+pub groovepawn-output-spec : {M : Type 1} → statement M
+groovepawn-output-spec =
+    tie.close
+    (tie.spec
+    odd-refusal-requires
+    cast-result
+    returns
+    state-of-requires
+    output-requires
+    put-state-requires
+    answer-word-requires
+    same-length
+    returns-2)

@@ -1,0 +1,51 @@
+-- How large the numbers in a word are.
+use mathlib.Core.Path.{_≡_, ap, subst}
+use mathlib.Core.Bool.{Bool, true, false, cond}
+use mathlib.Core.List.{List}
+use Prim.Native.Nat.{ℕ, _≤_}
+use native.Mathlib.Omega.{arith}
+use lib.Dec.{eqb}
+use lib.ListN.{length}
+use Rattle.streams.specs.Answer.{gives, given-only, none-refused}
+use Rattle.policy.specs.File.{policyOf}
+use Rattle.policy.specs.Number.{states}
+use Rattle.policy.specs.Checked.{frame, longest, checked-file}
+use Rattle.enforcer.specs.Entries.{marksRefusal}
+use Rattle.enforcer.specs.States.{marks-granted}
+use Rattle.prepare.specs.Table.{marksOf, liveCount}
+use Rattle.prepare.specs.Marks.{total-le}
+use Rattle.prepare.specs.Live.{marks-length, marks-bits}
+use Rattle.prepare.specs.Entry.{Summary, summaryOf, prepareOf}
+use Rattle.join.specs.Entry.{joinRefusal, joinedFile, joinOf}
+use Rattle.join.specs.Written.{joined-passes}
+
+pub record Small (s : Summary) : Type 0 where
+  pub verdict : s .verdict ≤ 1
+  pub states : s .states ≤ 65536
+  pub live : s .live ≤ 65536
+
+bit-small : (t : Bool) → cond t 0 1 ≤ 1
+bit-small true = omega arith
+bit-small false = omega arith
+
+-- "at most 65,536" states, and no more live ones.
+pub summary-small : (file marks : List ℕ) (s : Summary) → prepareOf file marks ≡ gives s → Small s
+unfolding prepareOf
+summary-small file marks s e =
+    let p = policyOf file in
+    let k = given-only _ _ s e in
+    let passed = marks-granted file marks .0 (none-refused (marksRefusal file marks) _ .0 (k .0) .0) .0 in
+    let few = checked-file file passed .states in
+    subst Small (k .1) (record {
+      verdict = bit-small (eqb (liveCount p) (states p));
+      states = few;
+      live = omega (arith, total-le (marksOf p) (marks-bits p), marks-length p);
+    })
+
+-- "The longest is 5,974 bytes."
+pub joined-short : (a b out : List ℕ) (n : ℕ) → joinOf a b out ≡ gives n → n ≤ 5974
+unfolding joinOf
+joined-short a b out n e =
+    let f = joinedFile a b out in
+    let k = given-only (joinRefusal a b out) (length f) n e in
+    omega (arith, longest f (frame f (joined-passes a b out (k .0))), k .1)

@@ -1,0 +1,5 @@
+pub mod Words
+pub mod Calls
+pub mod Numbers
+pub mod Bounds
+pub mod Stays

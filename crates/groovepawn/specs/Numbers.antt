@@ -1,0 +1,29 @@
+-- The five numbers of a state.
+use mathlib.Core.Path.{_≡_, refl, sym, ap, subst, _∙_}
+use mathlib.Core.List.{List, [], _∷_}
+use Prim.Native.Nat.{ℕ, _<_}
+use native.Mathlib.Omega.{arith}
+use lib.ListN.{length, getD, set}
+use lib.Seq.{ext-getD}
+use Rattle.prepare.specs.Table.{tab}
+use Rattle.prepare.specs.Marks.{length-tab, getD-tab}
+use Rattle.groovepawn.specs.Words.{stateWords, stateIn}
+
+-- A list is its elements, one after the other.
+each : (n : ℕ) (s : List ℕ) → length s ≡ n → tab (λ i. getD s i 0) n ≡ s
+each n s e =
+    let l = length-tab n (λ i. getD s i 0) in
+    ext-getD 0 _ s (l ∙ sym e) (λ i h. getD-tab n (λ k. getD s k 0) i (omega arith))
+
+-- Five numbers are those of the state in them.
+pub words-back : (s : List ℕ) → length s ≡ 5 → stateWords (stateIn s) ≡ s
+unfolding tab
+words-back s e = each 5 s e
+
+-- Five stores leave the numbers stored.
+pub words-put : (s cs : List ℕ) (location : ℕ) → length s ≡ 5 → length cs ≡ 4 →
+    set (set (set (set (set s 0 location) 1 (getD cs 0 0)) 2 (getD cs 1 0)) 3 (getD cs 2 0)) 4 (getD cs 3 0) ≡ location ∷ cs
+unfolding tab
+words-put s cs location e l =
+    subst (λ (t : List ℕ). set (set (set (set (set t 0 location) 1 (getD cs 0 0)) 2 (getD cs 1 0)) 3 (getD cs 2 0)) 4 (getD cs 3 0) ≡ location ∷ cs)
+    (each 5 s e) (ap (_∷_ location) (each 4 cs l))

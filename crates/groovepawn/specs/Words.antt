@@ -1,0 +1,75 @@
+-- An answer as one number: the refusal's number in the low eight bits, 0 for none, and above it what is given, or 0 where something is refused.
+use mathlib.Core.Bool.{Bool, true, cond, not}
+use mathlib.Core.List.{List, [], _∷_}
+use Prim.Native.Nat.{ℕ, _+_, _*_, _%_, _^_}
+use lib.Dec.{eqb, leb}
+use lib.ListN.{length, getD}
+use Rattle.streams.specs.Answer.{Answer, refused, gives, _orElse_, unless}
+use Rattle.policy.specs.Rules.{Place}
+use Rattle.enforcer.specs.Entries.{RunAnswer, marksRefusal, inputOf, outputOf, runOf}
+use Rattle.prepare.specs.Entry.{Summary, prepareOf}
+use Rattle.join.specs.Entry.{joinOf}
+use Rattle.ticks.specs.Conversion.{ticksOf}
+
+abbrev pub answerWord : Answer ℕ → ℕ
+answerWord (refused n) = n
+answerWord (gives v) = v * 256
+
+-- The verdict from bit 8 on, the number of states from bit 16 on, and the number of live ones from bit 40 on.
+abbrev pub summaryWord : Answer Summary → ℕ
+summaryWord (refused n) = n
+summaryWord (gives s) = s .verdict * 256 + s .states * 65536 + s .live * 1099511627776
+
+-- "run adds the count released .., for every refusal". The 56 bits above the refusal hold it modulo 2 ^ 56.
+abbrev pub ranWord : RunAnswer → ℕ
+ranWord r = r .refusal + r .count % 2 ^ 56 * 256
+
+-- "A state is a location and four clock values": five numbers, in this order.
+abbrev pub stateWords : Place → List ℕ
+stateWords s = s .location ∷ s .clocks
+
+abbrev pub stateIn : List ℕ → Place
+stateIn s = record { location = getD s 0 0; clocks = getD s 1 0 ∷ getD s 2 0 ∷ getD s 3 0 ∷ getD s 4 0 ∷ [] }
+
+abbrev pub isState : List ℕ → Bool
+isState s = eqb (length s) 5
+
+-- Numbers that are not five are no state: 16 in its place in the order, after 1 to 10 and, where there is no room for what is released, 14.
+unfoldable pub oddRefusal : List ℕ → List ℕ → Bool → ℕ
+oddRefusal file marks room = marksRefusal file marks orElse unless room 14 orElse 16
+
+unfoldable pub prepareWord : List ℕ → List ℕ → ℕ
+prepareWord file marks = summaryWord (prepareOf file marks)
+
+-- The halves and the run: what each returns, and what the lent slices hold then.
+module _ (file marks state : List ℕ) where
+  unfoldable pub inputWord : ℕ → ℕ
+  inputWord x = cond (isState state) (answerWord (inputOf file marks (stateIn state) x)) (oddRefusal file marks true)
+
+  unfoldable pub outputWord : ℕ → ℕ → ℕ
+  outputWord x y = cond (isState state) (answerWord (outputOf file marks (stateIn state) x y .answer)) (oddRefusal file marks true)
+
+  unfoldable pub outputState : ℕ → ℕ → List ℕ
+  outputState x y = cond (isState state) (stateWords (outputOf file marks (stateIn state) x y .state)) state
+
+  module _ (events out : List ℕ) where
+    unfoldable pub runWord : ℕ
+    runWord =
+        cond (isState state) (ranWord (runOf file marks (stateIn state) events out))
+        (oddRefusal file marks (leb (length events) (length out)))
+
+    unfoldable pub runState : List ℕ
+    runState = cond (isState state) (stateWords (runOf file marks (stateIn state) events out .state)) state
+
+    unfoldable pub runOut : List ℕ
+    runOut = cond (isState state) (runOf file marks (stateIn state) events out .out) out
+
+unfoldable pub joinWord : List ℕ → List ℕ → List ℕ → ℕ
+joinWord a b out = answerWord (joinOf a b out)
+
+-- 0 stands for down, and every other number for up.
+abbrev pub isUp : ℕ → Bool
+isUp n = not (eqb n 0)
+
+unfoldable pub ticksWord : ℕ → ℕ → ℕ → ℕ
+ticksWord time tick up = answerWord (ticksOf time tick (isUp up))

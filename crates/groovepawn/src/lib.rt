@@ -1,0 +1,146 @@
+// The entries for a controller in C: each answer is one number, and a state is five numbers, the location and then the four clock values.
+// What each call promises stands in specs/.
+use enforcer::Answer;
+use enforcer::State;
+use enforcer::input_half;
+use enforcer::marks_refusal;
+use enforcer::run;
+use join::Joined;
+use prepare::Prepared;
+use ticks::Conversion;
+use ticks::Milliseconds;
+use ticks::Rounding;
+ghost use mathlib.Core.Path.{_≡_};
+ghost use lib.ListN.{length};
+ghost use Rattle.enforcer.specs.Code.{asPlace};
+ghost use Rattle.enforcer.specs.Promises.{answerSaid};
+ghost use Rattle.groovepawn.specs.Words.{answerWord, stateIn, stateWords, oddRefusal};
+ghost use Rattle.groovepawn.specs.Calls.{PrepareCall, InputCall, OutputCall, RunCall, JoinCall, TicksCall};
+
+// The state in five numbers.
+fn state_of(state: &[u16]) -> State
+    requires { ⌜ length (now state) ≡ 5 ⌝ }
+    ensures { λ r. ⌜ asPlace r ≡ stateIn (now (state .entry)) ⌝ }
+{
+    State {
+        location: state[0],
+        clocks: [state[1], state[2], state[3], state[4]],
+    }
+}
+
+// The five numbers become those of the next state.
+fn put_state(state: &mut [u16], next: State)
+    requires { ⌜ length (now state) ≡ 5 ⌝ }
+    ensures { λ _. ⌜ now (state .exit) ≡ stateWords (asPlace next) ⌝ }
+{
+    let clocks = next.clocks;
+    state[0] = next.location;
+    state[1] = clocks[0];
+    state[2] = clocks[1];
+    state[3] = clocks[2];
+    state[4] = clocks[3];
+}
+
+// What is refused where the state is not five numbers.
+fn odd_refusal(file: &[u8], marks: &[u8], room: bool) -> u8
+    ensures { λ r. ⌜ r ≡ oddRefusal (now (file .entry)) (now (marks .entry)) room ⌝ }
+{
+    let r = marks_refusal(file, policy::check(file), marks);
+    if r != 0 {
+        return r;
+    }
+    if room { 16 } else { 14 }
+}
+
+fn answer_word(answer: Answer) -> u32
+    ensures { λ r. ⌜ r ≡ answerWord (answerSaid answer) ⌝ }
+{
+    match answer {
+        Answer::Value(v) => v as u32 * 256,
+        Answer::Refused(n) => n as u32,
+    }
+}
+
+#[no_mangle]
+pub extern "C" fn groovepawn_prepare(file: &[u8], marks: &mut [u8]) -> u64
+    ensures { λ r. ⌜ PrepareCall (now (file .entry)) (now (marks .entry)) r (now (marks .exit)) ⌝ }
+{
+    match prepare::prepare(file, marks) {
+        Prepared::Gives(s) => s.verdict as u64 * 256
+            + s.states as u64 * 65536
+            + s.live as u64 * 1099511627776,
+        Prepared::Refused(n) => n as u64,
+    }
+}
+
+#[no_mangle]
+pub extern "C" fn groovepawn_input(file: &[u8], marks: &[u8], state: &[u16], x: u8) -> u32
+    ensures { λ r. ⌜ InputCall (now (file .entry)) (now (marks .entry)) (now (state .entry)) x r ⌝ }
+{
+    if state.len() != 5 {
+        return odd_refusal(file, marks, true) as u32;
+    }
+    answer_word(input_half(file, marks, state_of(state), x))
+}
+
+#[no_mangle]
+pub extern "C" fn groovepawn_output(
+    file: &[u8],
+    marks: &[u8],
+    state: &mut [u16],
+    x: u8,
+    y: u8,
+) -> u32
+    ensures { λ r. ⌜ OutputCall (now (file .entry)) (now (marks .entry)) (now (state .entry)) x y r (now (state .exit)) ⌝ }
+{
+    if state.len() != 5 {
+        return odd_refusal(file, marks, true) as u32;
+    }
+    let given = state_of(state);
+    let output = given.output(file, marks, x, y);
+    let next = output.state;
+    put_state(state, next);
+    let answer = output.answer;
+    answer_word(answer)
+}
+
+#[no_mangle]
+pub extern "C" fn groovepawn_run(
+    file: &[u8],
+    marks: &[u8],
+    state: &mut [u16],
+    events: &[u8],
+    released: &mut [u8],
+) -> u64
+    ensures { λ r. ⌜ RunCall (now (file .entry)) (now (marks .entry)) (now (state .entry)) (now (events .entry)) (now (released .entry)) r (now (state .exit)) (now (released .exit)) ⌝ }
+{
+    if state.len() != 5 {
+        return odd_refusal(file, marks, events.len() <= released.len()) as u64;
+    }
+    let given = state_of(state);
+    let ran = run(file, marks, given, events, released);
+    let next = ran.state;
+    put_state(state, next);
+    ran.refusal as u64 + ran.count as u64 % 72057594037927936 * 256
+}
+
+#[no_mangle]
+pub extern "C" fn groovepawn_join(a: &[u8], b: &[u8], out: &mut [u8]) -> u64
+    ensures { λ r. ⌜ JoinCall (now (a .entry)) (now (b .entry)) (now (out .entry)) r (now (out .exit)) ⌝ }
+{
+    match join::join(a, b, out) {
+        Joined::Length(n) => n as u64 * 256,
+        Joined::Refused(n) => n as u64,
+    }
+}
+
+#[no_mangle]
+pub extern "C" fn groovepawn_ticks(milliseconds: u32, tick_length: u32, up: u8) -> u32
+    ensures { λ r. ⌜ TicksCall milliseconds «tick_length» up r ⌝ }
+{
+    let rounding = if up == 0 { Rounding::Down } else { Rounding::Up };
+    match Milliseconds(milliseconds).to_ticks(Milliseconds(tick_length), rounding) {
+        Conversion::Gives(t) => t.count() * 256,
+        Conversion::Refused(n) => n as u32,
+    }
+}

@@ -1,0 +1,59 @@
+/* A controller's loop over the policy "after R, C at latest on the fourth tick". The controller never gives C by itself. */
+#include <stdio.h>
+
+#include "groovepawn.h"
+
+static const uint8_t policy[] = {
+    1, 'R',                                              /* inputs */
+    1, 'C',                                              /* outputs */
+    1, 0x00, 0x03,                                       /* clocks: the ceiling is 3 */
+    2, 0, 0,                                             /* locations: 0 quiet, 1 waiting for C */
+    0, 4,                                                /* rules */
+    0x00, 1, 1, 0, 0, 1, 0x01, 0x00, 0x00, 0xff, 0xff,   /* quiet, R: now waiting, the clock at 0 */
+    0x00, 0, 0, 0, 0, 1, 0x00, 0x00, 0x00, 0xff, 0xff,   /* quiet: stays so */
+    0x01, 0, 0, 1, 1, 1, 0x00, 0x00, 0x00, 0xff, 0xff,   /* waiting, C: quiet again */
+    0x01, 0, 0, 1, 0, 0, 0x01, 0x00, 0x00, 0x00, 0x02,   /* waiting, no C: while the clock is at most 2 */
+};
+
+/* What the sensor reads, tick by tick. */
+static const uint8_t sensor[] = {1, 0, 0, 0, 0};
+
+/* The controller, which forgets C. */
+static uint8_t controller(uint8_t x)
+{
+    (void)x;
+    return 0;
+}
+
+int main(void)
+{
+    static uint8_t marks[65536];
+    uint16_t state[5] = {0, 0, 0, 0, 0};
+
+    uint64_t prepared = groovepawn_prepare(policy, sizeof policy, marks, sizeof marks);
+    if (GROOVEPAWN_REFUSAL(prepared) != 0) {
+        printf("refused %u\n", (unsigned)GROOVEPAWN_REFUSAL(prepared));
+        return 1;
+    }
+    printf("verdict %u states %u live %u\n", (unsigned)GROOVEPAWN_VERDICT(prepared), (unsigned)GROOVEPAWN_STATES(prepared),
+           (unsigned)GROOVEPAWN_LIVE(prepared));
+
+    for (size_t tick = 0; tick < sizeof sensor; tick++) {
+        uint32_t input = groovepawn_input(policy, sizeof policy, marks, sizeof marks, state, 5, sensor[tick]);
+        if (GROOVEPAWN_REFUSAL(input) != 0) {
+            printf("refused %u\n", (unsigned)GROOVEPAWN_REFUSAL(input));
+            return 1;
+        }
+        uint8_t x = (uint8_t)GROOVEPAWN_VALUE(input);
+        uint8_t wanted = controller(x);
+        uint32_t output = groovepawn_output(policy, sizeof policy, marks, sizeof marks, state, 5, x, wanted);
+        if (GROOVEPAWN_REFUSAL(output) != 0) {
+            printf("refused %u\n", (unsigned)GROOVEPAWN_REFUSAL(output));
+            return 1;
+        }
+        uint8_t y = (uint8_t)GROOVEPAWN_VALUE(output);
+        printf("tick %u: input %u passed as %u, output %u put out as %u, event %02X, then location %u and clock %u\n", (unsigned)(tick + 1),
+               (unsigned)sensor[tick], (unsigned)x, (unsigned)wanted, (unsigned)y, (unsigned)(x | y << 4), (unsigned)state[0], (unsigned)state[1]);
+    }
+    return 0;
+}

@@ -1,0 +1,114 @@
+/*
+ * groovepawn.h: the entries of libgroovepawn.a for a controller in C or C++.
+ *
+ * Once: groovepawn_prepare checks a policy and marks the states that have a future.
+ * Each tick: read the input x, hand it to groovepawn_input, and act on the x' that comes back; then hand that x' and your answer y to
+ * groovepawn_output, and put out the y' that comes back. groovepawn_run does the same for many ticks at once.
+ *
+ * Slices. Each pointer is followed by its length, in elements. It points to that many elements, is not NULL (nor where the length is 0) and is
+ * aligned for its type. A slice that is not const is written: it overlaps no other slice of the same call, and nothing else touches it during the
+ * call. No call keeps a pointer or anything else, so that calls over different slices may run at the same time. Every call checks the bytes that it
+ * is given anew, whatever they are, and always returns.
+ *
+ *   file    the policy file: at most 5,974 bytes
+ *   marks   one byte for each state, 1 live and 0 not: 65,536 bytes are always enough; bytes past the number of states are neither read nor written
+ *   state   five numbers: the location, then the four clock values, unused ones 0. The start state is { 0, 0, 0, 0, 0 }
+ *   x, y    an input, an output: bit 0 is the first signal of its section of the file
+ *   event   one byte: input x in the low four bits, output y in the high four
+ *
+ * Answers. The low eight bits are the number of a refusal, or 0 for none; the fields above hold then. With a refusal they are 0, except for the count
+ * of groovepawn_run. With a refusal nothing is written, except by refusal 11 of groovepawn_prepare and refusal 17 of groovepawn_run.
+ *
+ *    1  a count or its section is cut short
+ *    2  a count is outside its limits
+ *    3  a tag is not A to Z or is repeated
+ *    4  a ceiling is 0 or above 1,001
+ *    5  a location byte is not 0
+ *    6  a rule's first seven bytes break the rules of the file
+ *    7  a rule's bounds break them
+ *    8  bytes are left over
+ *    9  more than 65,536 states
+ *   10  the mark slice is shorter than the number of states
+ *   11  the start is not live
+ *   12  two policies differ in signal tags or their order
+ *   13  a join has over 64 locations, 4 clocks, 256 rules or 65,536 states
+ *   14  the slice to be written is too short
+ *   15  an event, x or y has a bit beyond its signals
+ *   16  a state is not five numbers, has a location or clock value out of range, an unused clock not 0, or a mark other than 1
+ *   17  no input, or for the given x' no output, reaches a state marked 1
+ *   18  the tick length is 0
+ *   19  the tick count is above 1,000
+ *
+ * Where several hold, the first in this order is given: 1 to 9 as they come in the file, 10, 11, 14, 16, 15, 17. A join asks 1 to 9 of its first
+ * file, then of its second, then 12, 13, 14. With the marks of groovepawn_prepare and a live state, groovepawn_input and groovepawn_run never give 17.
+ *
+ * Stack use: not stated yet.
+ */
+#ifndef GROOVEPAWN_H
+#define GROOVEPAWN_H
+
+#include <stddef.h>
+#include <stdint.h>
+
+#ifdef __cplusplus
+extern "C" {
+#endif
+
+/* The number of a refusal, 0 for none; and what stands above it. */
+#define GROOVEPAWN_REFUSAL(answer) ((answer) & 0xff)
+#define GROOVEPAWN_VALUE(answer) ((answer) >> 8)
+
+/* The three numbers of groovepawn_prepare. */
+#define GROOVEPAWN_VERDICT(answer) (((answer) >> 8) & 0xff)
+#define GROOVEPAWN_STATES(answer) (((answer) >> 16) & 0xffffff)
+#define GROOVEPAWN_LIVE(answer) ((answer) >> 40)
+
+/*
+ * Checks the policy and writes one mark for each state. Refusals 1 to 11.
+ * Returns refusal | verdict << 8 | states << 16 | live << 40: how many states there are and how many are live.
+ * Verdict 0: every state is live. Verdict 1: the start is live and some state is not.
+ * Refusals 1 to 10 leave marks as it was. Refusal 11 leaves it as success does.
+ */
+uint64_t groovepawn_prepare(const uint8_t *file, size_t file_len, uint8_t *marks, size_t marks_len);
+
+/*
+ * The input half of a tick: the input x' to act on, which is x where some output lets the policy go on for ever, else the nearest such input.
+ * Refusals 1 to 10, 16, 15, 17. Returns refusal | x' << 8. Nothing is written: the state moves with the output half.
+ */
+uint32_t groovepawn_input(const uint8_t *file, size_t file_len, const uint8_t *marks, size_t marks_len, const uint16_t *state, size_t state_len,
+                          uint8_t x);
+
+/*
+ * The output half of a tick, given the x' of the input half and the controller's answer y: the output y' to put out, chosen likewise.
+ * Refusals 1 to 10, 16, 15, 17. Returns refusal | y' << 8. The state becomes the next one; with a refusal it stays as given.
+ */
+uint32_t groovepawn_output(const uint8_t *file, size_t file_len, const uint8_t *marks, size_t marks_len, uint16_t *state, size_t state_len,
+                           uint8_t x, uint8_t y);
+
+/*
+ * Many ticks: for each event one is released. Refusals 1 to 10, 14 (released is shorter than events), 16, 15, 17.
+ * Returns refusal | count << 8: how many events were released. (The count is held modulo 2 to the 56th, which no slice reaches.)
+ * The state becomes the one after the events released, and these stand in front in released, whose other bytes stay.
+ * That is so with refusal 17 too: the run stops before the event that it cannot answer. With every other refusal the count is 0, and state and
+ * released stay as given.
+ */
+uint64_t groovepawn_run(const uint8_t *file, size_t file_len, const uint8_t *marks, size_t marks_len, uint16_t *state, size_t state_len,
+                        const uint8_t *events, size_t events_len, uint8_t *released, size_t released_len);
+
+/*
+ * Joins two policies over the same signals into one that asks what both ask. Refusals 1 to 9 of a, 1 to 9 of b, 12, 13, 14.
+ * Returns refusal | length << 8: how many bytes of out the joined file takes; the other bytes stay. 5,974 bytes are always enough.
+ * With a refusal out stays as given. A joined file is a policy like any other, to be handed to groovepawn_prepare.
+ */
+uint64_t groovepawn_join(const uint8_t *a, size_t a_len, const uint8_t *b, size_t b_len, uint8_t *out, size_t out_len);
+
+/*
+ * A time in milliseconds as ticks of so many milliseconds, rounded down where up is 0, else up. Refusals 18, 19. Returns refusal | ticks << 8.
+ */
+uint32_t groovepawn_ticks(uint32_t milliseconds, uint32_t tick_length, uint8_t up);
+
+#ifdef __cplusplus
+}
+#endif
+
+#endif
