@@ -1,14 +1,11 @@
 -- The input's frame: "a two-byte count (at most 5,974), the policy, a two-byte count (at most 16,384), the events".
 use mathlib.Core.List.{List}
-use Prim.Native.Nat.{ℕ, _+_, _*_}
+use Prim.Native.Nat.{ℕ, _+_}
 use lib.Dec.{leb}
-use lib.ListN.{length, getD, take, drop}
+use lib.ListN.{length}
 use Rattle.streams.specs.Answer.{_orElse_, unless}
+use Rattle.policy.specs.File.{pairAt, part}
 use Rattle.console.specs.declared.frame.Part.{Part}
-
--- "All two-byte numbers have the high byte first." Past the end stands 0.
-abbrev pub pairAt : List ℕ → ℕ → ℕ
-pairAt input at = getD input at 0 * 256 + getD input (at + 1) 0
 
 -- Of a count at `at` and the bytes that it counts: "count whole (1), within its limit (2), .. all there (1)".
 unfoldable pub countRefusal : List ℕ → (at most : ℕ) → ℕ
@@ -25,7 +22,7 @@ module _ (input : List ℕ) where
   policyEnd = 2 + pairAt input 0
 
   abbrev pub policyPart : List ℕ
-  policyPart = take (pairAt input 0) (drop 2 input)
+  policyPart = part input 2 (pairAt input 0)
 
   -- "second count whole (1), within its limit (2), events all there (1), nothing after them (8)"
   abbrev pub eventsStart : ℕ
@@ -38,7 +35,7 @@ module _ (input : List ℕ) where
   eventsFrameRefusal = countRefusal input policyEnd 16384 orElse unless (leb (length input) eventsEnd) 8
 
   abbrev pub eventsPart : List ℕ
-  eventsPart = take (pairAt input policyEnd) (drop eventsStart input)
+  eventsPart = part input eventsStart (pairAt input policyEnd)
 
   -- The refusal, and where the part stands.
   abbrev pub policyFramed : Part

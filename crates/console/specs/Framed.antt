@@ -1,15 +1,15 @@
 -- Laws of the frame: what is not refused is all there, and a policy and events that are put into a frame are read back.
 use mathlib.Core.Path.{_≡_, subst}
 use mathlib.Core.List.{List, [], _∷_, _++_, append-nil}
-use Prim.Native.Nat.{ℕ, _+_, _/_, _%_, _≤_}
+use Prim.Native.Nat.{ℕ, _+_, _-_, _/_, _%_, _≤_}
 use native.Mathlib.Omega.{arith}
 use lib.Dec.{leb}
 use lib.ListN.{length, take, drop, length-append}
 use lib.Seq.{getD-append-seam, getD-append-add, take-append-seam, drop-append-add}
 use borrow.Author.Tests.{leb-true, le-leb}
 use Rattle.streams.specs.Answer.{unless, none-refused, none-unless}
+use Rattle.policy.specs.File.{pairAt, part}
 use Rattle.console.specs.Frame.{
-  pairAt,
   countRefusal,
   policyFrameRefusal,
   policyEnd,
@@ -30,6 +30,10 @@ count-fits input at most e =
     let b = none-refused (unless (leb (pairAt input at) most) 2) _ .0 (a .1) in
     (leb-true _ _ (none-unless _ 1 .0 (b .0)), leb-true _ _ (none-unless _ 0 .0 (b .1)))
 
+-- A part, by where it starts and where it ends.
+pub part-between : (input : List ℕ) (at n : ℕ) {start end : ℕ} → start ≡ at → end ≡ at + n → take (end - start) (drop start input) ≡ part input at n
+part-between input at n {start} {end} s e = let k : end - start ≡ n = omega arith in rw (k, s)
+
 -- The events end with the input.
 pub events-fit :
     (input : List ℕ) → eventsFrameRefusal input ≡ 0 →
@@ -43,7 +47,7 @@ events-fit input e =
 -- The bytes stand in the input, after their count at `at`.
 record Stands (input : List ℕ) (at : ℕ) (bytes : List ℕ) : Type 0 where
   count : pairAt input at ≡ length bytes
-  part : take (length bytes) (drop (at + 2) input) ≡ bytes
+  there : part input (at + 2) (length bytes) ≡ bytes
   within : at + 2 + length bytes ≤ length input
 
 abbrev pub counted : List ℕ → List ℕ
@@ -55,7 +59,7 @@ stands before bytes after =
     let low = getD-append-add before (counted bytes ++ after) 1 0 in
     record {
       count = omega arith;
-      part = rw drop-append-add (take-append-seam bytes after);
+      there = rw drop-append-add (take-append-seam bytes after);
       within = simp length-append (omega arith);
     }
 
@@ -86,10 +90,10 @@ module _ (policy events : List ℕ) where
       (rw append-nil at (stands (counted policy) events []))
 
   pub policy-read : length policy ≤ 5974 → (policyFrameRefusal (framed policy events) ≡ 0) × (policyPart (framed policy events) ≡ policy)
-  policy-read h = (accepted 5974 policy-stands h, rw (policy-stands .count) (policy-stands .part))
+  policy-read h = (accepted 5974 policy-stands h, rw (policy-stands .count) (policy-stands .there))
 
   pub events-read : length events ≤ 16384 → (eventsFrameRefusal (framed policy events) ≡ 0) × (eventsPart (framed policy events) ≡ events)
   events-read h =
       let e = events-stand in
       let n : length (framed policy events) ≤ eventsStart (framed policy events) + length events = omega (arith, policy-end, length-append (counted policy) (counted events)) in
-      (rw (accepted 16384 e h, e .count, le-leb _ _ n), rw (e .count) (e .part))
+      (rw (accepted 16384 e h, e .count, le-leb _ _ n), rw (e .count) (e .there))

@@ -4,3 +4,7 @@ pub mod Lines
 pub mod Wrote
 pub mod Frame
 pub mod Framed
+pub mod Printed
+pub mod Scratch
+pub mod Reply
+pub mod Longer

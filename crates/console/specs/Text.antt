@@ -1,5 +1,4 @@
 -- What `enforce` prints, as bytes.
-use mathlib.Core.Path.{_≡_, refl}
 use mathlib.Core.Bool.{cond}
 use mathlib.Core.List.{List, [], _∷_, _++_}
 use Prim.Native.Nat.{ℕ, zero, suc, _+_, _/_, _%_}
@@ -60,14 +59,3 @@ unfoldable pub tickLines : (from : ℕ) (events released : List ℕ) → List �
 tickLines from [] released = []
 tickLines from (e ∷ events) [] = []
 tickLines from (e ∷ events) (r ∷ released) = eventLine from e r ++ tickLines (from + 1) events released
-
--- The sample, T with the events 01 11, for which 00 10 is released:
--- verdict 1 states 2 live 1
--- 1 1 0 0 0 EF
--- 2 1 1 0 1 EF
-pub sample : verdictLine 1 2 1 ++ tickLines 1 (1 ∷ 17 ∷ []) (0 ∷ 16 ∷ []) ≡
-    118 ∷ 101 ∷ 114 ∷ 100 ∷ 105 ∷ 99 ∷ 116 ∷ 32 ∷ 49 ∷ 32 ∷ 115 ∷ 116 ∷ 97 ∷ 116 ∷ 101 ∷ 115 ∷ 32 ∷ 50 ∷ 32 ∷ 108 ∷ 105 ∷ 118 ∷ 101 ∷ 32 ∷ 49 ∷ 10
-    ∷ 49 ∷ 32 ∷ 49 ∷ 32 ∷ 48 ∷ 32 ∷ 48 ∷ 32 ∷ 48 ∷ 32 ∷ 69 ∷ 70 ∷ 10
-    ∷ 50 ∷ 32 ∷ 49 ∷ 32 ∷ 49 ∷ 32 ∷ 48 ∷ 32 ∷ 49 ∷ 32 ∷ 69 ∷ 70 ∷ 10 ∷ []
-unfolding digits decimal verdictLine tickLine tickLines
-sample = refl

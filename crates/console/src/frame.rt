@@ -1,33 +1,14 @@
 // The frame of the input: a count and the policy, a count and the events.
+use policy::bytes::pair_at;
 ghost use mathlib.Core.Path.{_≡_};
 ghost use Prim.Native.Nat.{_<_, _^_};
-ghost use lib.ListN.{getD};
-ghost use Rattle.console.specs.Frame.{pairAt, countRefusal, policyFramed, eventsFramed};
+ghost use Rattle.console.specs.Frame.{countRefusal, policyFramed, eventsFramed};
 
 // Where a part of the input stands, and its refusal: 0 is none.
 pub struct Part {
     pub refusal: u8,
     pub start: usize,
     pub end: usize,
-}
-
-// Past the end stands 0.
-fn byte_at(input: &[u8], at: usize) -> usize
-    ensures { λ r. ⌜ (r ≡ getD (now (input .entry)) at 0) × (r < 256) ⌝ }
-{
-    if at < input.len() {
-        input[at] as usize
-    } else {
-        0
-    }
-}
-
-// The number in two bytes, the high byte first.
-fn pair_at(input: &[u8], at: usize) -> usize
-    requires { ⌜ at < 2 ^ 32 ⌝ }
-    ensures { λ r. ⌜ (r ≡ pairAt (now (input .entry)) at) × (r < 65536) ⌝ }
-{
-    byte_at(input, at) * 256 + byte_at(input, at + 1)
 }
 
 // The refusal of a count at `at` and of the bytes that it counts.

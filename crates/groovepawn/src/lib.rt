@@ -138,7 +138,11 @@ pub extern "C" fn groovepawn_join(a: &[u8], b: &[u8], out: &mut [u8]) -> u64
 pub extern "C" fn groovepawn_ticks(milliseconds: u32, tick_length: u32, up: u8) -> u32
     ensures { λ r. ⌜ TicksCall milliseconds «tick_length» up r ⌝ }
 {
-    let rounding = if up == 0 { Rounding::Down } else { Rounding::Up };
+    let rounding = if up == 0 {
+        Rounding::Down
+    } else {
+        Rounding::Up
+    };
     match Milliseconds(milliseconds).to_ticks(Milliseconds(tick_length), rounding) {
         Conversion::Gives(t) => t.count() * 256,
         Conversion::Refused(n) => n as u32,

@@ -5,3 +5,4 @@ pub mod Granted
 pub mod Demand2
 pub mod Demand3
 pub mod Incident
+pub mod Program

@@ -26,7 +26,7 @@ answer-word-requires c κs = search needs
 
 returns-2 : tie.Need-returns-2
 unfolding inputWord
-returns-2 c = 
+returns-2 c =
     let i = c .before in
     let s = i .before in
     record { said = rw (eq-eqb _ 5 (s .before .if1 .left), ← s .state-of .ensures, ← i .input-half .ensures .said) (c .answer-word .ensures) }

@@ -32,7 +32,7 @@ same-length c = search needs
 
 returns-2 : tie.Need-returns-2
 unfolding outputWord outputState
-returns-2 c = 
+returns-2 c =
     let p = c .before .before .before in
     let o = p .before .before .before in
     let s = o .before in

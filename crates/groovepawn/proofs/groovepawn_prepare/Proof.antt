@@ -63,7 +63,7 @@ same-length-2 c = search needs
 
 returns-2 : tie.Need-returns-2
 unfolding prepareWord
-returns-2 c = 
+returns-2 c =
     let p = c .before .before .before .before .before in
     record { said = rw (← p .prepare .ensures .said, c .before .n .given .1); marks = p .prepare .ensures .marks }
 

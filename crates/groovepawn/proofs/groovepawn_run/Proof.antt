@@ -42,7 +42,7 @@ same-length-2 c = search needs
 
 returns-2 : tie.Need-returns-2
 unfolding runWord runState runOut
-returns-2 c = 
+returns-2 c =
     let p = c .before .before .before in
     let r = p .before .before .before .before .before in
     let s = r .before .before in

@@ -1,0 +1,82 @@
+-- Of an input longer than the longest the first 2 + 5,974 + 2 + 16,384 + 1 bytes decide: it is enough to read those.
+use mathlib.Core.Path.{_≡_, refl, sym, _∙_}
+use mathlib.Core.Bool.{Bool, true, false}
+use mathlib.Core.List.{List, _++_}
+use Prim.Native.Nat.{ℕ, zero, suc, _+_, _≤_, _<_}
+use native.Mathlib.Omega.{arith}
+use lib.Dec.{leb}
+use lib.ListN.{length, drop, length-append, length-drop, List·getD-append}
+use lib.Seq.{take-append-le, drop-append-le}
+use borrow.Author.Tests.{leb-true, le-leb, lt-leb}
+use Rattle.streams.specs.Answer.{Answer, refused, gives, _orElse_, unless}
+use Rattle.policy.specs.File.{pairAt, part}
+use Rattle.prepare.specs.Entry.{Summary, prepareOf}
+use Rattle.console.specs.Frame.{countRefusal, policyFrameRefusal, policyEnd, policyPart, eventsFrameRefusal, eventsEnd}
+use Rattle.console.specs.Framed.{count-fits, events-fit}
+use Rattle.console.specs.Printed.{unlessRefused, lent, enforcedText, printed}
+use Rattle.console.specs.Reply.{events-refused}
+
+module _ (front rest : List ℕ) where
+  pair-front : (at : ℕ) → at + 1 < length front → pairAt (front ++ rest) at ≡ pairAt front at
+  pair-front at h = rw (List·getD-append front rest 0 at (omega arith), List·getD-append front rest 0 (at + 1) h)
+
+  part-front : (at n : ℕ) → at + n ≤ length front → part (front ++ rest) at n ≡ part front at n
+  part-front at n h =
+      let l : n ≤ length (drop at front) = simp length-drop (omega arith) in
+      rw (drop-append-le at front rest (omega arith), take-append-le n (drop at front) rest l)
+
+  -- A count whose bytes cannot end behind the front.
+  count-front : (at most : ℕ) → at + 2 + most ≤ length front → countRefusal (front ++ rest) at most ≡ countRefusal front at most
+  unfolding countRefusal
+  count-front at most h =
+      let n = length-append front rest in
+      rw (pair-front at (omega arith), le-leb (at + 2) (length (front ++ rest)) (omega arith), le-leb (at + 2) (length front) (omega arith))
+      (go (leb (pairAt front at) most) refl)
+    where
+      go : (t : Bool) → leb (pairAt front at) most ≡ t →
+          (unless (leb (pairAt front at) most) 2 orElse unless (leb (at + 2 + pairAt front at) (length (front ++ rest))) 1)
+          ≡ (unless (leb (pairAt front at) most) 2 orElse unless (leb (at + 2 + pairAt front at) (length front)) 1)
+      go false e = rw e
+      go true e =
+          let l = leb-true (pairAt front at) most e in
+          let n = length-append front rest in
+          rw (e, le-leb (at + 2 + pairAt front at) (length (front ++ rest)) (omega arith), le-leb (at + 2 + pairAt front at) (length front) (omega arith))
+
+  module _ (long : 22363 ≤ length front) where
+    -- Where the policy is framed, the events' frame is refused, and for both by the same number.
+    module _ (framed : policyFrameRefusal front ≡ 0) where
+      short : pairAt front 0 ≤ 5974
+      short = count-fits front 0 5974 framed .0
+
+      left-over : eventsFrameRefusal front ≡ 0 → ⊥
+      left-over e = let f = events-fit front e in omega (arith, short)
+
+      events-same : eventsFrameRefusal (front ++ rest) ≡ eventsFrameRefusal front
+      events-same =
+          rw (pair-front 0 (omega arith), pair-front (policyEnd front) (omega (arith, short)), count-front (policyEnd front) 16384 (omega (arith, short)))
+          (go (countRefusal front (policyEnd front) 16384) refl)
+        where
+          go : (c : ℕ) → countRefusal front (policyEnd front) 16384 ≡ c →
+              (c orElse unless (leb (length (front ++ rest)) (eventsEnd front)) 8) ≡ (c orElse unless (leb (length front) (eventsEnd front)) 8)
+          go (suc c) e = refl
+          go zero e =
+              let f = count-fits front (policyEnd front) 16384 e in
+              let n = length-append front rest in
+              rw (lt-leb (length (front ++ rest)) (eventsEnd front) (omega (arith, short)), lt-leb (length front) (eventsEnd front) (omega (arith, short)))
+
+      text-same : (a : Answer Summary) → enforcedText (front ++ rest) a ≡ enforcedText front a
+      unfolding enforcedText
+      text-same (refused n) = refl
+      text-same (gives s) = events-refused (front ++ rest) s (sym events-same) left-over ∙ sym (events-refused front s refl left-over)
+
+    pub printed-front : printed (front ++ rest) ≡ printed front
+    unfolding printed
+    printed-front = rw (count-front 0 5974 (omega arith)) (go (policyFrameRefusal front) refl)
+      where
+        go : (c : ℕ) → policyFrameRefusal front ≡ c →
+            unlessRefused c (enforcedText (front ++ rest) (prepareOf (policyPart (front ++ rest)) (lent 65536)))
+            ≡ unlessRefused c (enforcedText front (prepareOf (policyPart front) (lent 65536)))
+        go (suc c) e = refl
+        go zero e =
+            rw (pair-front 0 (omega arith), part-front 2 (pairAt front 0) (omega (arith, short e)))
+            (text-same e (prepareOf (policyPart front) (lent 65536)))

@@ -1,0 +1,119 @@
+-- What the functions of the reply ask and say, and what is printed by each way through the checks.
+use mathlib.Core.Path.{_≡_, refl, sym, ap, subst, _∙_}
+use mathlib.Core.List.{List, _++_}
+use Prim.Native.Nat.{ℕ, zero, suc, _≤_, zero-le}
+use native.Mathlib.Nat.{le-refl}
+use native.Mathlib.Omega.{arith}
+use lib.ListN.{length, take, drop, length-append, length-replicate}
+use lib.Seq.{length-take-le, take-at}
+use Rattle.streams.specs.Answer.{gives, _orElse_, unless, none-refused, first-refused, given-only}
+use Rattle.policy.specs.Rules.{start}
+use Rattle.policy.specs.File.{policyOf}
+use Rattle.policy.specs.Number.{states, numberOf}
+use Rattle.policy.specs.Check.{refusalOf}
+use Rattle.policy.specs.Checked.{checked-file}
+use Rattle.enforcer.specs.State.{isMarked}
+use Rattle.enforcer.specs.States.{marks-granted}
+use Rattle.enforcer.specs.Entries.{RunAnswer, marksRefusal}
+use Rattle.enforcer.specs.Code.{startState}
+use Rattle.enforcer.specs.Promises.{RunPromise, ranSaid}
+use Rattle.enforcer.specs.declared.runs.Ran.{Ran}
+use Rattle.prepare.specs.Table.{marksOf}
+use Rattle.prepare.specs.Entry as Entry
+use Rattle.prepare.specs.Promise.{preparedSaid, PreparePromise, marks-past}
+use Rattle.prepare.specs.Live.{marks-length}
+use Rattle.prepare.specs.declared.Summary.{Summary}
+use Rattle.prepare.specs.declared.Prepared.{Prepared}
+use Rattle.prepare.specs.declared.Prepared.the-variants as Prepared
+use Rattle.console.specs.Text.{refusedLine}
+use Rattle.console.specs.Frame.{policyFrameRefusal, policyPart, eventsFrameRefusal, eventsPart}
+use Rattle.console.specs.Wrote.{Wrote, wrote-one, wrote-front, wrote-within}
+use Rattle.console.specs.Printed.{unlessRefused, lent, ranInto, ranOver, summaryLines, enforcedText, printed}
+use Rattle.console.specs.Scratch.{prepare-alike, Alike, run-alike, start-is}
+
+-- The bytes stand at the front of the text, and r is their number. What stood after them stays. The last two follow: they are what the loan of the
+-- first r bytes asks.
+pub record Replied (before bytes : List ℕ) (r : ℕ) (after : List ℕ) : Type 0 where
+  pub wrote : Wrote before 0 bytes r after
+  pub within : r ≤ length after
+  pub counted : r ≡ length (take r after)
+
+pub replied : {before bytes after : List ℕ} {r : ℕ} → Wrote before 0 bytes r after → length after ≡ length before → Replied before bytes r after
+replied {after = after} {r = r} w e =
+    let h : r ≤ length after = omega (arith, wrote-within zero-le w e) in record { wrote = w; within = h; counted = sym (length-take-le r after h) }
+
+-- The first r bytes are those, and one r and one text alone are the reply.
+pub replied-front : {before bytes after : List ℕ} {r : ℕ} → Replied before bytes r after → take r after ≡ bytes
+replied-front k = wrote-front zero-le (k .wrote)
+
+pub replied-one : {before bytes after also : List ℕ} {r q : ℕ} → Replied before bytes r after → Replied before bytes q also → (r ≡ q) × (after ≡ also)
+replied-one k l = wrote-one (k .wrote) (l .wrote)
+
+-- The file is the policy of the input; it passes its checks, and these are its marks.
+pub record Prepares (input file marks : List ℕ) : Type 0 where
+  pub part : file ≡ policyPart input
+  pub passes : refusalOf file ≡ 0
+  pub marked : marks ≡ marksOf (policyOf file)
+
+-- A policy that gives a summary passes its checks, and its marks stand in front of what the slice held.
+pub prepared-marks : {file before after : List ℕ} {s : Summary} → PreparePromise file before (Prepared.Gives s) after →
+    (refusalOf file ≡ 0) × (s .states ≤ length after) × (take (s .states) after ≡ marksOf (policyOf file))
+unfolding Entry.prepareOf
+prepared-marks {file} {before} {after} {s} h =
+    let p = policyOf file in
+    let g = given-only (marksRefusal file before orElse unless (isMarked (marksOf p) (numberOf p (start p))) 11) _ _ (sym (h .said)) in
+    let z = none-refused (marksRefusal file before) _ .0 (g .0) .0 in
+    let k = marks-granted file before .0 z in
+    let n : states p ≡ s .states = ap (λ (s : Entry.Summary). s .states) (g .1) in
+    let after-is : after ≡ marksOf p ++ drop (states p) before = h .marks ∙ marks-past file before z in (
+      k .0,
+      rw (← n, after-is, length-append, marks-length) (omega arith),
+      rw (← n, after-is) (take-at (marksOf p) _ _ (marks-length p)),
+    )
+
+refused-text : (n : ℕ) (text : List ℕ) → (n ≡ 0 → ⊥) → unlessRefused n text ≡ refusedLine n
+refused-text zero text h = absurd (h refl)
+refused-text (suc n) text h = refl
+
+lent-length : (n : ℕ) → length (lent n) ≡ n
+unfolding lent
+lent-length n = length-replicate n 0
+
+module _ (input : List ℕ) where
+  -- The policy's frame is refused.
+  pub policy-refused : {n : ℕ} → n ≡ policyFrameRefusal input → (n ≡ 0 → ⊥) → printed input ≡ refusedLine n
+  unfolding printed
+  policy-refused {n} e h = rw (← e) (refused-text n _ h)
+
+  -- It is not: what prepare answers decides, whatever the marks held.
+  pub policy-framed :
+      {marks after : List ℕ} {r : Prepared} → length marks ≡ 65536 → policyFrameRefusal input ≡ 0 → PreparePromise (policyPart input) marks r after →
+      printed input ≡ enforcedText input (preparedSaid r)
+  unfolding printed
+  policy-framed {marks} n e h = rw (e, h .said, prepare-alike (policyPart input) (lent 65536) marks (lent-length 65536 ∙ sym n))
+
+  module _ (s : Entry.Summary) where
+    -- The events' frame is refused.
+    pub events-refused : {n : ℕ} → n ≡ eventsFrameRefusal input → (n ≡ 0 → ⊥) → enforcedText input (gives s) ≡ refusedLine n
+    unfolding enforcedText
+    events-refused {n} e h = rw (← e, first-refused n _ h) (refused-text n _ h)
+
+    -- It is not: the run that the code makes decides, whatever its slice held.
+    module _ {file marks : List ℕ} (p : Prepares input file marks) (framed : eventsFrameRefusal input ≡ 0)
+        (released : List ℕ) (room : length (eventsPart input) ≤ length released) {r : Ran} {after : List ℕ}
+        (ran : RunPromise file marks startState (eventsPart input) released r after) where
+      ran-said : ranInto (policyPart input) (eventsPart input) released ≡ ranSaid r after
+      ran-said = rw (← p .part, ← p .marked, start-is (policyOf file) (checked-file file (p .passes) .clocks)) (sym (ran .said))
+
+      ran-alike : Alike (eventsPart input) (ranSaid r after) (ranOver (policyPart input) (eventsPart input))
+      ran-alike =
+          subst (λ (q : RunAnswer). Alike (eventsPart input) q (ranOver (policyPart input) (eventsPart input))) ran-said
+          (run-alike _ _ _ (eventsPart input) released _ room (rw lent-length (le-refl (length (eventsPart input)))))
+
+      pub run-refused : (r .refusal ≡ 0 → ⊥) → enforcedText input (gives s) ≡ refusedLine (r .refusal)
+      unfolding enforcedText
+      run-refused h = rw (framed, ← ran-alike .refusal) (refused-text (r .refusal) _ h)
+
+      pub run-released : r .refusal ≡ 0 → enforcedText input (gives s) ≡ summaryLines s (eventsPart input) after
+      unfolding enforcedText
+      run-released z = rw (framed, ← ran-alike .refusal, z, ← ran-alike .lines z)

@@ -1,0 +1,86 @@
+-- What the slices lent to prepare and to the run hold makes no difference to what is printed.
+use mathlib.Core.Path.{_≡_, refl, sym, ap, _∙_}
+use mathlib.Core.Bool.{Bool, true, false, cond, true≢false}
+use mathlib.Core.List.{List, [], _∷_, _++_, map}
+use mathlib.Core.Option.{Option, none, some}
+use Prim.Native.Nat.{ℕ, zero, suc, _+_, _-_, _≤_}
+use native.Mathlib.Nat.{le-refl}
+use native.Mathlib.Omega.{arith}
+use lib.ListN.{length, take, replicate, length-map, length-replicate, replicate-append-replicate}
+use lib.Seq.{take-at, take-all}
+use borrow.Author.Tests.{le-leb}
+use Rattle.streams.specs.Answer.{_orElse_, unless}
+use Rattle.streams.specs.Stream.{Stream}
+use Rattle.policy.specs.Rules.{Policy, Place, start}
+use Rattle.policy.specs.File.{policyOf}
+use Rattle.policy.specs.Check.{all}
+use Rattle.enforcer.specs.State.{placeIn, stateOf}
+use Rattle.enforcer.specs.Tick.{Tick, Ran, tick, ran}
+use Rattle.enforcer.specs.Ticks.{ran-on, ran-none}
+use Rattle.enforcer.specs.Entries.{eventOf, byteOf, RunAnswer, runFrom, eventGood, marksRefusal, stateRefusal, runRefusal, runOf}
+use Rattle.enforcer.specs.Code.{asPlace, startState}
+use Rattle.prepare.specs.Entry.{prepareOf}
+use Rattle.console.specs.Text.{tickLines}
+use Rattle.console.specs.Lines.{lines-all}
+
+-- Of the marks that are lent, prepare's answer depends on their number alone.
+pub prepare-alike : (file marks others : List ℕ) → length marks ≡ length others → prepareOf file marks ≡ prepareOf file others
+unfolding prepareOf marksRefusal
+prepare-alike file marks others e = rw e
+
+-- A run that does not stop releases an event for each one read.
+ran-all : (p : Policy) (marks : List ℕ) (s : Place) (es : Stream) → ran p marks s es .stuck ≡ false → length (ran p marks s es .released) ≡ length es
+unfolding ran
+ran-all p marks s [] h = refl
+ran-all p marks s (e ∷ es) h = go (λ t. ran-all p marks (t .place) es) (tick p marks s e) refl h
+  where
+    go :
+        ((t : Tick) → ran p marks (t .place) es .stuck ≡ false → length (ran p marks (t .place) es .released) ≡ length es) →
+        (o : Option Tick) → tick p marks s e ≡ o → ran p marks s (e ∷ es) .stuck ≡ false → length (ran p marks s (e ∷ es) .released) ≡ suc (length es)
+    go more none k h = let r = ran-none p marks s e es k in absurd (true≢false (sym (ap (λ (r : Ran). r .stuck) r) ∙ h))
+    go more (some t) k h =
+        let r = ran-on p marks s e es t k in
+        ap (λ (r : Ran). length (r .released)) r ∙ ap suc (more t (sym (ap (λ (r : Ran). r .stuck) r) ∙ h))
+
+moving : (t : Bool) → _≡_ {A = ℕ} (cond t 17 0) 0 → t ≡ false
+moving true e = absurd (omega arith)
+moving false e = refl
+
+-- So where it refuses nothing the lines are those of what it releases, whatever the slice held.
+released-lines : (events bytes rest : List ℕ) → length bytes ≡ length events → tickLines 1 events (bytes ++ rest) ≡ tickLines 1 events bytes
+released-lines events bytes rest e =
+    let n = length events in
+    sym (lines-all 1 n events (bytes ++ rest) (le-refl n))
+    ∙ ap (tickLines 1 (take n events)) (take-at bytes rest n e ∙ sym (take-all n bytes (omega arith)))
+    ∙ lines-all 1 n events bytes (le-refl n)
+
+-- Two runs over the events that print the same.
+pub record Alike (events : List ℕ) (q o : RunAnswer) : Type 0 where
+  pub refusal : q .refusal ≡ o .refusal
+  pub lines : q .refusal ≡ 0 → tickLines 1 events (q .out) ≡ tickLines 1 events (o .out)
+
+module _ (file marks : List ℕ) (s : Place) (events a b : List ℕ) where
+  pub run-alike : length events ≤ length a → length events ≤ length b → Alike events (runOf file marks s events a) (runOf file marks s events b)
+  unfolding runOf runRefusal
+  run-alike h k =
+      let t = placeIn (policyOf file) s in
+      let r = ran (policyOf file) marks t (map eventOf events) in
+      rw (le-leb _ _ h, le-leb _ _ k)
+      (go (marksRefusal file marks orElse stateRefusal file marks s orElse unless (all (eventGood file) events) 15) r
+      (λ e. length-map (r .released) byteOf ∙ ran-all (policyOf file) marks t (map eventOf events) e ∙ length-map events eventOf))
+    where
+      go : (n : ℕ) (r : Ran) → (r .stuck ≡ false → length (map byteOf (r .released)) ≡ length events) → Alike events (runFrom s a n r) (runFrom s b n r)
+      go (suc n) r f = record { refusal = refl; lines = λ z. absurd (omega arith) }
+      go zero r f =
+          let bytes = map byteOf (r .released) in
+          record {
+            refusal = refl;
+            lines = λ z. let n = f (moving (r .stuck) z) in released-lines events bytes _ n ∙ sym (released-lines events bytes _ n);
+          }
+
+-- "The start state is location 0 with every clock 0", whatever the clocks are.
+pub start-is : (p : Policy) → length (p .ceilings) ≤ 4 → stateOf (start p) ≡ asPlace startState
+start-is p h =
+    let n = length (p .ceilings) in
+    let e : n + (4 - length (replicate {A = ℕ} n 0)) ≡ 4 = rw length-replicate (omega arith) in
+    ap (λ (vs : List ℕ). record { location = 0; clocks = vs }) (replicate-append-replicate n (4 - length (replicate {A = ℕ} n 0)) 0 ∙ rw e)
