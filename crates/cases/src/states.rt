@@ -1,0 +1,53 @@
+// States: how many numbers, then the numbers.
+use crate::Compared;
+use crate::Taken;
+use crate::numbers::Cursor;
+ghost use Rattle.cases.specs.Counts.{Counts};
+
+impl Cursor {
+    // The numbers of the next state, at the start of `into`.
+    pub fn state(self, cases: &[u8], into: &mut [u16]) -> Taken
+        ensures { λ r. ⌜ Counts (r .count) (now (into .exit)) ⌝ }
+    {
+        let head = self.byte(cases);
+        let count = head.value as usize;
+        let mut next = head.next;
+        if into.len() < count {
+            return Taken {
+                count: 0,
+                next: next.lose(),
+            };
+        }
+        let mut i = 0;
+        while i < count {
+            let number = next.pair(cases);
+            into[i] = number.value;
+            next = number.next;
+            i += 1;
+        }
+        Taken { count, next }
+    }
+
+    // The next state, which has as many numbers as `held`, compared with what that holds.
+    pub fn same_state(self, cases: &[u8], held: &[u16]) -> Compared {
+        let head = self.byte(cases);
+        let mut next = head.next;
+        if head.value as usize != held.len() {
+            return Compared {
+                same: false,
+                next: next.lose(),
+            };
+        }
+        let mut same = true;
+        let mut i = 0;
+        while i < held.len() {
+            let number = next.pair(cases);
+            if held[i] != number.value {
+                same = false;
+            }
+            next = number.next;
+            i += 1;
+        }
+        Compared { same, next }
+    }
+}

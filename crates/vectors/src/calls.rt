@@ -1,0 +1,117 @@
+// One call of each kind, and what differs afterwards from what the record says.
+use cases::Cursor;
+
+pub enum Differs {
+    Nothing,
+    Answer,
+    Bytes,
+    State,
+}
+
+// What differs, and where the record ends.
+pub struct Outcome {
+    pub differs: Differs,
+    pub next: Cursor,
+}
+
+fn first_of(answer: bool, bytes: bool, state: bool) -> Differs {
+    if !answer {
+        Differs::Answer
+    } else if !bytes {
+        Differs::Bytes
+    } else if !state {
+        Differs::State
+    } else {
+        Differs::Nothing
+    }
+}
+
+pub fn prepare(cases: &[u8], at: Cursor, file: &[u8], marks: &mut [u8]) -> Outcome {
+    let got = groovepawn::groovepawn_prepare(file, marks);
+    let answer = at.long(cases);
+    let next = answer.next;
+    let bytes = next.same_string(cases, marks);
+    let next = bytes.next;
+    Outcome {
+        differs: first_of(got == answer.value, bytes.same, true),
+        next,
+    }
+}
+
+pub fn input(cases: &[u8], at: Cursor, file: &[u8], marks: &[u8], state: &[u16]) -> Outcome {
+    let x = at.byte(cases);
+    let next = x.next;
+    let got = groovepawn::groovepawn_input(file, marks, state, x.value);
+    let answer = next.long(cases);
+    let next = answer.next;
+    Outcome {
+        differs: first_of(got as u64 == answer.value, true, true),
+        next,
+    }
+}
+
+pub fn output(cases: &[u8], at: Cursor, file: &[u8], marks: &[u8], state: &mut [u16]) -> Outcome {
+    let x = at.byte(cases);
+    let next = x.next;
+    let y = next.byte(cases);
+    let next = y.next;
+    let got = groovepawn::groovepawn_output(file, marks, state, x.value, y.value);
+    let answer = next.long(cases);
+    let next = answer.next;
+    let after = next.same_state(cases, state);
+    let next = after.next;
+    Outcome {
+        differs: first_of(got as u64 == answer.value, true, after.same),
+        next,
+    }
+}
+
+pub fn run(
+    cases: &[u8],
+    at: Cursor,
+    file: &[u8],
+    marks: &[u8],
+    state: &mut [u16],
+    events: &[u8],
+    released: &mut [u8],
+) -> Outcome {
+    let got = groovepawn::groovepawn_run(file, marks, state, events, released);
+    let answer = at.long(cases);
+    let next = answer.next;
+    let bytes = next.same_string(cases, released);
+    let next = bytes.next;
+    let after = next.same_state(cases, state);
+    let next = after.next;
+    Outcome {
+        differs: first_of(got == answer.value, bytes.same, after.same),
+        next,
+    }
+}
+
+pub fn join(cases: &[u8], at: Cursor, a: &[u8], b: &[u8], out: &mut [u8]) -> Outcome {
+    let got = groovepawn::groovepawn_join(a, b, out);
+    let answer = at.long(cases);
+    let next = answer.next;
+    let bytes = next.same_string(cases, out);
+    let next = bytes.next;
+    Outcome {
+        differs: first_of(got == answer.value, bytes.same, true),
+        next,
+    }
+}
+
+pub fn ticks(cases: &[u8], at: Cursor) -> Outcome {
+    let milliseconds = at.word(cases);
+    let next = milliseconds.next;
+    let tick_length = next.word(cases);
+    let next = tick_length.next;
+    let up = next.byte(cases);
+    let next = up.next;
+    let got = groovepawn::groovepawn_ticks(milliseconds.value, tick_length.value, up.value);
+    let answer = next.long(cases);
+    let next = answer.next;
+    Outcome {
+        differs: first_of(got as u64 == answer.value, true, true),
+        next,
+    }
+}

@@ -1,0 +1,160 @@
+// The records of a file, one after the other.
+use crate::calls;
+use crate::calls::Differs;
+use crate::calls::Outcome;
+use crate::tally::Kind;
+use crate::tally::Tally;
+use cases::Cursor;
+
+// The rest of a record of a run.
+fn run_record(cases: &[u8], at: Cursor, file: &[u8], marks: &[u8], state: &mut [u16]) -> Outcome {
+    let mut events = [0u8; 65600];
+    let mut released = [0u8; 65600];
+    let taken = at.string(cases, &mut events);
+    let event_count = taken.count;
+    let next = taken.next;
+    let taken = next.string(cases, &mut released);
+    let room = taken.count;
+    let next = taken.next;
+    calls::run(
+        cases,
+        next,
+        file,
+        marks,
+        state,
+        &events[..event_count],
+        &mut released[..room],
+    )
+}
+
+// The rest of a record that has a state.
+fn state_record(cases: &[u8], kind: Kind, at: Cursor, file: &[u8], marks: &[u8]) -> Outcome {
+    let mut state = [0u16; 8];
+    let taken = at.state(cases, &mut state);
+    let numbers = taken.count;
+    let next = taken.next;
+    match kind {
+        Kind::Input => calls::input(cases, next, file, marks, &state[..numbers]),
+        Kind::Output => calls::output(cases, next, file, marks, &mut state[..numbers]),
+        _ => run_record(cases, next, file, marks, &mut state[..numbers]),
+    }
+}
+
+// A record that begins with a policy and marks.
+fn policy_record(cases: &[u8], kind: Kind, at: Cursor) -> Outcome {
+    let mut file = [0u8; 8192];
+    let mut marks = [0u8; 65600];
+    let taken = at.string(cases, &mut file);
+    let file_length = taken.count;
+    let next = taken.next;
+    let taken = next.string(cases, &mut marks);
+    let marks_length = taken.count;
+    let next = taken.next;
+    match kind {
+        Kind::Prepare => calls::prepare(
+            cases,
+            next,
+            &file[..file_length],
+            &mut marks[..marks_length],
+        ),
+        _ => state_record(
+            cases,
+            kind,
+            next,
+            &file[..file_length],
+            &marks[..marks_length],
+        ),
+    }
+}
+
+fn join_record(cases: &[u8], at: Cursor) -> Outcome {
+    let mut a = [0u8; 8192];
+    let mut b = [0u8; 8192];
+    let mut out = [0u8; 8192];
+    let taken = at.string(cases, &mut a);
+    let a_length = taken.count;
+    let next = taken.next;
+    let taken = next.string(cases, &mut b);
+    let b_length = taken.count;
+    let next = taken.next;
+    let taken = next.string(cases, &mut out);
+    let room = taken.count;
+    let next = taken.next;
+    calls::join(
+        cases,
+        next,
+        &a[..a_length],
+        &b[..b_length],
+        &mut out[..room],
+    )
+}
+
+// The body of a record.
+fn body(cases: &[u8], kind: Kind, at: Cursor) -> Outcome {
+    match kind {
+        Kind::Join => join_record(cases, at),
+        Kind::Ticks => calls::ticks(cases, at),
+        Kind::Unknown => Outcome {
+            differs: Differs::Nothing,
+            next: at.lose(),
+        },
+        _ => policy_record(cases, kind, at),
+    }
+}
+
+// The cursor, lost unless the body that began at `start` was `length` bytes long.
+fn ended(next: Cursor, start: usize, length: usize) -> Cursor {
+    let at = next.at;
+    if at < start {
+        return next.lose();
+    }
+    if at - start == length {
+        next
+    } else {
+        next.lose()
+    }
+}
+
+// The record at the tally's cursor.
+fn record(cases: &[u8], tally: Tally, number: u32) -> Tally {
+    let at = tally.next;
+    let head = at.byte(cases);
+    let kind = Kind::of(head.value);
+    let next = head.next;
+    let length = next.word(cases);
+    let start = length.next;
+    let outcome = body(cases, kind, start);
+    let differs = outcome.differs;
+    let next = outcome.next;
+    tally.add(
+        number,
+        kind,
+        differs,
+        ended(next, start.at, length.value as usize),
+    )
+}
+
+// All the records.
+fn tallied(cases: &[u8], start: Cursor, total: u32) -> Tally {
+    let mut tally = Tally::new(start);
+    let mut i = 0;
+    while i < total && !tally.is_lost() {
+        tally = record(cases, tally, i);
+        i += 1;
+    }
+    tally
+}
+
+// Goes through the file, which begins with `GPV1` and the number of its records, and writes what was found.
+pub fn report(cases: &[u8]) {
+    let magic = Cursor::start().word(cases);
+    let next = magic.next;
+    let total = next.word(cases);
+    let next = total.next;
+    let start = if magic.value == 0x47505631 {
+        next
+    } else {
+        next.lose()
+    };
+    tallied(cases, start, total.value).print(cases.len());
+}

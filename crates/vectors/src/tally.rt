@@ -1,0 +1,184 @@
+// What has been found so far.
+use crate::calls::Differs;
+use cases::Cursor;
+use libc::STDOUT_FILENO;
+
+pub enum Kind {
+    Prepare,
+    Input,
+    Output,
+    Run,
+    Join,
+    Ticks,
+    Unknown,
+}
+
+impl Kind {
+    pub fn of(number: u8) -> Self {
+        match number {
+            1 => Kind::Prepare,
+            2 => Kind::Input,
+            3 => Kind::Output,
+            4 => Kind::Run,
+            5 => Kind::Join,
+            6 => Kind::Ticks,
+            _ => Kind::Unknown,
+        }
+    }
+
+    fn print(self) {
+        match self {
+            Kind::Prepare => print(b"prepare"),
+            Kind::Input => print(b"input"),
+            Kind::Output => print(b"output"),
+            Kind::Run => print(b"run"),
+            Kind::Join => print(b"join"),
+            Kind::Ticks => print(b"ticks"),
+            Kind::Unknown => print(b"unknown"),
+        }
+    }
+}
+
+// How many records of each kind.
+struct Counts {
+    prepare: u64,
+    input: u64,
+    output: u64,
+    run: u64,
+    join: u64,
+    ticks: u64,
+}
+
+impl Counts {
+    fn add(mut self, kind: Kind) -> Self {
+        match kind {
+            Kind::Prepare => self.prepare = one_more(self.prepare),
+            Kind::Input => self.input = one_more(self.input),
+            Kind::Output => self.output = one_more(self.output),
+            Kind::Run => self.run = one_more(self.run),
+            Kind::Join => self.join = one_more(self.join),
+            Kind::Ticks => self.ticks = one_more(self.ticks),
+            Kind::Unknown => {}
+        }
+        self
+    }
+
+    fn print(self) {
+        print_count(b"prepare ", self.prepare);
+        print_count(b"input ", self.input);
+        print_count(b"output ", self.output);
+        print_count(b"run ", self.run);
+        print_count(b"join ", self.join);
+        print_count(b"ticks ", self.ticks);
+    }
+}
+
+// The first record that came out different.
+enum First {
+    None,
+    Record(u32, Kind, Differs),
+}
+
+impl First {
+    fn or(self, number: u32, kind: Kind, differs: Differs) -> Self {
+        match self {
+            First::None => First::Record(number, kind, differs),
+            First::Record(..) => self,
+        }
+    }
+
+    fn print(self) {
+        if let First::Record(number, kind, differs) = self {
+            print(b"first ");
+            io::print_decimal(STDOUT_FILENO, number as u64);
+            print(b" ");
+            kind.print();
+            print_differs(differs);
+        }
+    }
+}
+
+pub struct Tally {
+    counts: Counts,
+    different: u64,
+    first: First,
+    pub next: Cursor,
+}
+
+impl Tally {
+    pub fn new(next: Cursor) -> Self {
+        Self {
+            counts: Counts {
+                prepare: 0,
+                input: 0,
+                output: 0,
+                run: 0,
+                join: 0,
+                ticks: 0,
+            },
+            different: 0,
+            first: First::None,
+            next,
+        }
+    }
+
+    pub fn is_lost(self) -> bool {
+        let next = self.next;
+        next.lost
+    }
+
+    pub fn add(self, number: u32, kind: Kind, differs: Differs, next: Cursor) -> Self {
+        let counts = self.counts.add(kind);
+        let first = self.first;
+        match differs {
+            Differs::Nothing => Self {
+                counts,
+                different: self.different,
+                first,
+                next,
+            },
+            _ => Self {
+                counts,
+                different: one_more(self.different),
+                first: first.or(number, kind, differs),
+                next,
+            },
+        }
+    }
+
+    // The counts, the first difference, and whether the file was one of stored cases to its end.
+    pub fn print(self, end: usize) {
+        let counts = self.counts;
+        let first = self.first;
+        let next = self.next;
+        counts.print();
+        print_count(b"different ", self.different);
+        first.print();
+        if next.lost || next.at != end {
+            print(b"malformed\n");
+        }
+    }
+}
+
+fn one_more(n: u64) -> u64 {
+    if n < u64::MAX { n + 1 } else { n }
+}
+
+fn print(text: &[u8]) {
+    io::write_all(STDOUT_FILENO, text);
+}
+
+fn print_count(name: &[u8], n: u64) {
+    print(name);
+    io::print_decimal(STDOUT_FILENO, n);
+    print(b"\n");
+}
+
+fn print_differs(differs: Differs) {
+    match differs {
+        Differs::Nothing => print(b"\n"),
+        Differs::Answer => print(b" answer\n"),
+        Differs::Bytes => print(b" bytes\n"),
+        Differs::State => print(b" state\n"),
+    }
+}
