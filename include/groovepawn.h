@@ -5,13 +5,13 @@
  * Each tick: read the input x, hand it to groovepawn_input, and act on the x' that comes back; then hand that x' and your answer y to
  * groovepawn_output, and put out the y' that comes back. groovepawn_run does the same for many ticks at once.
  *
- * Slices. Each pointer is followed by its length, in elements. It points to that many elements, is not NULL (nor where the length is 0) and is
- * aligned for its type. A slice that is not const is written: it overlaps no other slice of the same call, and nothing else touches it during the
+ * Slices. Each pointer is followed by its length, in elements. It points to that many elements, is never NULL, not even where the length is 0, and
+ * is aligned for its type. A slice that is not const is written: it overlaps no other slice of the same call, and nothing else touches it during the
  * call. No call keeps a pointer or anything else, so that calls over different slices may run at the same time. Every call checks the bytes that it
  * is given anew, whatever they are, and always returns.
  *
  *   file    the policy file: at most 5,974 bytes
- *   marks   one byte for each state, 1 live and 0 not: 65,536 bytes are always enough; bytes past the number of states are neither read nor written
+ *   marks   one byte for each state, 1 live and 0 not: 65,536 bytes are always enough, and those past the number of states stay
  *   state   five numbers: the location, then the four clock values, unused ones 0. The start state is { 0, 0, 0, 0, 0 }
  *   x, y    an input, an output: bit 0 is the first signal of its section of the file
  *   event   one byte: input x in the low four bits, output y in the high four
@@ -40,7 +40,8 @@
  *   19  the tick count is above 1,000
  *
  * Where several hold, the first in this order is given: 1 to 9 as they come in the file, 10, 11, 14, 16, 15, 17. A join asks 1 to 9 of its first
- * file, then of its second, then 12, 13, 14. With the marks of groovepawn_prepare and a live state, groovepawn_input and groovepawn_run never give 17.
+ * file, then of its second, then 12, 13, 14. A conversion asks 18, then 19. With the marks of groovepawn_prepare and a live state, groovepawn_input
+ * and groovepawn_run never give 17.
  *
  * Stack use: not stated yet.
  */
@@ -72,14 +73,16 @@ extern "C" {
 uint64_t groovepawn_prepare(const uint8_t *file, size_t file_len, uint8_t *marks, size_t marks_len);
 
 /*
- * The input half of a tick: the input x' to act on, which is x where some output lets the policy go on for ever, else the nearest such input.
+ * The input half of a tick: the input x' to act on. It is x where some output then leads to a state marked 1, else the input of this kind that
+ * differs from x in the fewest bits, and among equals the smallest number.
  * Refusals 1 to 10, 16, 15, 17. Returns refusal | x' << 8. Nothing is written: the state moves with the output half.
  */
 uint32_t groovepawn_input(const uint8_t *file, size_t file_len, const uint8_t *marks, size_t marks_len, const uint16_t *state, size_t state_len,
                           uint8_t x);
 
 /*
- * The output half of a tick, given the x' of the input half and the controller's answer y: the output y' to put out, chosen likewise.
+ * The output half of a tick, given the x' of the input half and the controller's answer y: the output y' to put out, chosen
+ * likewise among the outputs that with x' lead to a state marked 1.
  * Refusals 1 to 10, 16, 15, 17. Returns refusal | y' << 8. The state becomes the next one; with a refusal it stays as given.
  */
 uint32_t groovepawn_output(const uint8_t *file, size_t file_len, const uint8_t *marks, size_t marks_len, uint16_t *state, size_t state_len,

@@ -1,5 +1,5 @@
 -- How large the numbers in a word are.
-use mathlib.Core.Path.{_≡_, ap, subst}
+use mathlib.Core.Path.{_≡_, subst}
 use mathlib.Core.Bool.{Bool, true, false, cond}
 use mathlib.Core.List.{List}
 use Prim.Native.Nat.{ℕ, _≤_}
@@ -15,7 +15,7 @@ use Rattle.enforcer.specs.States.{marks-granted}
 use Rattle.prepare.specs.Table.{marksOf, liveCount}
 use Rattle.prepare.specs.Marks.{total-le}
 use Rattle.prepare.specs.Live.{marks-length, marks-bits}
-use Rattle.prepare.specs.Entry.{Summary, summaryOf, prepareOf}
+use Rattle.prepare.specs.Entry.{Summary, prepareOf}
 use Rattle.join.specs.Entry.{joinRefusal, joinedFile, joinOf}
 use Rattle.join.specs.Written.{joined-passes}
 

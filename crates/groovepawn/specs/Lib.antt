@@ -3,3 +3,4 @@ pub mod Calls
 pub mod Numbers
 pub mod Bounds
 pub mod Stays
+pub mod Fields

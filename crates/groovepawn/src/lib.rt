@@ -119,8 +119,8 @@ pub extern "C" fn groovepawn_run(
     }
     let given = state_of(state);
     let ran = run(file, marks, given, events, released);
-    let next = ran.state;
-    put_state(state, next);
+    let after = ran.state;
+    put_state(state, after);
     ran.refusal as u64 + ran.count as u64 % 72057594037927936 * 256
 }
 

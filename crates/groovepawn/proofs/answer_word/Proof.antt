@@ -1,5 +1,4 @@
 -- `groovepawn::answer_word` meets its contract: each case of the answer is that of its word.
-use mathlib.Core.Path.{_≡_}
 use borrow.Author.Needs.{needs}
 use Rattle.groovepawn.proofs.answer_word.Statement.{statement}
 use Rattle.groovepawn.proofs.answer_word.Tie as tie

@@ -1,5 +1,4 @@
 -- `groovepawn::groovepawn_run` meets its contract: the answer, the state and the slice of the run for five numbers, and a refusal for any other state.
-use mathlib.Core.Path.{_≡_}
 use borrow.Author.Tests.{eq-eqb, ne-eqb}
 use Rattle.groovepawn.specs.Words.{runWord, runState, runOut}
 use borrow.Author.Needs.{needs}

@@ -11,6 +11,7 @@ use borrow.Author.Needs.{needs}
 use Rattle.groovepawn.proofs.groovepawn_ticks.Statement.{statement}
 use Rattle.groovepawn.proofs.groovepawn_ticks.Tie as tie
 
+-- The rounding is the one asked for, and no conversion gives more than 1,000 ticks.
 rounds : (c : tie.Joined1) → upwards (c .if1 .rounding) ≡ isUp (c .before .args .up)
 rounds c = ⊎-elim (λ w. rw (w .1, eq-eqb _ 0 (w .0 .taken))) (λ w. rw (w .1, ne-eqb _ 0 (w .0 .left))) (c .if1 .came)
 
@@ -26,7 +27,8 @@ count-requires c κs = search needs
 few : (c : tie.After-t) → c .t .given .0 .0 .0 ≤ 1000
 few c =
     let j = c .before .before .before in
-    converted-within (subst (Converted (record { 0 = j .before .args .milliseconds }) (record { 0 = j .before .args .tick-length }) (j .if1 .rounding)) (c .t .given .1) (c .before .before .to-ticks .ensures)) .1
+    let times = Converted (record { 0 = j .before .args .milliseconds }) (record { 0 = j .before .args .tick-length }) in
+    converted-within (subst (times (j .if1 .rounding)) (c .t .given .1) (c .before .before .to-ticks .ensures)) .1
 
 mul-result : tie.Need-mul-result
 mul-result c = omega (arith, few (c .before .before), c .count .ensures)
