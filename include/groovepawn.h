@@ -43,7 +43,7 @@
  * file, then of its second, then 12, 13, 14. A conversion asks 18, then 19. With the marks of groovepawn_prepare and a live state, groovepawn_input
  * and groovepawn_run never give 17.
  *
- * Stack use: not stated yet.
+ * Stack use: less than 2 KiB for each call, in the archive as it is compiled for x86-64. No heap and no global data.
  */
 #ifndef GROOVEPAWN_H
 #define GROOVEPAWN_H
