@@ -1,0 +1,44 @@
+-- "Trimming A and B apart and joining the results: each may be live where together they are not."
+use mathlib.Core.Path.{_≡_, refl}
+use mathlib.Core.List.{List, [], _∷_}
+use mathlib.Core.Option.{bind}
+use Prim.Native.Nat.{ℕ}
+use Rattle.streams.specs.Answer.{refused, gives}
+use Rattle.streams.specs.Choose.{any}
+use Rattle.policy.specs.Rules.{step, decides, fires, hold, within, taken, advance}
+use Rattle.policy.specs.Number.{statesOf, numberFrom, locationFrom, clocksFrom}
+use Rattle.policy.specs.File.{policyOf, outputsAt, clocksAt, locationsAt, rulesAt, rulesStart, rulesEnd, pairsFrom, rulesFrom, ruleFrom, boundsFrom}
+use Rattle.policy.specs.Check.{refusalOf, inputsRefusal, outputsRefusal, clocksRefusal, locationsRefusal, rulesSectionRefusal, sectionRefusal, tagsGood, among, all, rulesRefusal, ruleRefusal, headGood, maskGood, boundsGood, boundGood}
+use Rattle.policy.specs.Bytes.{bytesOf, countsBytes, pairsBytes, rulesBytes, ruleBytes, boundsBytes}
+use Rattle.enforcer.specs.Tick.{mayStand, reaches}
+use Rattle.enforcer.specs.Entries.{marksRefusal}
+use Rattle.prepare.specs.Table.{roundsBy, roundBy, goesOn, tab}
+use Rattle.prepare.specs.Entry.{prepareOf}
+use Rattle.join.specs.Join.{of, agree, target, both, pair, each, cell, rows, join}
+use Rattle.join.specs.Masks.{alike}
+use Rattle.join.specs.Entry.{joinedFile}
+
+-- The credit K is always on; it is always off.
+abbrev pub alwaysOn : List ℕ
+alwaysOn =
+    0x00 ∷ 0x01 ∷ 0x4B ∷ 0x00 ∷ 0x01 ∷ 0x00 ∷ 0x00 ∷ 0x02
+    ∷ 0x00 ∷ 0x00 ∷ 0x00 ∷ 0x01 ∷ 0x00 ∷ 0x00 ∷ 0xFF
+    ∷ 0x00 ∷ 0x00 ∷ 0x00 ∷ 0x00 ∷ 0x00 ∷ 0x00 ∷ 0x00 ∷ []
+
+abbrev pub alwaysOff : List ℕ
+alwaysOff =
+    0x00 ∷ 0x01 ∷ 0x4B ∷ 0x00 ∷ 0x01 ∷ 0x00 ∷ 0x00 ∷ 0x02
+    ∷ 0x00 ∷ 0x00 ∷ 0x00 ∷ 0x01 ∷ 0x01 ∷ 0x00 ∷ 0xFF
+    ∷ 0x00 ∷ 0x00 ∷ 0x00 ∷ 0x00 ∷ 0x00 ∷ 0x00 ∷ 0x00 ∷ []
+
+-- Each part has its one state live, and nothing is trimmed; the join is hopeless.
+pub live-apart :
+    (prepareOf alwaysOn (0 ∷ []) ≡ gives (record { verdict = 0; states = 1; live = 1 }))
+    × (prepareOf alwaysOff (0 ∷ []) ≡ gives (record { verdict = 0; states = 1; live = 1 }))
+    × (prepareOf (joinedFile alwaysOn alwaysOff []) (0 ∷ []) ≡ refused 11)
+unfolding
+    prepareOf marksRefusal joinedFile join rows cell each pair both agree target of alike bytesOf countsBytes pairsBytes rulesBytes ruleBytes boundsBytes
+    refusalOf inputsRefusal outputsRefusal clocksRefusal locationsRefusal rulesSectionRefusal sectionRefusal tagsGood among all rulesRefusal ruleRefusal
+    headGood maskGood boundsGood boundGood policyOf outputsAt clocksAt locationsAt rulesAt rulesStart rulesEnd pairsFrom rulesFrom ruleFrom boundsFrom
+    statesOf numberFrom locationFrom clocksFrom mayStand reaches step decides fires hold within taken advance bind any roundsBy roundBy goesOn tab
+live-apart = (refl, refl, refl)
