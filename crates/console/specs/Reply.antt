@@ -6,21 +6,19 @@ use native.Mathlib.Nat.{le-refl}
 use native.Mathlib.Omega.{arith}
 use lib.ListN.{length, take, drop, length-append, length-replicate}
 use lib.Seq.{length-take-le, take-at}
-use Rattle.streams.specs.Answer.{gives, _orElse_, unless, none-refused, first-refused, given-only}
-use Rattle.policy.specs.Rules.{start}
+use Rattle.streams.specs.Answer.{gives, first-refused}
 use Rattle.policy.specs.File.{policyOf}
-use Rattle.policy.specs.Number.{states, numberOf}
+use Rattle.policy.specs.Number.{states}
 use Rattle.policy.specs.Check.{refusalOf}
 use Rattle.policy.specs.Checked.{checked-file}
-use Rattle.enforcer.specs.State.{isMarked}
 use Rattle.enforcer.specs.States.{marks-granted}
-use Rattle.enforcer.specs.Entries.{RunAnswer, marksRefusal}
+use Rattle.enforcer.specs.Entries.{RunAnswer}
 use Rattle.enforcer.specs.Code.{startState}
 use Rattle.enforcer.specs.Promises.{RunPromise, ranSaid}
 use Rattle.enforcer.specs.declared.runs.Ran.{Ran}
 use Rattle.prepare.specs.Table.{marksOf}
 use Rattle.prepare.specs.Entry as Entry
-use Rattle.prepare.specs.Promise.{preparedSaid, PreparePromise, marks-past}
+use Rattle.prepare.specs.Promise.{summarySaid, preparedSaid, PreparePromise, gives-past, marks-past}
 use Rattle.prepare.specs.Live.{marks-length}
 use Rattle.prepare.specs.declared.Summary.{Summary}
 use Rattle.prepare.specs.declared.Prepared.{Prepared}
@@ -58,17 +56,15 @@ pub record Prepares (input file marks : List ℕ) : Type 0 where
 -- A policy that gives a summary passes its checks, and its marks stand in front of what the slice held.
 pub prepared-marks : {file before after : List ℕ} {s : Summary} → PreparePromise file before (Prepared.Gives s) after →
     (refusalOf file ≡ 0) × (s .states ≤ length after) × (take (s .states) after ≡ marksOf (policyOf file))
-unfolding Entry.prepareOf
 prepared-marks {file} {before} {after} {s} h =
     let p = policyOf file in
-    let g = given-only (marksRefusal file before orElse unless (isMarked (marksOf p) (numberOf p (start p))) 11) _ _ (sym (h .said)) in
-    let z = none-refused (marksRefusal file before) _ .0 (g .0) .0 in
-    let k = marks-granted file before .0 z in
-    let n : states p ≡ s .states = ap (λ (s : Entry.Summary). s .states) (g .1) in
-    let after-is : after ≡ marksOf p ++ drop (states p) before = h .marks ∙ marks-past file before z in (
+    let past = gives-past file before (summarySaid s) (sym (h .said)) in
+    let k = marks-granted file before .0 (past .0) in
+    let n : states p ≡ s .states = ap (λ (z : Entry.Summary). z .states) (past .2) in
+    let e : after ≡ marksOf p ++ drop (states p) before = h .marks ∙ marks-past file before (past .0) in (
       k .0,
-      rw (← n, after-is, length-append, marks-length) (omega arith),
-      rw (← n, after-is) (take-at (marksOf p) _ _ (marks-length p)),
+      rw (← n, e, length-append, marks-length) (omega arith),
+      rw (← n, e) (take-at (marksOf p) _ _ (marks-length p)),
     )
 
 refused-text : (n : ℕ) (text : List ℕ) → (n ≡ 0 → ⊥) → unlessRefused n text ≡ refusedLine n
