@@ -5,15 +5,15 @@ use mathlib.Core.Bool.{Bool, true, false, false≢true}
 use mathlib.Core.List.{List}
 use mathlib.Core.Option.{Option, none, some}
 use Prim.Native.Nat.{ℕ, zero, suc, _+_, _-_, _*_, _^_, _≤_, _<_}
-use native.Mathlib.Nat.{mul-le-mul-right, pow-le-pow-right}
+use native.Mathlib.Nat.{add-zero, mul-le-mul-right, pow-le-pow-right}
 use native.Mathlib.Omega.{arith}
-use lib.ListN.{length, getD, take, drop}
-use lib.Seq.{take-at, getD-take}
+use lib.ListN.{length, getD, take, drop, replicate}
+use lib.Seq.{take-at, getD-take, getD-append-add}
 use Rattle.streams.specs.Stream.{Event}
 use Rattle.policy.specs.Rules.{Rule, Policy, Place, inputValues, outputValues, stopped, decides, taken, step}
 use Rattle.policy.specs.File.{part, ruleSize, rulesFrom, rulesOf, ceilingsOf, clocksAt, clockCount, ruleCount, rulesStart, ruleSection, policyOf}
 use Rattle.policy.specs.Check.{refusalOf}
-use Rattle.policy.specs.Number.{states, numberFrom, locationFrom, clocksFrom, numberOf, placeOf}
+use Rattle.policy.specs.Number.{four, states, numberFrom, locationFrom, clocksFrom, numberOf, placeOf}
 use Rattle.policy.specs.Numbered.{number-take, number-ceilings, location-ceilings, clocks-ceilings, clocks-length, numberOf-below}
 use Rattle.policy.specs.Sound.{WellFormed, Inside}
 use Rattle.policy.specs.Checked.{Framed, frame, checked-file, inputs-length, outputs-length, pairs-length, rules-length, well-sound, well-rising}
@@ -24,7 +24,7 @@ use Rattle.policy.specs.declared.Layout.{Layout}
 use Rattle.policy.specs.declared.Checked.{Checked}
 use Rattle.enforcer.specs.State.{placeIn, isMarked}
 use Rattle.enforcer.specs.Tick.{arrives, reaches}
-use Rattle.enforcer.specs.Own.{below, level, own, own-le, decides-own}
+use Rattle.enforcer.specs.Own.{below, level, own, own-le, level-own, decides-own}
 use Rattle.enforcer.specs.Code.{eventXY, asPlace, place, stateFrom, stateAt, bare, stepFrom, ownOf}
 use Rattle.enforcer.specs.Ready.{Laid}
 use Rattle.enforcer.specs.declared.own.Own.{Own}
@@ -35,10 +35,30 @@ use Rattle.enforcer.specs.declared.next.Step.{Step}
 abbrev pub stateNumber : Layout → State → ℕ
 stateNumber l s = numberFrom (l .ceilings) (l .clocks) (s .location) (s .clocks)
 
--- The state has a number, and m says whether that is marked.
-pub record Numbered (f : List ℕ) (l : Layout) (marks : List ℕ) (s : State) (m : Bool) : Type 0 where
-  pub number : stateNumber l s < states (policyOf f)
-  pub mark : isMarked marks (stateNumber l s) ≡ m
+-- n is the number of a state, and m says whether that is marked.
+pub record Numbered (f marks : List ℕ) (n : ℕ) (m : Bool) : Type 0 where
+  pub number : n < states (policyOf f)
+  pub mark : isMarked marks n ≡ m
+
+-- An unused clock, with the ceiling 0 and the value 0, leaves the number as it is.
+number-unused : (cs vs : List ℕ) (k n location : ℕ) → ((i : ℕ) → k ≤ i → (getD cs i 0 ≡ 0) × (getD vs i 0 ≡ 0)) →
+    numberFrom cs (k + n) location vs ≡ numberFrom cs k location vs
+unfolding numberFrom
+number-unused cs vs k zero location h = rw add-zero
+number-unused cs vs k (suc n) location h =
+    let e : k + suc n ≡ suc (k + n) = omega arith in
+    let z = h (k + n) (omega arith) in
+    rw (e, z .0, z .1) (omega (arith, number-unused cs vs k n location h))
+
+four-past : (vs : List ℕ) (i : ℕ) → length vs ≤ i → getD (four vs) i 0 ≡ 0
+four-past vs i h =
+    let e : i ≡ length vs + (i - length vs) = omega arith in
+    rw e (getD-append-add vs (replicate (4 - length vs) 0) (i - length vs) 0 ∙ zeros (4 - length vs) (i - length vs))
+  where
+    zeros : (n j : ℕ) → _≡_ {A = ℕ} (getD (replicate n 0) j 0) 0
+    zeros zero j = refl
+    zeros (suc n) zero = refl
+    zeros (suc n) (suc j) = zeros n j
 
 -- What the check answers without a refusal is the layout.
 pub laid-of : (f : List ℕ) (r : Checked) → r ≡ checkedOf f → r .refusal ≡ 0 → Laid f (r .layout)
@@ -83,6 +103,10 @@ module _ {f : List ℕ} {l : Layout} (k : Laid f l) where
   pub laid-limits : (l .inputs ≤ 4) × (l .outputs ≤ 4) × (l .clocks ≤ 4) × (l .rules ≤ 256) × (l .«rules_start» ≤ l .«rules_end») × (l .«rules_end» ≤ length f)
   laid-limits = omega (arith, framed, k)
 
+  -- The rules fill their section.
+  pub laid-section : l .«rules_start» + l .rules * ruleSize (l .clocks) ≡ l .«rules_end»
+  laid-section = rw (k .start, k .rules, k .clocks, k .end) (omega (arith, framed))
+
   -- Of inputs and outputs there are as many values as the code counts, at most 16.
   pub laid-inputs : (2 ^ l .inputs ≡ inputValues (policyOf f)) × (2 ^ l .inputs ≤ 16)
   unfolding policyOf
@@ -99,6 +123,10 @@ module _ {f : List ℕ} {l : Layout} (k : Laid f l) where
   pub laid-ceilings : take (l .clocks) (l .ceilings) ≡ policyOf f .ceilings
   unfolding policyOf
   laid-ceilings = rw (k .ceilings) (take-at (ceilingsOf f) _ (l .clocks) (sym laid-clocks))
+
+  pub laid-four : l .ceilings ≡ four (take (l .clocks) (l .ceilings))
+  unfolding policyOf
+  laid-four = k .ceilings ∙ sym (ap four laid-ceilings)
 
   laid-ceiling : (i : ℕ) → i < l .clocks → getD (l .ceilings) i 0 ≡ getD (policyOf f .ceilings) i 0
   laid-ceiling i g = sym (getD-take (l .clocks) (l .ceilings) i 0 g) ∙ ap (λ (cs : List ℕ). getD cs i 0) laid-ceilings
@@ -125,6 +153,10 @@ module _ {f : List ℕ} {l : Layout} (k : Laid f l) where
         (sym (ap (λ (z : List Rule). take c (drop n z)) (rules-part f (clockCount f) (rulesStart f) (ruleCount f))
         ∙ ap (take c) (rules-drop (clockCount f) f (rulesStart f) n (ruleCount f) (omega (arith, own-few f a)))
         ∙ rules-take (clockCount f) f (rulesStart f + n * ruleSize (clockCount f)) c (ruleCount f - n) (omega (arith, own-few f a))))
+
+    -- All of them are the location's.
+    pub own-level : level a (rulesFrom (l .clocks) (part f (l .«rules_start» + o .start) (o .count * ruleSize (l .clocks))) 0 (o .count)) ≡ o .count
+    own-level = ap (level a) own-rules ∙ level-own a (rulesOf f) ∙ sym (ap (λ (z : Own). z .count) e)
 
   -- A step by the location's own rules is the policy's.
   pub own-step : {o : Own} (s : State) (e : Event) → o ≡ ownOf (l .clocks) (s .location) (rulesOf f) →
@@ -155,6 +187,16 @@ module _ {f : List ℕ} {l : Layout} (k : Laid f l) where
   pub next-number : {t : Place} → Inside (policyOf f) t → stateNumber l (stateFrom t) ≡ numberOf (policyOf f) t
   next-number {t} h = laid-number (stateFrom t) ∙ ap (numberOf (policyOf f)) (place-back h)
 
+  -- So has it if all four clocks are taken in.
+  pub four-number : {t : Place} → Inside (policyOf f) t → numberFrom (l .ceilings) 4 (t .location) (four (t .clocks)) ≡ numberOf (policyOf f) t
+  unfolding policyOf
+  four-number {t} h =
+      let e : 4 ≡ l .clocks + (4 - l .clocks) = omega (arith, laid-limits) in
+      ap (λ (n : ℕ). numberFrom (l .ceilings) n (t .location) (four (t .clocks))) e
+      ∙ number-unused (l .ceilings) (four (t .clocks)) (l .clocks) (4 - l .clocks) (t .location)
+      (λ i g. (rw (k .ceilings) (four-past (ceilingsOf f) i (omega (arith, laid-clocks))), four-past (t .clocks) i (omega (arith, laid-clocks, h .clocks))))
+      ∙ next-number h
+
   -- The state with a number stands for the place with that number.
   pub numbered-place : (n : ℕ) → place (l .clocks) (stateAt (l .ceilings) (l .clocks) n) ≡ placeOf (policyOf f) n
   numbered-place n =
@@ -182,12 +224,13 @@ module _ {f : List ℕ} {l : Layout} (k : Laid f l) where
         go (some t) q = absurd (false≢true (sym p ∙ ap (λ (z : Step). z .permitted) q))
 
     pub reaches-next : Inside (policyOf f) (place (l .clocks) s) → r .permitted ≡ true →
-        Numbered f l marks (r .state) (reaches (policyOf f) marks (place (l .clocks) s) x y)
+        Numbered f marks (numberFrom (l .ceilings) 4 (r .state .location) (r .state .clocks)) (reaches (policyOf f) marks (place (l .clocks) s) x y)
     unfolding reaches
     reaches-next h p = go (step stopped (policyOf f) (place (l .clocks) s) (eventXY x y)) e (next-inside s (eventXY x y) h)
       where
-        go : (d : Option Place) → r ≡ stepFrom s d → Of (Inside (policyOf f)) d → Numbered f l marks (r .state) (arrives (policyOf f) marks d)
+        go : (d : Option Place) → r ≡ stepFrom s d → Of (Inside (policyOf f)) d →
+            Numbered f marks (numberFrom (l .ceilings) 4 (r .state .location) (r .state .clocks)) (arrives (policyOf f) marks d)
         go none q i = absurd (false≢true (sym (ap (λ (z : Step). z .permitted) q) ∙ p))
         go (some t) q i =
-            let n = ap (λ (z : Step). stateNumber l (z .state)) q ∙ next-number i in
+            let n = ap (λ (z : Step). numberFrom (l .ceilings) 4 (z .state .location) (z .state .clocks)) q ∙ four-number i in
             record { number = rw n (numberOf-below (policyOf f) i); mark = ap (isMarked marks) n }

@@ -7,7 +7,7 @@ use Prim.Native.Nat.{ℕ, suc, _+_, _-_, _≤_, _<_}
 use native.Mathlib.Omega.{arith}
 use lib.Dec.{ltb, eqb}
 use lib.ListN.{length, take, drop, length-drop}
-use borrow.Author.Tests.{lt-ltb, le-ltb, ltb-true, ltb-false, eqb-false, eq-eqb, ne-eqb}
+use borrow.Author.Tests.{lt-ltb, le-ltb, ltb-true, ltb-false, eqb-true, eqb-false, eq-eqb, ne-eqb}
 use Rattle.streams.specs.Stream.{Event}
 use Rattle.policy.specs.Rules.{Rule, Place, fires, decides}
 use Rattle.policy.specs.File.{byteAt, ruleFrom, rulesFrom, ruleSize}
@@ -50,6 +50,21 @@ pub own-le : (a : ℕ) (rs : List Rule) → below a rs + level a (drop (below a 
 own-le a rs =
     omega (arith, below-le a rs, level-le a (drop (below a rs) rs), length-drop (below a rs) rs)
 
+-- All of the location's own rules have it for their source.
+level-take : (a : ℕ) (rs : List Rule) → level a (take (level a rs) rs) ≡ level a rs
+unfolding level
+level-take a [] = refl
+level-take a (r ∷ rs) = go (eqb (r .source) a) refl (level-take a rs)
+  where
+    go : (t : Bool) → eqb (r .source) a ≡ t → level a (take (level a rs) rs) ≡ level a rs →
+        level a (take (cond t (suc (level a rs)) 0) (r ∷ rs)) ≡ cond t (suc (level a rs)) 0
+    go true e ih = rw e (ap suc ih)
+    go false e ih = refl
+
+pub level-own : (a : ℕ) (rs : List Rule) → level a (own a rs) ≡ level a (drop (below a rs) rs)
+unfolding own
+level-own a rs = level-take a (drop (below a rs) rs)
+
 -- One rule more, as a loop over the bytes meets it: i rules of `count` are passed, and the next stands at `at`.
 module _ (clocks : ℕ) (f : List ℕ) (at i count a : ℕ) (more : i < count) where
   left : count - i ≡ suc (count - (i + 1))
@@ -72,6 +87,19 @@ module _ (clocks : ℕ) (f : List ℕ) (at i count a : ℕ) (more : i < count) w
   pub level-done : (byteAt f at ≡ a → ⊥) → level a (rulesFrom clocks f at (count - i)) ≡ 0
   unfolding level rulesFrom ruleFrom
   level-done h = rw (left, ne-eqb (byteAt f at) a h)
+
+  -- Where all that are left are of the location, the next is, and so are all after it.
+  pub level-all : level a (rulesFrom clocks f at (count - i)) ≡ count - i →
+      (byteAt f at ≡ a) × (level a (rulesFrom clocks f (at + ruleSize clocks) (count - (i + 1))) ≡ count - (i + 1))
+  unfolding level rulesFrom ruleFrom
+  level-all h = go (eqb (byteAt f at) a) refl (rw left at h)
+    where
+      rest : ℕ
+      rest = level a (rulesFrom clocks f (at + ruleSize clocks) (count - (i + 1)))
+
+      go : (t : Bool) → eqb (byteAt f at) a ≡ t → cond t (suc rest) 0 ≡ suc (count - (i + 1)) → (byteAt f at ≡ a) × (rest ≡ count - (i + 1))
+      go true q e = (eqb-true (byteAt f at) a q, omega arith)
+      go false q e = absurd (omega arith)
 
 -- No rule is left.
 pub none-below : (clocks : ℕ) (f : List ℕ) (at a n : ℕ) → n ≡ 0 → below a (rulesFrom clocks f at n) ≡ 0

@@ -23,7 +23,7 @@ use Rattle.enforcer.specs.State.{placeIn, clocksGood, stateGood, isMarke
 use Rattle.enforcer.specs.Entries.{chosen, marksRefusal, stateRefusal}
 use Rattle.enforcer.specs.Code.{asPlace}
 use Rattle.enforcer.specs.Ready.{Laid, Standing}
-use Rattle.enforcer.specs.Laid.{Numbered, laid-of, laid-well, laid-place, laid-number}
+use Rattle.enforcer.specs.Laid.{Numbered, stateNumber, laid-of, laid-well, laid-place, laid-number}
 use Rattle.enforcer.specs.declared.state.State.{State}
 
 -- Of refusals in their order the answer is the first that is given.
@@ -77,7 +77,7 @@ laid-good {f} k s e =
 
 -- A state that is not out of range has a number, by the layout, and its mark is the mark of the place.
 pub good-numbered : {f : List ℕ} {l : Layout} → Laid f l → (marks : List ℕ) (s : State) → stateGood (policyOf f) (asPlace s) ≡ true →
-    Numbered f l marks s (isMarked marks (numberOf (policyOf f) (placeIn (policyOf f) (asPlace s))))
+    Numbered f marks (stateNumber l s) (isMarked marks (numberOf (policyOf f) (placeIn (policyOf f) (asPlace s))))
 good-numbered {f} k marks s g =
     let n = laid-number k s ∙ ap (numberOf (policyOf f)) (laid-place k s) in
     record { number = rw n (numberOf-below (policyOf f) (good-inside (policyOf f) (asPlace s) g)); mark = ap (isMarked marks) n }

@@ -1,12 +1,13 @@
 // The rule matcher, over the part of the file that the rules are.
 use crate::state::State;
-use policy::bytes::byte_at;
-use policy::bytes::pair_at;
+use policy::bytes::byte_within;
+use policy::bytes::pair_within;
 ghost use mathlib.Core.Path.{_≡_};
-ghost use Prim.Native.Nat.{ℕ, _≤_, _<_, _^_};
-ghost use lib.ListN.{take};
+ghost use Prim.Native.Nat.{_+_, _*_, _≤_, _<_, _^_};
+ghost use lib.ListN.{length, take};
 ghost use Rattle.policy.specs.Rules.{hold, fires};
-ghost use Rattle.policy.specs.File.{boundsFrom, ruleFrom, rulesFrom};
+ghost use Rattle.policy.specs.File.{byteAt, ruleSize, boundsFrom, ruleFrom, rulesFrom};
+ghost use Rattle.enforcer.specs.Own.{level};
 ghost use Rattle.enforcer.specs.Code.{eventXY, place, decider, foundSaid};
 
 pub enum Found {
@@ -16,13 +17,13 @@ pub enum Found {
 
 // The bounds from `at` on hold for the clock values.
 fn bounds_hold(rules: &[u8], at: usize, clocks: usize, values: [u16; 4]) -> bool
-    requires { ⌜ (at < 2 ^ 32) × (clocks ≤ 4) ⌝ }
+    requires { ⌜ (at < 2 ^ 32) × (clocks ≤ 4) × (at + 4 * clocks ≤ length (now rules)) ⌝ }
     ensures { λ r. ⌜ r ≡ hold (boundsFrom (now (rules .entry)) at clocks) (take clocks values) ⌝ }
 {
     let mut i = 0;
     while i < clocks {
-        let low = pair_at(rules, at + 4 * i);
-        let high = pair_at(rules, at + 4 * i + 2);
+        let low = pair_within(rules, at + 4 * i);
+        let high = pair_within(rules, at + 4 * i + 2);
         let value = values[i] as usize;
         if value < low {
             return false;
@@ -37,27 +38,25 @@ fn bounds_hold(rules: &[u8], at: usize, clocks: usize, values: [u16; 4]) -> bool
     true
 }
 
-// The rule at `at` is the location's, its care bits agree with x and y, and its bounds hold.
+// The care bits of the location's rule at `at` agree with x and y, and its bounds hold.
 fn rule_fires(rules: &[u8], at: usize, clocks: usize, state: State, x: u8, y: u8) -> bool
-    requires { ⌜ (at < 2 ^ 31) × (clocks ≤ 4) ⌝ }
+    requires { ⌜ (at < 2 ^ 31) × (clocks ≤ 4) × (at + ruleSize clocks ≤ length (now rules)) × (byteAt (now rules) at ≡ state .location) ⌝ }
     ensures { λ r. ⌜ r ≡ fires (ruleFrom clocks (now (rules .entry)) at) (place clocks state) (eventXY x y) ⌝ }
 {
-    if byte_at(rules, at) != state.location as usize {
+    if x as usize & byte_within(rules, at + 1) != byte_within(rules, at + 2) {
         return false;
     }
-    if x as usize & byte_at(rules, at + 1) != byte_at(rules, at + 2) {
-        return false;
-    }
-    if y as usize & byte_at(rules, at + 3) != byte_at(rules, at + 4) {
+    if y as usize & byte_within(rules, at + 3) != byte_within(rules, at + 4) {
         return false;
     }
     let values = state.clocks;
     bounds_hold(rules, at + 7, clocks, values)
 }
 
-// The number of the first of the rules that fires.
+// The number of the first that fires of the rules, all of which are the location's.
 pub fn first_rule(rules: &[u8], count: usize, clocks: usize, state: State, x: u8, y: u8) -> Found
-    requires { ⌜ (count ≤ 256) × (clocks ≤ 4) ⌝ }
+    requires { ⌜ (count ≤ 256) × (clocks ≤ 4) × (count * ruleSize clocks ≤ length (now rules)) ⌝ }
+    requires { ⌜ level (state .location) (rulesFrom clocks (now rules) 0 count) ≡ count ⌝ }
     ensures { λ r. ⌜ foundSaid r ≡ decider (rulesFrom clocks (now (rules .entry)) 0 count) (place clocks state) (eventXY x y) ⌝ }
 {
     let size = 7 + 4 * clocks;

@@ -2,13 +2,14 @@
 use crate::matcher::Found;
 use crate::matcher::first_rule;
 use crate::state::State;
-use policy::bytes::byte_at;
+use policy::bytes::byte_within;
 ghost use mathlib.Core.Path.{_≡_};
-ghost use Prim.Native.Nat.{_≤_, _<_};
-ghost use lib.ListN.{take};
+ghost use Prim.Native.Nat.{_*_, _≤_};
+ghost use lib.ListN.{length, take};
 ghost use Rattle.policy.specs.Rules.{stopped, advance, step};
 ghost use Rattle.policy.specs.Number.{four};
-ghost use Rattle.policy.specs.File.{rulesFrom};
+ghost use Rattle.policy.specs.File.{ruleSize, rulesFrom};
+ghost use Rattle.enforcer.specs.Own.{level};
 ghost use Rattle.enforcer.specs.Code.{eventXY, place, bare, stepFrom};
 
 // What an event does: the state after it, or a violation and the state before it.
@@ -17,15 +18,14 @@ pub struct Step {
     pub state: State,
 }
 
-// Each clock goes to 0 if the mask names it, else up by one and no further than its ceiling.
-fn advanced(mask: usize, ceilings: [u16; 4], values: [u16; 4], clocks: usize) -> [u16; 4]
-    requires { ⌜ clocks ≤ 4 ⌝ }
-    ensures { λ r. ⌜ r ≡ four (advance stopped mask (take clocks ceilings) (take clocks values)) ⌝ }
+// Each clock goes to 0 if the mask names it, else up by one and no further than its ceiling. An unused clock stays at its ceiling 0.
+fn advanced(mask: usize, ceilings: [u16; 4], values: [u16; 4]) -> [u16; 4]
+    ensures { λ r. ⌜ r ≡ advance stopped mask ceilings values ⌝ }
 {
     let mut next = [0u16; 4];
     let mut rest = mask;
     let mut i = 0;
-    while i < clocks {
+    while i < State::CLOCKS {
         let ceiling = ceilings[i];
         let value = values[i];
         next[i] = if rest % 2 == 1 {
@@ -42,7 +42,7 @@ fn advanced(mask: usize, ceilings: [u16; 4], values: [u16; 4], clocks: usize) ->
 }
 
 impl State {
-    // The next state: the first rule that fires decides, and no such rule means violation.
+    // The next state by the location's own rules: the first that fires decides, and no such rule means violation.
     pub fn step(
         self,
         rules: &[u8],
@@ -52,7 +52,9 @@ impl State {
         x: u8,
         y: u8,
     ) -> Step
-        requires { ⌜ (count ≤ 256) × (clocks ≤ 4) ⌝ }
+        requires { ⌜ (count ≤ 256) × (clocks ≤ 4) × (count * ruleSize clocks ≤ length (now rules)) ⌝ }
+        requires { ⌜ level (self .location) (rulesFrom clocks (now rules) 0 count) ≡ count ⌝ }
+        requires { ⌜ ceilings ≡ four (take clocks ceilings) ⌝ }
         ensures { λ r. ⌜ r ≡ stepFrom self (step stopped (bare (take clocks ceilings) (rulesFrom clocks (now (rules .entry)) 0 count)) (place clocks self) (eventXY x y)) ⌝ }
     {
         match first_rule(rules, count, clocks, self, x, y) {
@@ -62,7 +64,7 @@ impl State {
             },
             Found::Rule(number) => {
                 let at = number * (7 + 4 * clocks);
-                let target = byte_at(rules, at + 6);
+                let target = byte_within(rules, at + 6);
                 if target == 255 {
                     return Step {
                         permitted: false,
@@ -74,7 +76,7 @@ impl State {
                     permitted: true,
                     state: State {
                         location: target as u16,
-                        clocks: advanced(byte_at(rules, at + 5), ceilings, values, clocks),
+                        clocks: advanced(byte_within(rules, at + 5), ceilings, values),
                     },
                 }
             }

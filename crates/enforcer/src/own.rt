@@ -1,8 +1,9 @@
 // A location's own rules. Sources never fall from one rule to the next, so they stand together.
-use policy::bytes::byte_at;
+use policy::bytes::byte_within;
 ghost use mathlib.Core.Path.{_≡_};
-ghost use Prim.Native.Nat.{_≤_, _<_, _^_};
-ghost use Rattle.policy.specs.File.{rulesFrom};
+ghost use Prim.Native.Nat.{_+_, _*_, _≤_, _<_, _^_};
+ghost use lib.ListN.{length};
+ghost use Rattle.policy.specs.File.{ruleSize, rulesFrom};
 ghost use Rattle.enforcer.specs.Own.{below, level};
 ghost use Rattle.enforcer.specs.Code.{ownOf};
 
@@ -14,14 +15,14 @@ pub struct Own {
 
 // How many rules at the front have a source below the location.
 fn rules_below(rules: &[u8], count: usize, clocks: usize, location: usize) -> usize
-    requires { ⌜ (count ≤ 256) × (clocks ≤ 4) ⌝ }
+    requires { ⌜ (count ≤ 256) × (clocks ≤ 4) × (count * ruleSize clocks ≤ length (now rules)) ⌝ }
     ensures { λ r. ⌜ r ≡ below location (rulesFrom clocks (now (rules .entry)) 0 count) ⌝ }
 {
     let size = 7 + 4 * clocks;
     let mut at = 0;
     let mut i = 0;
     while i < count {
-        if location <= byte_at(rules, at) {
+        if location <= byte_within(rules, at) {
             return i;
         }
         at += size;
@@ -32,14 +33,14 @@ fn rules_below(rules: &[u8], count: usize, clocks: usize, location: usize) -> us
 
 // How many of the rules from `at` on have the location for their source, before one that has not.
 fn rules_level(rules: &[u8], at: usize, count: usize, clocks: usize, location: usize) -> usize
-    requires { ⌜ (at < 2 ^ 16) × (count ≤ 256) × (clocks ≤ 4) ⌝ }
+    requires { ⌜ (at < 2 ^ 16) × (count ≤ 256) × (clocks ≤ 4) × (at + count * ruleSize clocks ≤ length (now rules)) ⌝ }
     ensures { λ r. ⌜ r ≡ level location (rulesFrom clocks (now (rules .entry)) at count) ⌝ }
 {
     let size = 7 + 4 * clocks;
     let mut next = at;
     let mut i = 0;
     while i < count {
-        if byte_at(rules, next) != location {
+        if byte_within(rules, next) != location {
             return i;
         }
         next += size;
@@ -49,7 +50,7 @@ fn rules_level(rules: &[u8], at: usize, count: usize, clocks: usize, location: u
 }
 
 pub fn own_rules(rules: &[u8], count: usize, clocks: usize, location: usize) -> Own
-    requires { ⌜ (count ≤ 256) × (clocks ≤ 4) ⌝ }
+    requires { ⌜ (count ≤ 256) × (clocks ≤ 4) × (count * ruleSize clocks ≤ length (now rules)) ⌝ }
     ensures { λ r. ⌜ r ≡ ownOf clocks location (rulesFrom clocks (now (rules .entry)) 0 count) ⌝ }
 {
     let first = rules_below(rules, count, clocks, location);

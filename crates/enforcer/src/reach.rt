@@ -66,7 +66,7 @@ pub fn reaches(
     }
     let next = step.state;
     let ceilings = layout.ceilings;
-    let number = next.number(ceilings, layout.clocks);
+    let number = next.number(ceilings, State::CLOCKS);
     marks[number] == 1
 }
 

@@ -20,10 +20,10 @@ ghost use Rattle.enforcer.specs.Chosen.{choiceSaid, tickFrom};
 
 // What a tick releases and the state after it; or that nothing may stand, with the state before it.
 pub struct Ticked {
+    pub state: State,
     pub released: bool,
     pub x: u8,
     pub y: u8,
-    pub state: State,
 }
 
 pub fn choose_input(

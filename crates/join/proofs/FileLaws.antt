@@ -15,7 +15,7 @@ use Rattle.policy.specs.File.{byteAt, part, ruleSize, inputCount, outputsAt, ou
 use Rattle.policy.specs.Check.{refusalOf}
 use Rattle.policy.specs.Bytes.{pairsBytes, countsBytes, bytesOf}
 use Rattle.policy.specs.Sound.{Each, each-weak}
-use Rattle.policy.specs.Checked.{Framed, passed, frame, checked-file, well-sound, inputs-length, outputs-length, pairs-length}
+use Rattle.policy.specs.Checked.{Framed, passed, frame, checked-file, well-sound, inputs-length, outputs-length, section-length, pairs-length}
 use Rattle.policy.specs.ReadBack.{rules-length}
 use Rattle.join.specs.Joins.{join-sound, join-clocks}
 use Rattle.policy.specs.Number.{states}
@@ -63,6 +63,7 @@ pub record Sizes (f : List ℕ) (x : Layout) : Type 0 where
   pub order : x .«rules_start» ≤ x .«rules_end»
   pub ends : x .«rules_end» ≤ length f
   pub section : part f (x .«rules_start») (x .«rules_end» - x .«rules_start») ≡ ruleSection f
+  pub whole : x .rules * ruleSize (x .clocks) ≤ length (ruleSection f)
 
 pub sizes : {f : List ℕ} {x : Layout} → LayoutOf f x → Sizes f x
 sizes {f} {x} g =
@@ -83,6 +84,7 @@ sizes {f} {x} g =
       order = omega arith;
       ends = omega arith;
       section = ap (part f (rulesStart f)) n;
+      whole = omega (arith, section-length f k);
     })
 
 pub tags-read : {f : List ℕ} {x : Layout} → LayoutOf f x →
@@ -141,6 +143,8 @@ module _ {f g : List ℕ} {x y : Layout} (r : Ready f x g y) where
         other = b .start;
         firsts = a .rules;
         seconds = b .rules;
+        firstsEnd = a .whole;
+        secondsEnd = b .whole;
         formed = rules-formed f x (r .first);
         others = rules-formed g y (r .second);
       }

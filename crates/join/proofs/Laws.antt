@@ -5,7 +5,7 @@ use Prim.Native.Nat.{ℕ, suc, _+_, _-_, _≤_, _<_}
 use native.Mathlib.Omega.{arith}
 use lib.Bits.{bitOr}
 use lib.ListN.{length, take, drop, set, replicate, length-append, length-drop, drop-of-length-le}
-use lib.Seq.{sets, length-sets, sets-eq, take-all, take-append-seam, drop-append-seam, drop-drop}
+use lib.Seq.{set-out, sets, length-sets, sets-eq, take-all, take-append-seam, drop-append-seam, drop-drop}
 use Rattle.policy.specs.File.{byteAt}
 use Rattle.join.specs.Lay.{Laid, bytesFrom, eitherFrom}
 
@@ -43,13 +43,16 @@ laid-parts {xs} {ys} {l} {m} {n} h g k =
     front : (vs rs : List ℕ) → length vs ≤ length rs → sets rs 0 vs ≡ vs ++ drop (length vs) rs
     front vs rs b = let z : 0 + length vs ≡ length vs = omega arith in sets-eq vs rs 0 (omega arith) ∙ rw z
 
--- A slice with no bytes stays so.
+-- Bytes past the slice's end change nothing, and a slice with no bytes stays so.
+sets-out : (l : List ℕ) (i : ℕ) (xs : List ℕ) → length l ≤ i → sets l i xs ≡ l
+sets-out l i [] h = refl
+sets-out l i (x ∷ xs) h = rw (set-out l i x h) (sets-out l (suc i) xs (omega arith))
+
+pub laid-past : (xs l : List ℕ) (at : ℕ) → length l ≤ at → {end : ℕ} → end ≡ at + length xs → Laid xs l at l end
+laid-past xs l at h e = record { ends = e; lies = sym (sets-out l at xs h) }
+
 pub laid-nowhere : {xs m : List ℕ} {at i : ℕ} → Laid xs [] at m i → m ≡ []
-laid-nowhere {xs} {m} {at} g = g .lies ∙ go xs at
-  where
-    go : (ys : List ℕ) (j : ℕ) → sets [] j ys ≡ []
-    go [] j = refl
-    go (y ∷ ys) j = go ys (suc j)
+laid-nowhere {xs} {m} {at} g = g .lies ∙ sets-out [] at xs (omega arith)
 
 -- In the midst of laying the whole: what is left, laid from here on, gives what the whole gives.
 pub record Left (whole rest l : List ℕ) (at : ℕ) (m : List ℕ) (i : ℕ) : Type 0 where

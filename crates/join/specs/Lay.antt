@@ -8,7 +8,7 @@ use lib.Dec.{leb}
 use lib.ListN.{length, replicate}
 use lib.Seq.{sets}
 use Rattle.policy.specs.Rules.{Rule}
-use Rattle.policy.specs.File.{byteAt, ruleFrom, rulesFrom, policyOf}
+use Rattle.policy.specs.File.{byteAt, ruleSize, ruleFrom, rulesFrom, policyOf}
 use Rattle.policy.specs.Check.{refusalOf}
 use Rattle.policy.specs.Bytes.{pairBytes, rulesBytes}
 use Rattle.policy.specs.Layout.{layoutOf}
@@ -50,7 +50,7 @@ ruleAt x f p = ruleFrom (x .clocks) f p
 abbrev pub FormedFor : Layout → Rule → Type 0
 FormedFor x = Formed (x .clocks) (x .locations)
 
--- What the writers ask of the two rule sections: the check has passed them, and the join has at most 4 clocks and 64 locations.
+-- What the writers ask of the two rule sections: they are whole, the check has passed them, and the join has at most 4 clocks and 64 locations.
 pub record Joinable (f : List ℕ) (x : Layout) (g : List ℕ) (y : Layout) : Type 0 where
   pub clocks : x .clocks + y .clocks ≤ 4
   pub locations : x .locations * y .locations ≤ 64
@@ -58,6 +58,8 @@ pub record Joinable (f : List ℕ) (x : Layout) (g : List ℕ) (y : Layout) : Ty
   pub other : 0 < y .locations
   pub firsts : x .rules ≤ 256
   pub seconds : y .rules ≤ 256
+  pub firstsEnd : x .rules * ruleSize (x .clocks) ≤ length f
+  pub secondsEnd : y .rules * ruleSize (y .clocks) ≤ length g
   pub formed : Each (FormedFor x) (rulesIn x f)
   pub others : Each (FormedFor y) (rulesIn y g)
 

@@ -6,9 +6,10 @@ use crate::lay::put_zeros;
 use policy::Layout;
 ghost use mathlib.Core.Path.{_≡_};
 ghost use Prim.Native.Nat.{_+_, _*_, _≤_, _<_, _^_};
+ghost use lib.ListN.{length};
 ghost use Rattle.policy.specs.File.{policyOf};
 ghost use Rattle.join.specs.Entry.{sameTags, sameSignals};
-ghost use Rattle.join.specs.Lay.{Laid, LayoutOf, limits, clocksPart, placesPart, countsFrom, countsLength};
+ghost use Rattle.join.specs.Lay.{Laid, LayoutOf, limits, clocksFor, clocksPart, placesPart, countsFrom, countsLength};
 
 // The same tags in the same order.
 fn same_tags(a: &[u8], b: &[u8]) -> bool
@@ -75,7 +76,8 @@ fn lay_clocks(
     out: &mut [u8],
     at: usize,
 ) -> usize
-    requires { ⌜ (p < 2 ^ 16) × (q < 2 ^ 16) × (firsts + seconds ≤ 4) × (at < 2 ^ 16) ⌝ }
+    requires { ⌜ (p + 1 + 2 * firsts ≤ length (now a)) × (q + 1 + 2 * seconds ≤ length (now b)) ⌝ }
+    requires { ⌜ (firsts + seconds ≤ 4) × (at < 2 ^ 16) ⌝ }
     ensures { λ r. ⌜ Laid (clocksPart (now (a .entry)) p firsts (now (b .entry)) q seconds) (now (out .entry)) at (now (out .exit)) r ⌝ }
     ensures { λ r. ⌜ r ≤ at + 9 ⌝ }
 {
@@ -96,7 +98,8 @@ fn lay_places(locations: usize, rules: usize, out: &mut [u8], at: usize) -> usiz
 
 // All that stands before the rules. Signals and their tags are A's.
 pub fn lay_counts(a: &[u8], x: Layout, b: &[u8], y: Layout, rules: usize, out: &mut [u8]) -> usize
-    requires { ⌜ (x .inputs ≤ 4) × (x .outputs ≤ 4) × (y .inputs ≤ 4) × (y .outputs ≤ 4) ⌝ }
+    requires { ⌜ (x .inputs ≤ 4) × (x .outputs ≤ 4) ⌝ }
+    requires { ⌜ (clocksFor x + 1 + 2 * x .clocks ≤ length (now a)) × (clocksFor y + 1 + 2 * y .clocks ≤ length (now b)) ⌝ }
     requires { ⌜ (x .clocks + y .clocks ≤ 4) × (x .locations * y .locations ≤ 64) × (rules ≤ 256) ⌝ }
     ensures { λ r. ⌜ Laid (countsFrom (now (a .entry)) x (now (b .entry)) y rules) (now (out .entry)) 0 (now (out .exit)) r ⌝ }
 {

@@ -1,8 +1,8 @@
 // Bytes laid into a slice from a position on, as far as the slice reaches. Each function hands back the position after them.
-use policy::bytes::byte_at;
+use policy::bytes::byte_within;
 ghost use mathlib.Core.List.{[], _∷_};
-ghost use Prim.Native.Nat.{_<_, _^_};
-ghost use lib.ListN.{replicate};
+ghost use Prim.Native.Nat.{_+_, _≤_, _<_, _^_};
+ghost use lib.ListN.{length, replicate};
 ghost use Rattle.policy.specs.Bytes.{pairBytes};
 ghost use Rattle.join.specs.Lay.{Laid, bytesFrom, eitherFrom};
 
@@ -27,13 +27,13 @@ pub fn put_pair(n: usize, out: &mut [u8], at: usize) -> usize
 
 // n bytes from `start` on.
 pub fn copy(from: &[u8], start: usize, n: usize, out: &mut [u8], at: usize) -> usize
-    requires { ⌜ (start < 2 ^ 31) × (n < 2 ^ 16) × (at < 2 ^ 31) ⌝ }
+    requires { ⌜ (start + n ≤ length (now from)) × (n < 2 ^ 16) × (at < 2 ^ 31) ⌝ }
     ensures { λ r. ⌜ Laid (bytesFrom (now (from .entry)) start n) (now (out .entry)) at (now (out .exit)) r ⌝ }
 {
     let mut next = at;
     let mut i = 0;
     while i < n {
-        next = put(byte_at(from, start + i), out, next);
+        next = put(byte_within(from, start + i), out, next);
         i += 1;
     }
     next
@@ -49,13 +49,13 @@ pub fn put_either(
     out: &mut [u8],
     at: usize,
 ) -> usize
-    requires { ⌜ (p < 2 ^ 31) × (q < 2 ^ 31) × (n < 2 ^ 16) × (at < 2 ^ 31) ⌝ }
+    requires { ⌜ (p + n ≤ length (now a)) × (q + n ≤ length (now b)) × (n < 2 ^ 16) × (at < 2 ^ 31) ⌝ }
     ensures { λ r. ⌜ Laid (eitherFrom (now (a .entry)) p (now (b .entry)) q n) (now (out .entry)) at (now (out .exit)) r ⌝ }
 {
     let mut next = at;
     let mut i = 0;
     while i < n {
-        next = put(byte_at(a, p + i) | byte_at(b, q + i), out, next);
+        next = put(byte_within(a, p + i) | byte_within(b, q + i), out, next);
         i += 1;
     }
     next

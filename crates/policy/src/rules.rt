@@ -1,11 +1,12 @@
 // The rules of a file, over the part of the file that they are.
-use crate::bytes::byte_at;
+use crate::bytes::byte_within;
 use crate::bytes::pair_at;
+use crate::bytes::pair_within;
 use crate::sections::section_refusal;
 ghost use mathlib.Core.Path.{_≡_};
-ghost use Prim.Native.Nat.{ℕ, _≤_, _<_, _^_};
-ghost use lib.ListN.{take};
-ghost use Rattle.policy.specs.File.{ruleFrom, rulesFrom, boundsFrom, rulesAt};
+ghost use Prim.Native.Nat.{ℕ, _+_, _*_, _≤_, _<_, _^_};
+ghost use lib.ListN.{length, take};
+ghost use Rattle.policy.specs.File.{ruleSize, ruleFrom, rulesFrom, boundsFrom, rulesAt};
 ghost use Rattle.policy.specs.Check.{maskGood, headGood, boundsGood, ruleRefusal, rulesRefusal, rulesSectionRefusal};
 ghost use Rattle.policy.specs.Layout.{Shaped, ShapeOf};
 
@@ -33,9 +34,10 @@ fn mask_good(signals: usize, care: usize, value: usize) -> bool
 // The first seven bytes of the rule at `at` keep the rules; `before` is the source of the rule before it.
 fn head_good(section: &[u8], at: usize, shape: Shape, before: usize) -> bool
     requires { ⌜ (at < 2 ^ 16) × Shaped shape ⌝ }
+    requires { ⌜ at + 7 ≤ length (now section) ⌝ }
     ensures { λ r. ⌜ r ≡ headGood (shape .inputs) (shape .outputs) (shape .clocks) (shape .locations) before (ruleFrom (shape .clocks) (now (section .entry)) at) ⌝ }
 {
-    let source = byte_at(section, at);
+    let source = byte_within(section, at);
     if source < before {
         return false;
     }
@@ -44,22 +46,22 @@ fn head_good(section: &[u8], at: usize, shape: Shape, before: usize) -> bool
     }
     if !mask_good(
         shape.inputs,
-        byte_at(section, at + 1),
-        byte_at(section, at + 2),
+        byte_within(section, at + 1),
+        byte_within(section, at + 2),
     ) {
         return false;
     }
     if !mask_good(
         shape.outputs,
-        byte_at(section, at + 3),
-        byte_at(section, at + 4),
+        byte_within(section, at + 3),
+        byte_within(section, at + 4),
     ) {
         return false;
     }
-    if 1 << shape.clocks <= byte_at(section, at + 5) {
+    if 1 << shape.clocks <= byte_within(section, at + 5) {
         return false;
     }
-    let target = byte_at(section, at + 6);
+    let target = byte_within(section, at + 6);
     if target < shape.locations {
         return true;
     }
@@ -69,12 +71,13 @@ fn head_good(section: &[u8], at: usize, shape: Shape, before: usize) -> bool
 // The bounds from `at` on keep the rules, one for each clock.
 fn bounds_good(section: &[u8], at: usize, ceilings: [u16; 4], clocks: usize) -> bool
     requires { ⌜ (at < 2 ^ 16) × (clocks ≤ 4) ⌝ }
+    requires { ⌜ at + 4 * clocks ≤ length (now section) ⌝ }
     ensures { λ r. ⌜ r ≡ boundsGood (take clocks ceilings) (boundsFrom (now (section .entry)) at clocks) ⌝ }
 {
     let mut i = 0;
     while i < clocks {
-        let low = pair_at(section, at + 4 * i) as u16;
-        let high = pair_at(section, at + 4 * i + 2) as u16;
+        let low = pair_within(section, at + 4 * i) as u16;
+        let high = pair_within(section, at + 4 * i + 2) as u16;
         let ceiling = ceilings[i];
         if high < low {
             return false;
@@ -95,6 +98,7 @@ fn bounds_good(section: &[u8], at: usize, ceilings: [u16; 4], clocks: usize) -> 
 // 6 or 7 where the rule at `at` breaks the rules, else 0.
 fn rule_refusal(section: &[u8], at: usize, shape: Shape, before: usize) -> u8
     requires { ⌜ (at < 2 ^ 15) × Shaped shape ⌝ }
+    requires { ⌜ at + ruleSize (shape .clocks) ≤ length (now section) ⌝ }
     ensures { λ r. ⌜ r ≡ ruleRefusal (shape .inputs) (shape .outputs) (take (shape .clocks) (shape .ceilings)) (shape .locations) before (ruleFrom (shape .clocks) (now (section .entry)) at) ⌝ }
 {
     if !head_good(section, at, shape, before) {
@@ -111,6 +115,7 @@ fn rule_refusal(section: &[u8], at: usize, shape: Shape, before: usize) -> u8
 // The refusal of the first of the n rules that breaks the rules, else 0.
 fn rules_refusal(section: &[u8], n: usize, shape: Shape) -> u8
     requires { ⌜ (n ≤ 256) × Shaped shape ⌝ }
+    requires { ⌜ n * ruleSize (shape .clocks) ≤ length (now section) ⌝ }
     ensures { λ r. ⌜ r ≡ rulesRefusal (shape .inputs) (shape .outputs) (take (shape .clocks) (shape .ceilings)) (shape .locations) 0 (rulesFrom (shape .clocks) (now (section .entry)) 0 n) ⌝ }
 {
     let size = 7 + 4 * shape.clocks;
@@ -122,7 +127,7 @@ fn rules_refusal(section: &[u8], n: usize, shape: Shape) -> u8
         if r != 0 {
             return r;
         }
-        before = byte_at(section, at);
+        before = byte_within(section, at);
         at += size;
         i += 1;
     }

@@ -10,7 +10,7 @@ use Rattle.policy.specs.File.{policyOf}
 use Rattle.enforcer.specs.State.{placeIn, stateGood, isMarked}
 use Rattle.enforcer.specs.Entries.{stateRefusal}
 use Rattle.enforcer.specs.Code.{asPlace}
-use Rattle.enforcer.specs.Laid.{Numbered, laid-limits, laid-well}
+use Rattle.enforcer.specs.Laid.{stateNumber, Numbered, laid-limits, laid-well}
 use Rattle.enforcer.specs.States.{good-numbered, state-granted}
 use Rattle.enforcer.proofs.halves.state_refusal.Statement.{statement}
 use Rattle.enforcer.proofs.halves.state_refusal.Tie as tie
@@ -30,7 +30,7 @@ good c = sym (c .before .state-good .ensures) ∙ not-false _ (c .if1 .left)
 numbered : (c : tie.Else1) →
     let a = c .before .before .before .before .args in
     let p = policyOf (now (a .file)) in
-    Numbered (now (a .file)) (a .layout) (now (a .marks)) (a .state) (isMarked (now (a .marks)) (numberOf p (placeIn p (asPlace (a .state)))))
+    Numbered (now (a .file)) (now (a .marks)) (stateNumber (a .layout) (a .state)) (isMarked (now (a .marks)) (numberOf p (placeIn p (asPlace (a .state)))))
 numbered c = let s = c .before .before .before .before in good-numbered (s .pre .0) (now (s .args .marks)) (s .args .state) (good c)
 
 number-requires : tie.Need-number-requires

@@ -23,40 +23,40 @@ abbrev μ-loop : tie.MeasureT-loop
 μ-loop rules at clocks values i₀ i = clocks - i
 
 -- What a turn's tests say of all the bounds.
-turn : (c : tie.After-pair-at2 Inv-loop μ-loop)
+turn : (c : tie.After-pair-within2 Inv-loop μ-loop)
     → let l = c .before .before .before in
     let a = l .before .before .args in
     hold (boundsFrom (now (a .rules)) (a .at) (a .clocks)) (take (a .clocks) (a .t4))
-    ≡ (within (record { low = c .before .pair-at .result; high = c .pair-at2 .result }) (getD (a .t4) (l .loop .i) 0)
+    ≡ (within (record { low = c .before .pair-within .result; high = c .pair-within2 .result }) (getD (a .t4) (l .loop .i) 0)
     && holdFrom (now (a .rules)) (a .at) (a .clocks) (a .t4) (l .loop .i + 1))
 turn c =
     let l = c .before .before in
     let h : l .before .before .before .args .clocks ≤ length (l .before .before .before .args .t4) = omega arith in
-    l .before .loop .inv .1 ∙ hold-turn _ _ _ _ _ _ _ (l .loop-test .taken) h (c .before .pair-at .ensures .0) (c .pair-at2 .ensures .0)
+    l .before .loop .inv .1 ∙ hold-turn _ _ _ _ _ _ _ (l .loop-test .taken) h (c .before .pair-within .ensures .0) (c .pair-within2 .ensures .0)
 
 loop-holds : tie.Need-loop-holds Inv-loop μ-loop
 loop-holds c = (omega arith, simp unary-clauses)
 
-mul-pair-at : tie.Need-mul-pair-at Inv-loop μ-loop
-mul-pair-at c = search needs
+mul-pair-within : tie.Need-mul-pair-within Inv-loop μ-loop
+mul-pair-within c = search needs
 
-add-pair-at : tie.Need-add-pair-at Inv-loop μ-loop
-add-pair-at c = search needs
+add-pair-within : tie.Need-add-pair-within Inv-loop μ-loop
+add-pair-within c = search needs
 
-pair-at-requires : tie.Need-pair-at-requires Inv-loop μ-loop
-pair-at-requires c κs = search needs
+pair-within-requires : tie.Need-pair-within-requires Inv-loop μ-loop
+pair-within-requires c κs = search needs
 
-mul-pair-at-2 : tie.Need-mul-pair-at-2 Inv-loop μ-loop
-mul-pair-at-2 c = search needs
+mul-pair-within-2 : tie.Need-mul-pair-within-2 Inv-loop μ-loop
+mul-pair-within-2 c = search needs
 
-add-pair-at-2 : tie.Need-add-pair-at-2 Inv-loop μ-loop
-add-pair-at-2 c = search needs
+add-pair-within-2 : tie.Need-add-pair-within-2 Inv-loop μ-loop
+add-pair-within-2 c = search needs
 
-add-pair-at-3 : tie.Need-add-pair-at-3 Inv-loop μ-loop
-add-pair-at-3 c = search needs
+add-pair-within-3 : tie.Need-add-pair-within-3 Inv-loop μ-loop
+add-pair-within-3 c = search needs
 
-pair-at-requires-2 : tie.Need-pair-at-requires-2 Inv-loop μ-loop
-pair-at-requires-2 c κs = search needs
+pair-within-requires-2 : tie.Need-pair-within-requires-2 Inv-loop μ-loop
+pair-within-requires-2 c κs = search needs
 
 mul-value : tie.Need-mul-value Inv-loop μ-loop
 mul-value c = search needs
@@ -104,13 +104,13 @@ bounds-hold-spec =
     Inv-loop
     μ-loop
     loop-holds
-    mul-pair-at
-    add-pair-at
-    pair-at-requires
-    mul-pair-at-2
-    add-pair-at-2
-    add-pair-at-3
-    pair-at-requires-2
+    mul-pair-within
+    add-pair-within
+    pair-within-requires
+    mul-pair-within-2
+    add-pair-within-2
+    add-pair-within-3
+    pair-within-requires-2
     mul-value
     array-read-value
     cast-value

@@ -1,31 +1,28 @@
--- `enforcer::next::advanced` meets its contract. The loop's invariant: the values asked for are the first `i` of `next`, those that `rest` gives from
--- the clock `i` on, and the zeros of `next` after the last clock.
-use mathlib.Core.Path.{_≡_, sym, _∙_}
+-- `enforcer::next::advanced` meets its contract. The loop's invariant: the values asked for are the first `i` of `next`, then those that `rest` gives
+-- from the clock `i` on.
+use mathlib.Core.Path.{_≡_, refl, sym, _∙_}
 use mathlib.Core.Logic.{⊎-elim}
 use Prim.Native.Nat.{_-_, _≤_}
 use native.Mathlib.Omega.{arith}
-use lib.ListN.{length, getD, take}
+use lib.ListN.{length, getD}
 use mir.Syntax.{w16}
 use mir.Val.{Fits}
 use borrow.Author.Needs.{needs}
 use borrow.Author.Tests.{eq-eqb, ne-eqb}
 use Rattle.policy.specs.Rules.{stopped, advance}
-use Rattle.policy.specs.Number.{four}
-use Rattle.enforcer.proofs.Laws.{advanceWith, advanced-starts, advanced-turn, advanced-ends}
+use Rattle.enforcer.proofs.Laws.{advanceWith, advanced-turn, advanced-ends}
 use Rattle.enforcer.proofs.next.advanced.Statement.{statement}
 use Rattle.enforcer.proofs.next.advanced.Tie as tie
 
 abbrev Inv-loop : tie.InvT-loop
-Inv-loop mask clocks ceilings values next₀ rest₀ i₀ next rest i =
-    ((i ≤ clocks) × (length next ≡ 4))
-    × (four (advance stopped mask (take clocks ceilings) (take clocks values)) ≡ advanceWith ceilings values clocks i rest next)
+Inv-loop mask ceilings values next₀ rest₀ i₀ next rest i =
+    ((i ≤ 4) × (length next ≡ 4)) × (advance stopped mask ceilings values ≡ advanceWith ceilings values i rest next)
 
 abbrev μ-loop : tie.MeasureT-loop
-μ-loop mask clocks ceilings values next₀ rest₀ i₀ next rest i = clocks - i
+μ-loop mask ceilings values next₀ rest₀ i₀ next rest i = 4 - i
 
 loop-holds : tie.Need-loop-holds Inv-loop μ-loop
-loop-holds c =
-    let a = c .args in (search needs, advanced-starts (a .t2) (a .t3) (a .clocks) (a .mask) (omega arith) (omega arith))
+loop-holds c = (search needs, refl)
 
 mul-ceiling : tie.Need-mul-ceiling Inv-loop μ-loop
 mul-ceiling c = search needs
@@ -60,7 +57,7 @@ loop-again c =
     let l = c .before .before .loop in
     let a = c .before .before .before .args in (
       search needs,
-      l .inv .1 ∙ advanced-turn (a .t2) (a .t3) (a .clocks) (l .rest) (omega arith) (omega arith) (l .i) (l .next) (c .before .loop-test .taken) (omega arith)
+      l .inv .1 ∙ advanced-turn (a .t2) (a .t3) (l .rest) (l .i) (l .next) (omega arith) (omega arith) (omega arith)
           (⊎-elim (λ w. rw (eq-eqb _ _ (w .0 .taken)) (w .1))
           (⊎-elim (λ w. rw (ne-eqb _ _ (w .0 .left)) (omega arith)) (λ w. rw (ne-eqb _ _ (w .0 .left)) (omega arith))) (c .if1 .came)),
     )
@@ -69,8 +66,7 @@ returns : tie.Need-returns Inv-loop μ-loop
 returns c =
     let l = c .before .loop in
     let a = c .before .before .args in
-    let e : l .i ≡ a .clocks = omega arith in
-    sym (rw e at (l .inv .1) ∙ advanced-ends (a .t2) (a .t3) (a .clocks) (l .rest) (omega arith) (omega arith) (l .next))
+    sym (l .inv .1 ∙ advanced-ends (a .t2) (a .t3) (l .rest) (l .i) (l .next) (omega arith) (omega arith))
 
 pub advanced-spec : {M : Type 1} → statement M
 advanced-spec =

@@ -1,7 +1,7 @@
 -- `enforcer::own::own_rules` meets its contract: the rules after the first ones are read from their place on. Assumes nothing.
 use mathlib.Core.Path.{_≡_, sym, ap, ap₂, _∙_}
 use Prim.Native.Nat.{ℕ, _+_, _-_, _*_, _≤_}
-use native.Mathlib.Nat.{mul-le-mul}
+use native.Mathlib.Nat.{add-mul, mul-le-mul}
 use native.Mathlib.Omega.{arith}
 use lib.ListN.{drop}
 use denote.Ref.{now}
@@ -48,7 +48,11 @@ sub-rules-level : tie.Need-sub-rules-level
 sub-rules-level c = passed c .0
 
 rules-level-requires : tie.Need-rules-level-requires
-rules-level-requires c κs = omega (arith, passed c, c .before .before .pre)
+rules-level-requires c κs =
+    let a = c .before .before .args in
+    let n = c .rules-below .result in
+    let all : n + (a .count - n) ≡ a .count = omega (arith, passed c) in
+    omega (arith, passed c, c .before .before .pre, rw all at (add-mul n (a .count - n) (ruleSize (a .clocks))))
 
 returns : tie.Need-returns
 returns c =

@@ -1,19 +1,27 @@
 -- `enforcer::own::rules_below` meets its contract. What the rest adds to i is what all rules give. Assumes nothing.
 use mathlib.Core.Path.{_≡_, _∙_}
 use Prim.Native.Nat.{_+_, _-_, _*_, _≤_}
+use native.Mathlib.Nat.{mul-le-mul-right}
 use native.Mathlib.Omega.{arith}
+use lib.ListN.{length}
 use denote.Ref.{now}
-use Rattle.policy.specs.File.{rulesFrom}
+use Rattle.policy.specs.File.{ruleSize, rulesFrom}
 use Rattle.enforcer.specs.Own.{below, below-more, below-done, none-below}
 use Rattle.enforcer.proofs.own.rules_below.Statement.{statement}
 use Rattle.enforcer.proofs.own.rules_below.Tie as tie
 
 abbrev Inv-loop : tie.InvT-loop
 Inv-loop rules count clocks location size at₀ i₀ at i =
-    (i ≤ count) × (at ≤ i * 23) × (i + below location (rulesFrom clocks rules at (count - i)) ≡ below location (rulesFrom clocks rules 0 count))
+    (i ≤ count) × ((at ≤ i * 23) × (at ≡ i * ruleSize clocks)) × (i + below location (rulesFrom clocks rules at (count - i)) ≡ below location (rulesFrom clocks rules 0 count))
 
 abbrev μ-loop : tie.MeasureT-loop
 μ-loop rules count clocks location size at₀ i₀ at i = count - i
+
+-- A turn's rule ends with i + 1 whole rules, and the section has them all.
+within : (c : tie.In-loop Inv-loop μ-loop) →
+    let a = c .before .before .before .args in
+    c .before .loop .at + ruleSize (a .clocks) ≤ length (now (a .rules))
+within c = omega (arith, mul-le-mul-right (ruleSize (c .before .before .before .args .clocks)) (c .loop-test .taken))
 
 mul-size : tie.Need-mul-size Inv-loop μ-loop
 mul-size c = omega arith
@@ -22,10 +30,10 @@ add-size : tie.Need-add-size Inv-loop μ-loop
 add-size c = omega arith
 
 loop-holds : tie.Need-loop-holds Inv-loop μ-loop
-loop-holds c = let e : c .before .args .count - 0 ≡ c .before .args .count = omega arith in (omega arith, omega arith, rw e (omega arith))
+loop-holds c = let e : c .before .args .count - 0 ≡ c .before .args .count = omega arith in (omega arith, (omega arith, omega arith), rw e (omega arith))
 
-byte-at-requires : tie.Need-byte-at-requires Inv-loop μ-loop
-byte-at-requires c κs = tt
+byte-within-requires : tie.Need-byte-within-requires Inv-loop μ-loop
+byte-within-requires c κs = omega (arith, within c)
 
 returns : tie.Need-returns Inv-loop μ-loop
 returns c =
@@ -35,7 +43,7 @@ returns c =
       arith,
       l .loop .inv,
       below-done (a .clocks) (now (a .rules)) (l .loop .at) (l .loop .i) (a .count) (a .location) (c .before .before .loop-test .taken)
-          (omega (arith, c .before .byte-at .ensures, c .if1 .taken)),
+          (omega (arith, c .before .byte-within .ensures, c .if1 .taken)),
     )
 
 add-at : tie.Need-add-at Inv-loop μ-loop
@@ -53,9 +61,9 @@ loop-again c =
     let a = l .before .before .args in
     let m =
     below-more (a .clocks) (now (a .rules)) (l .loop .at) (l .loop .i) (a .count) (a .location) (c .before .before .loop-test .taken)
-    (omega (arith, c .before .byte-at .ensures, c .if1 .left))
+    (omega (arith, c .before .byte-within .ensures, c .if1 .left))
     in
-    (omega arith, omega arith, m ∙ l .loop .inv .2)
+    (omega arith, (omega arith, omega arith), m ∙ l .loop .inv .2)
 
 returns-2 : tie.Need-returns-2 Inv-loop μ-loop
 returns-2 c =
@@ -69,4 +77,4 @@ returns-2 c =
 pub rules-below-spec : {M : Type 1} → statement M
 rules-below-spec =
     tie.close
-    (tie.spec Inv-loop μ-loop mul-size add-size loop-holds byte-at-requires returns add-at add-i loop-less loop-again returns-2)
+    (tie.spec Inv-loop μ-loop mul-size add-size loop-holds byte-within-requires returns add-at add-i loop-less loop-again returns-2)

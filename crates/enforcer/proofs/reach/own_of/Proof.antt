@@ -1,9 +1,10 @@
 -- `enforcer::reach::own_of` meets its contract: the rule section reads as the rules.
 use mathlib.Core.Path.{ap, _∙_}
 use native.Mathlib.Omega.{arith}
+use lib.ListN.{length-take, length-drop}
 use borrow.Author.Needs.{needs}
 use Rattle.enforcer.specs.Code.{ownOf}
-use Rattle.enforcer.specs.Laid.{laid-limits, laid-rules}
+use Rattle.enforcer.specs.Laid.{laid-limits, laid-section, laid-rules}
 use Rattle.enforcer.proofs.reach.own_of.Statement.{statement}
 use Rattle.enforcer.proofs.reach.own_of.Tie as tie
 
@@ -20,7 +21,9 @@ cast-own-rules : tie.Need-cast-own-rules
 cast-own-rules c = search needs
 
 own-rules-requires : tie.Need-own-rules-requires
-own-rules-requires c κs = omega (arith, laid-limits (c .before .before .before .pre))
+own-rules-requires c κs =
+    let k = c .before .before .before .pre in
+    simp (length-take, length-drop) (omega (arith, laid-limits k, laid-section k))
 
 returns : tie.Need-returns
 returns c =

@@ -5,6 +5,7 @@ use denote.Ref.{now}
 use borrow.Author.Needs.{needs}
 use borrow.Author.Tests.{not-true, not-false}
 use Rattle.policy.specs.File.{policyOf}
+use Rattle.policy.specs.Number.{numberFrom}
 use Rattle.enforcer.specs.Tick.{reaches}
 use Rattle.enforcer.specs.Code.{place}
 use Rattle.enforcer.specs.Laid.{Numbered, laid-limits, laid-well, reaches-none, reaches-next}
@@ -23,7 +24,8 @@ returns c =
 -- The next state has a number, and its mark is the answer.
 numbered : (c : tie.Else1) →
     let a = c .before .before .before .before .before .args in
-    Numbered (now (a .file)) (a .layout) (now (a .marks)) (c .before .before .step-of .result .state)
+    let next = c .before .before .step-of .result .state in
+    Numbered (now (a .file)) (now (a .marks)) (numberFrom (a .layout .ceilings) 4 (next .location) (next .clocks))
     (reaches (policyOf (now (a .file))) (now (a .marks)) (place (a .layout .clocks) (a .state)) (a .x) (a .y))
 numbered c =
     let s = c .before .before .before .before .before in

@@ -2,11 +2,11 @@
 use mathlib.Core.Path.{_≡_, ap, _∙_}
 use Prim.Native.Nat.{_+_, _-_, _*_, _≤_}
 use native.Mathlib.Omega.{arith}
-use lib.ListN.{length}
+use lib.ListN.{length, length-take, length-drop}
 use denote.Ref.{now}
 use borrow.Author.Needs.{needs}
 use Rattle.enforcer.specs.Code.{eventXY, stepFrom}
-use Rattle.enforcer.specs.Laid.{laid-limits, own-fits, own-step}
+use Rattle.enforcer.specs.Laid.{laid-limits, laid-four, own-fits, own-level, own-step}
 use Rattle.enforcer.proofs.reach.step_of.Statement.{statement}
 use Rattle.enforcer.proofs.reach.step_of.Tie as tie
 
@@ -44,7 +44,15 @@ part-step-end : tie.Need-part-step-end
 part-step-end c = omega (arith, fits (c .before))
 
 step-requires : tie.Need-step-requires
-step-requires c κs = omega (arith, fits (c .before .before))
+step-requires c κs =
+    let s = c .before .before .before .before .before .before in
+    let a = s .args in
+    let size = a .own .count * (7 + 4 * a .layout .clocks) in
+    let from = a .layout .«rules_start» + a .own .start in
+    let n : from + size - from ≡ size = omega arith in (
+      simp (length-take, length-drop) (omega (arith, fits (c .before .before))),
+      (rw n (own-level (s .pre .0) (a .state .location) (s .pre .1)), laid-four (s .pre .0)),
+    )
 
 returns : tie.Need-returns
 returns c =

@@ -50,7 +50,7 @@ turned : (c : tie.Else1 Inv-loop μ-loop) →
 turned c =
     let t = c .before .before in
     let l = t .before .before in
-    going-turn (l .before .loop .inv) (l .loop-test .taken) (t .tick .ensures) (not-false _ (c .if1 .left)) (omega arith)
+    going-turn (l .before .loop .inv) (l .loop-test .taken) (t .tick .ensures) (not-false _ (c .if1 .left)) (omega (arith, l .before .before .before .before .before .before .pre .1))
 
 mul-out : tie.Need-mul-out Inv-loop μ-loop
 mul-out c = omega (arith, turned (c .before))

@@ -18,11 +18,11 @@ abbrev μ-loop : tie.MeasureT-loop
 loop-holds : tie.Need-loop-holds Inv-loop μ-loop
 loop-holds c = (omega arith, omega arith, left-same (left-start _ _ _) (bytes-start _ _ _))
 
-add-byte-at : tie.Need-add-byte-at Inv-loop μ-loop
-add-byte-at c = search needs
+add-byte-within : tie.Need-add-byte-within Inv-loop μ-loop
+add-byte-within c = search needs
 
-byte-at-requires : tie.Need-byte-at-requires Inv-loop μ-loop
-byte-at-requires c κs = search needs
+byte-within-requires : tie.Need-byte-within-requires Inv-loop μ-loop
+byte-within-requires c κs = search needs
 
 put-requires : tie.Need-put-requires Inv-loop μ-loop
 put-requires c κs = search needs
@@ -39,7 +39,7 @@ loop-again c =
       omega arith,
       omega (arith, c .before .before .put .ensures .ends),
       left-turn (l .before .loop .inv .2)
-          (bytes-turn _ _ _ _ (l .loop-test .taken) (c .before .before .before .before .byte-at .ensures .0))
+          (bytes-turn _ _ _ _ (l .loop-test .taken) (c .before .before .before .before .byte-within .ensures .0))
           (c .before .before .put .ensures),
     )
 
@@ -56,8 +56,8 @@ copy-spec =
     Inv-loop
     μ-loop
     loop-holds
-    add-byte-at
-    byte-at-requires
+    add-byte-within
+    byte-within-requires
     put-requires
     add-i
     loop-less

@@ -19,20 +19,20 @@ abbrev μ-loop : tie.MeasureT-loop
 loop-holds : tie.Need-loop-holds Inv-loop μ-loop
 loop-holds c = (omega arith, omega arith, left-same (left-start _ _ _) (either-start _ _ _ _ _))
 
-add-byte-at : tie.Need-add-byte-at Inv-loop μ-loop
-add-byte-at c = search needs
+add-byte-within : tie.Need-add-byte-within Inv-loop μ-loop
+add-byte-within c = search needs
 
-byte-at-requires : tie.Need-byte-at-requires Inv-loop μ-loop
-byte-at-requires c κs = search needs
+byte-within-requires : tie.Need-byte-within-requires Inv-loop μ-loop
+byte-within-requires c κs = search needs
 
-add-byte-at-2 : tie.Need-add-byte-at-2 Inv-loop μ-loop
-add-byte-at-2 c = search needs
+add-byte-within-2 : tie.Need-add-byte-within-2 Inv-loop μ-loop
+add-byte-within-2 c = search needs
 
-byte-at-requires-2 : tie.Need-byte-at-requires-2 Inv-loop μ-loop
-byte-at-requires-2 c κs = search needs
+byte-within-requires-2 : tie.Need-byte-within-requires-2 Inv-loop μ-loop
+byte-within-requires-2 c κs = search needs
 
 put-requires : tie.Need-put-requires Inv-loop μ-loop
-put-requires c κs = (or-lt 8 _ _ (c .before .before .byte-at .ensures .1) (c .before .byte-at2 .ensures .1), omega arith)
+put-requires c κs = (or-lt 8 _ _ (c .before .before .byte-within .ensures .1) (c .before .byte-within2 .ensures .1), omega arith)
 
 add-i : tie.Need-add-i Inv-loop μ-loop
 add-i c = search needs
@@ -47,7 +47,7 @@ loop-again c =
       omega arith,
       omega (arith, c .before .before .put .ensures .ends),
       left-turn (l .before .loop .inv .2)
-          (either-turn _ _ _ _ _ _ (l .loop-test .taken) (b .before .byte-at .ensures .0) (b .byte-at2 .ensures .0))
+          (either-turn _ _ _ _ _ _ (l .loop-test .taken) (b .before .byte-within .ensures .0) (b .byte-within2 .ensures .0))
           (c .before .before .put .ensures),
     )
 
@@ -64,10 +64,10 @@ put-either-spec =
     Inv-loop
     μ-loop
     loop-holds
-    add-byte-at
-    byte-at-requires
-    add-byte-at-2
-    byte-at-requires-2
+    add-byte-within
+    byte-within-requires
+    add-byte-within-2
+    byte-within-requires-2
     put-requires
     add-i
     loop-less

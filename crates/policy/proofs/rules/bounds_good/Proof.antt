@@ -26,45 +26,45 @@ abbrev μ-loop : tie.MeasureT-loop
 abbrev all : tie.Start Inv-loop μ-loop → Bool
 all s = boundsGood (take (s .args .clocks) (s .args .t3)) (boundsFrom (now (s .args .section)) (s .args .at) (s .args .clocks))
 
-turn : (c : tie.After-pair-at2 Inv-loop μ-loop) →
+turn : (c : tie.After-pair-within2 Inv-loop μ-loop) →
     let h = c .before .before .before in
     let s = h .before .before in
     let rest = boundsLeft (now (s .args .section)) (s .args .at) (s .args .t3) (s .args .clocks) (h .loop .i + 1) in
-    all s ≡ boundGood (getD (s .args .t3) (h .loop .i) 0) (record { low = c .before .pair-at .result; high = c .pair-at2 .result }) && rest
+    all s ≡ boundGood (getD (s .args .t3) (h .loop .i) 0) (record { low = c .before .pair-within .result; high = c .pair-within2 .result }) && rest
 turn c =
     let h = c .before .before .before in
     let s = h .before .before in
     let next =
     bounds-turn (now (s .args .section)) (s .args .at) (s .args .t3) (s .args .clocks) (h .loop .i) (omega arith)
     (c .before .before .loop-test .taken) in
-    simp (c .before .pair-at .ensures .0, c .pair-at2 .ensures .0) (sym (h .loop .inv .1) ∙ next)
+    simp (c .before .pair-within .ensures .0, c .pair-within2 .ensures .0) (sym (h .loop .inv .1) ∙ next)
 
 loop-holds : tie.Need-loop-holds Inv-loop μ-loop
 loop-holds c = (search needs, rw (mul-zero, add-zero, sub-zero))
 
-mul-pair-at : tie.Need-mul-pair-at Inv-loop μ-loop
-mul-pair-at c = search needs
+mul-pair-within : tie.Need-mul-pair-within Inv-loop μ-loop
+mul-pair-within c = search needs
 
-add-pair-at : tie.Need-add-pair-at Inv-loop μ-loop
-add-pair-at c = search needs
+add-pair-within : tie.Need-add-pair-within Inv-loop μ-loop
+add-pair-within c = search needs
 
-pair-at-requires : tie.Need-pair-at-requires Inv-loop μ-loop
-pair-at-requires c κs = search needs
+pair-within-requires : tie.Need-pair-within-requires Inv-loop μ-loop
+pair-within-requires c κs = search needs
 
 cast-low : tie.Need-cast-low Inv-loop μ-loop
 cast-low c = search needs
 
-mul-pair-at-2 : tie.Need-mul-pair-at-2 Inv-loop μ-loop
-mul-pair-at-2 c = search needs
+mul-pair-within-2 : tie.Need-mul-pair-within-2 Inv-loop μ-loop
+mul-pair-within-2 c = search needs
 
-add-pair-at-2 : tie.Need-add-pair-at-2 Inv-loop μ-loop
-add-pair-at-2 c = search needs
+add-pair-within-2 : tie.Need-add-pair-within-2 Inv-loop μ-loop
+add-pair-within-2 c = search needs
 
-add-pair-at-3 : tie.Need-add-pair-at-3 Inv-loop μ-loop
-add-pair-at-3 c = search needs
+add-pair-within-3 : tie.Need-add-pair-within-3 Inv-loop μ-loop
+add-pair-within-3 c = search needs
 
-pair-at-requires-2 : tie.Need-pair-at-requires-2 Inv-loop μ-loop
-pair-at-requires-2 c κs = search needs
+pair-within-requires-2 : tie.Need-pair-within-requires-2 Inv-loop μ-loop
+pair-within-requires-2 c κs = search needs
 
 cast-high : tie.Need-cast-high Inv-loop μ-loop
 cast-high c = search needs
@@ -128,14 +128,14 @@ bounds-good-spec =
     Inv-loop
     μ-loop
     loop-holds
-    mul-pair-at
-    add-pair-at
-    pair-at-requires
+    mul-pair-within
+    add-pair-within
+    pair-within-requires
     cast-low
-    mul-pair-at-2
-    add-pair-at-2
-    add-pair-at-3
-    pair-at-requires-2
+    mul-pair-within-2
+    add-pair-within-2
+    add-pair-within-3
+    pair-within-requires-2
     cast-high
     mul-ceiling
     array-read-ceiling

@@ -66,11 +66,11 @@ outputs-told c = cc
 
 past1 : (c : tie.Else1) → whole (start1 c) ≡ left1 (start1 c)
 unfolding headGood ruleFrom
-past1 c = simp (← c .before .byte-at .ensures .0, le-leb _ _ (c .if1 .left))
+past1 c = simp (← c .before .byte-within .ensures .0, le-leb _ _ (c .if1 .left))
 
 past2 : (c : tie.Else2) → whole (start2 c) ≡ left2 (start2 c)
 past2 c =
-    let c1 = c .before .before in past1 c1 ∙ simp (← c1 .before .byte-at .ensures .0, lt-ltb _ _ (c .if2 .left))
+    let c1 = c .before .before in past1 c1 ∙ simp (← c1 .before .byte-within .ensures .0, lt-ltb _ _ (c .if2 .left))
 
 past3 : (c : tie.Else3) → whole (start3 c) ≡ left3 (start3 c)
 past3 c =
@@ -83,30 +83,30 @@ past4 c =
 past5 : (c : tie.Else5) → whole (start5 c) ≡ left5 (start5 c)
 past5 c =
     past4 (c .before .before .before)
-    ∙ simp (← c .before .byte-at6 .ensures .0, lt-ltb _ _ (rw (one-shl _ (start5 c .pre .1 .clocks)) at (c .if5 .left)))
+    ∙ simp (← c .before .byte-within6 .ensures .0, lt-ltb _ _ (rw (one-shl _ (start5 c .pre .0 .1 .clocks)) at (c .if5 .left)))
 
-byte-at-requires : tie.Need-byte-at-requires
-byte-at-requires c κs = search needs
+byte-within-requires : tie.Need-byte-within-requires
+byte-within-requires c κs = search needs
 
 returns : tie.Need-returns
 unfolding headGood ruleFrom
-returns c = simp (← c .before .byte-at .ensures .0, lt-leb _ _ (c .if1 .taken))
+returns c = simp (← c .before .byte-within .ensures .0, lt-leb _ _ (c .if1 .taken))
 
 returns-2 : tie.Need-returns-2
 returns-2 c =
-    let c1 = c .before .before in sym (past1 c1 ∙ simp (← c1 .before .byte-at .ensures .0, le-ltb _ _ (c .if2 .taken)))
+    let c1 = c .before .before in sym (past1 c1 ∙ simp (← c1 .before .byte-within .ensures .0, le-ltb _ _ (c .if2 .taken)))
 
-add-byte-at : tie.Need-add-byte-at
-add-byte-at c = search needs
+add-byte-within : tie.Need-add-byte-within
+add-byte-within c = search needs
 
-byte-at-requires-2 : tie.Need-byte-at-requires-2
-byte-at-requires-2 c κs = search needs
+byte-within-requires-2 : tie.Need-byte-within-requires-2
+byte-within-requires-2 c κs = search needs
 
-add-byte-at-2 : tie.Need-add-byte-at-2
-add-byte-at-2 c = search needs
+add-byte-within-2 : tie.Need-add-byte-within-2
+add-byte-within-2 c = search needs
 
-byte-at-requires-3 : tie.Need-byte-at-requires-3
-byte-at-requires-3 c κs = search needs
+byte-within-requires-3 : tie.Need-byte-within-requires-3
+byte-within-requires-3 c κs = search needs
 
 mask-good-requires : tie.Need-mask-good-requires
 mask-good-requires c κs = search needs
@@ -115,17 +115,17 @@ returns-3 : tie.Need-returns-3
 returns-3 c =
     sym (past2 (c .before .before .before .before) ∙ simp (inputs-told (c .before) ∙ not-true _ (c .if3 .taken)))
 
-add-byte-at-3 : tie.Need-add-byte-at-3
-add-byte-at-3 c = search needs
+add-byte-within-3 : tie.Need-add-byte-within-3
+add-byte-within-3 c = search needs
 
-byte-at-requires-4 : tie.Need-byte-at-requires-4
-byte-at-requires-4 c κs = search needs
+byte-within-requires-4 : tie.Need-byte-within-requires-4
+byte-within-requires-4 c κs = search needs
 
-add-byte-at-4 : tie.Need-add-byte-at-4
-add-byte-at-4 c = search needs
+add-byte-within-4 : tie.Need-add-byte-within-4
+add-byte-within-4 c = search needs
 
-byte-at-requires-5 : tie.Need-byte-at-requires-5
-byte-at-requires-5 c κs = search needs
+byte-within-requires-5 : tie.Need-byte-within-requires-5
+byte-within-requires-5 c κs = search needs
 
 mask-good-requires-2 : tie.Need-mask-good-requires-2
 mask-good-requires-2 c κs = search needs
@@ -137,55 +137,55 @@ returns-4 c =
 shl-if5 : tie.Need-shl-if5
 shl-if5 c = search needs
 
-add-byte-at-5 : tie.Need-add-byte-at-5
-add-byte-at-5 c = search needs
+add-byte-within-5 : tie.Need-add-byte-within-5
+add-byte-within-5 c = search needs
 
-byte-at-requires-6 : tie.Need-byte-at-requires-6
-byte-at-requires-6 c κs = search needs
+byte-within-requires-6 : tie.Need-byte-within-requires-6
+byte-within-requires-6 c κs = search needs
 
 returns-5 : tie.Need-returns-5
 returns-5 c =
     let c4 = c .before .before .before in
-    sym (past4 c4 ∙ simp (← c .before .byte-at6 .ensures .0, le-ltb _ _ (rw (one-shl _ (start4 c4 .pre .1 .clocks)) at (c .if5 .taken))))
+    sym (past4 c4 ∙ simp (← c .before .byte-within6 .ensures .0, le-ltb _ _ (rw (one-shl _ (start4 c4 .pre .0 .1 .clocks)) at (c .if5 .taken))))
 
-add-byte-at-6 : tie.Need-add-byte-at-6
-add-byte-at-6 c = search needs
+add-byte-within-6 : tie.Need-add-byte-within-6
+add-byte-within-6 c = search needs
 
-byte-at-requires-7 : tie.Need-byte-at-requires-7
-byte-at-requires-7 c κs = search needs
+byte-within-requires-7 : tie.Need-byte-within-requires-7
+byte-within-requires-7 c κs = search needs
 
 returns-6 : tie.Need-returns-6
 returns-6 c =
-    sym (past5 (c .before .before .before) ∙ simp (← c .before .before .byte-at7 .ensures .0, lt-ltb _ _ (c .if6 .taken)))
+    sym (past5 (c .before .before .before) ∙ simp (← c .before .before .byte-within7 .ensures .0, lt-ltb _ _ (c .if6 .taken)))
 
 returns-7 : tie.Need-returns-7
 returns-7 c =
-    sym (past5 (c .before .before .before) ∙ simp (← c .before .before .byte-at7 .ensures .0, le-ltb _ _ (c .if6 .left)))
+    sym (past5 (c .before .before .before) ∙ simp (← c .before .before .byte-within7 .ensures .0, le-ltb _ _ (c .if6 .left)))
 
 pub head-good-spec : {M : Type 1} → statement M
 head-good-spec =
     tie.close
     (tie.spec
-    byte-at-requires
+    byte-within-requires
     returns
     returns-2
-    add-byte-at
-    byte-at-requires-2
-    add-byte-at-2
-    byte-at-requires-3
+    add-byte-within
+    byte-within-requires-2
+    add-byte-within-2
+    byte-within-requires-3
     mask-good-requires
     returns-3
-    add-byte-at-3
-    byte-at-requires-4
-    add-byte-at-4
-    byte-at-requires-5
+    add-byte-within-3
+    byte-within-requires-4
+    add-byte-within-4
+    byte-within-requires-5
     mask-good-requires-2
     returns-4
     shl-if5
-    add-byte-at-5
-    byte-at-requires-6
+    add-byte-within-5
+    byte-within-requires-6
     returns-5
-    add-byte-at-6
-    byte-at-requires-7
+    add-byte-within-6
+    byte-within-requires-7
     returns-6
     returns-7)

@@ -1,10 +1,10 @@
--- `rules::rules_refusal` meets its contract. The invariant: the refusal of the rules from i on is that of all. Assumes nothing.
+-- `rules::rules_refusal` meets its contract. The invariant: rule i starts after i whole rules, and the refusal of the rules from i on is that of all. Assumes nothing.
 use mathlib.Core.Path.{_≡_, sym, _∙_}
 use mathlib.Core.List.{List}
 use Prim.Native.Nat.{ℕ, _+_, _-_, _*_, _≤_}
-use native.Mathlib.Nat.{sub-zero}
+use native.Mathlib.Nat.{mul-le-mul-right, sub-zero}
 use native.Mathlib.Omega.{arith}
-use lib.ListN.{take}
+use lib.ListN.{length, take}
 use denote.Ref.{now}
 use borrow.Author.Needs.{needs}
 use Rattle.streams.specs.Answer.{_orElse_}
@@ -24,7 +24,7 @@ refusal section shape at before n =
 
 abbrev Inv-loop : tie.InvT-loop
 Inv-loop section n shape size at₀ before₀ i₀ at before i =
-    (i ≤ n) × (at ≤ 23 * i) × (refusal section shape at before (n - i) ≡ refusal section shape 0 0 n)
+    (i ≤ n) × (at ≤ 23 * i) × (at ≡ i * ruleSize (shape .clocks)) × (refusal section shape at before (n - i) ≡ refusal section shape 0 0 n)
 
 abbrev μ-loop : tie.MeasureT-loop
 μ-loop section n shape size at₀ before₀ i₀ at before i = n - i
@@ -43,7 +43,14 @@ turn c =
     let next =
     rules-turn (a .shape .inputs) (a .shape .outputs) cs (a .shape .locations) (h .loop .before) (a .shape .clocks)
     (now (a .section)) (h .loop .at) (a .n) (h .loop .i) (c .before .loop-test .taken) in
-    simp (c .rule-refusal .ensures) (sym (h .loop .inv .2) ∙ next)
+    simp (c .rule-refusal .ensures) (sym (h .loop .inv .3) ∙ next)
+
+-- a turn's rule ends with i + 1 whole rules, and the section has n
+within : (c : tie.In-loop Inv-loop μ-loop) →
+    let a = c .before .before .before .before .args in
+    c .before .loop .at + ruleSize (a .shape .clocks) ≤ length (now (a .section))
+within c =
+    omega (arith, mul-le-mul-right (ruleSize (c .before .before .before .before .args .shape .clocks)) (c .loop-test .taken))
 
 mul-size : tie.Need-mul-size Inv-loop μ-loop
 mul-size c = search needs
@@ -52,16 +59,16 @@ add-size : tie.Need-add-size Inv-loop μ-loop
 add-size c = search needs
 
 loop-holds : tie.Need-loop-holds Inv-loop μ-loop
-loop-holds c = (search needs, search needs, rw sub-zero)
+loop-holds c = (search needs, search needs, search needs, rw sub-zero)
 
 rule-refusal-requires : tie.Need-rule-refusal-requires Inv-loop μ-loop
-rule-refusal-requires c κs = search needs
+rule-refusal-requires c κs = (search needs, within c)
 
 returns : tie.Need-returns Inv-loop μ-loop
 returns c = sym (turn (c .before) ∙ first-refused _ _ (c .if1 .taken))
 
-byte-at-requires : tie.Need-byte-at-requires Inv-loop μ-loop
-byte-at-requires c κs = search needs
+byte-within-requires : tie.Need-byte-within-requires Inv-loop μ-loop
+byte-within-requires c κs = omega (arith, within (c .before .before))
 
 add-at : tie.Need-add-at Inv-loop μ-loop
 add-at c = search needs
@@ -76,14 +83,15 @@ loop-again : tie.Need-loop-again Inv-loop μ-loop
 loop-again c = (
   search needs,
   search needs,
-  sym (turn (c .before .before) ∙ next-refused _ _ (c .before .if1 .left) ∙ simp (c .byte-at .ensures .0)),
+  search needs,
+  sym (turn (c .before .before) ∙ next-refused _ _ (c .before .if1 .left) ∙ simp (c .byte-within .ensures .0)),
 )
 
 returns-2 : tie.Need-returns-2 Inv-loop μ-loop
 unfolding rulesRefusal rulesFrom
 returns-2 c =
     let e : c .before .before .before .before .args .n - c .before .loop .i ≡ 0 = omega arith in
-    rw e at (c .before .loop .inv .2)
+    rw e at (c .before .loop .inv .3)
 
 pub rules-refusal-spec : {M : Type 1} → statement M
 rules-refusal-spec =
@@ -96,7 +104,7 @@ rules-refusal-spec =
     loop-holds
     rule-refusal-requires
     returns
-    byte-at-requires
+    byte-within-requires
     add-at
     add-i
     loop-less

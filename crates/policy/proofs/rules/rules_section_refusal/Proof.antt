@@ -2,7 +2,7 @@
 use mathlib.Core.Path.{_≡_, sym, _∙_}
 use Prim.Native.Nat.{_+_, _*_, _≤_}
 use native.Mathlib.Omega.{arith}
-use lib.ListN.{length}
+use lib.ListN.{length, length-take, length-drop}
 use denote.Ref.{now}
 use borrow.Author.Needs.{needs}
 use Rattle.policy.specs.File.{ruleSize, rulesAt, ruleCount, clockCount}
@@ -66,7 +66,9 @@ part-rules-refusal-end : tie.Need-part-rules-refusal-end
 part-rules-refusal-end c = omega (arith, fits c)
 
 rules-refusal-requires : tie.Need-rules-refusal-requires
-rules-refusal-requires c κs = (fits (c .before) .1, c .before .before .before .before .before .before .pre .2 .shaped)
+rules-refusal-requires c κs =
+    let f = fits (c .before) in
+    ((f .1, c .before .before .before .before .before .before .pre .2 .shaped), simp (length-take, length-drop) (omega arith))
 
 returns-2 : tie.Need-returns-2
 unfolding rulesSectionRefusal
