@@ -11,6 +11,8 @@ streams=(
     "short, many edits"
     "long, no edits"
     "long, many edits"
+    "crowded, no edits"
+    "crowded, many edits"
 )
 
 sides=(plain)

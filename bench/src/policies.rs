@@ -114,6 +114,20 @@ fn prepared(locations: u8, ceilings: &'static [u16], seed: u64) -> Policy {
     shape.generate(seed)
 }
 
+/// 65,536 states, none of which dies: 64 locations in a ring with four rules
+/// each, of which the last takes every event.
+pub fn lasting() -> Policy {
+    let conditions = [
+        Condition::set(0b0001),
+        Condition::set(0b0010),
+        Condition::set(0b0100),
+        Condition::ANY,
+    ];
+    let mut policy = ring(64, &conditions, OPEN);
+    policy.ceilings = vec![31, 31];
+    policy
+}
+
 /// Two small policies to be joined.
 pub fn small_pair() -> (Policy, Policy) {
     (short(), short())
@@ -129,12 +143,12 @@ pub fn largest_pair() -> (Policy, Policy) {
     };
     let first = [Condition::set(0b0001), Condition::ANY];
     let second = [Condition::clear(0b0001), second_only, Condition::ANY];
-    (ring(&first), ring(&second))
+    (ring(8, &first, (0, 2)), ring(8, &second, (0, 2)))
 }
 
-/// Eight locations in a ring, each with one rule for each condition.
-fn ring(conditions: &[Condition]) -> Policy {
-    let locations = 8;
+/// Locations in a ring, each with one rule for each condition, and two clocks,
+/// of which the first has a bound.
+fn ring(locations: u8, conditions: &[Condition], bound: (u16, u16)) -> Policy {
     let rules_at = |source: u8| {
         conditions.iter().map(move |&input| Rule {
             source,
@@ -142,7 +156,7 @@ fn ring(conditions: &[Condition]) -> Policy {
             output: Condition::ANY,
             reset: 0b01,
             target: (source + 1) % locations,
-            bounds: vec![(0, 2), OPEN],
+            bounds: vec![bound, OPEN],
         })
     };
     Policy {
@@ -185,6 +199,13 @@ mod tests {
             let share = prepared.live as f64 / states as f64;
             assert!((0.5..0.8).contains(&share), "{share} of {states}");
         }
+    }
+
+    #[test]
+    fn where_none_dies_all_live() {
+        let prepared = prepare_policy(&lasting());
+        assert_eq!((prepared.states, prepared.live), (65_536, 65_536));
+        assert_eq!(lasting().rules.len(), 256);
     }
 
     #[test]

@@ -25,6 +25,7 @@ mod subject;
 mod ticks;
 mod vectors;
 mod written;
+mod wrong;
 
 use compare::Tally;
 use engine::{Engine, Model};
@@ -38,6 +39,7 @@ const USAGE: &str = "usage:
   independent rehearse SECONDS SEED
   independent show SEED GROUP
   independent vectors COUNT SEED > FILE
+  independent wrong EACH SEED > FILE
   independent replay < FILE";
 
 fn main() -> ExitCode {
@@ -63,7 +65,10 @@ fn perform(words: &[&str]) -> Result<(), String> {
             compare_engine(&mut Model, number(seconds)?, number(seed)?, false)
         }
         ["show", seed, group] => show(number(seed)?, number(group)?),
-        ["vectors", count, seed] => write_vectors(number(count)?, number(seed)?),
+        ["vectors", count, seed] => {
+            write_file(&vectors::vectors(number(count)? as usize, number(seed)?))
+        }
+        ["wrong", each, seed] => write_file(&wrong::wrong(number(each)? as usize, number(seed)?)),
         ["replay"] => replay_all(),
         _ => Err(USAGE.to_string()),
     }
@@ -133,9 +138,8 @@ fn show(seed: u64, group: u64) -> Result<(), String> {
     Ok(())
 }
 
-fn write_vectors(count: u64, seed: u64) -> Result<(), String> {
-    let file = vectors::vectors(count as usize, seed);
-    let written = io::stdout().write_all(&file);
+fn write_file(file: &[u8]) -> Result<(), String> {
+    let written = io::stdout().write_all(file);
     written.map_err(|error| format!("standard output: {error}"))?;
     eprintln!("{} bytes", file.len());
     Ok(())

@@ -25,21 +25,28 @@ pub fn vectors(count: usize, seed: u64) -> Vec<u8> {
         .map(|written| record(&written.call, &written.expected))
         .collect();
     let mut length: usize = MAGIC.len() + 4 + records.iter().map(Vec::len).sum::<usize>();
-    for record in chosen(seed).take(count) {
+    for (call, outcome) in chosen(seed).take(count) {
+        let record = record(&call, &outcome);
         length += record.len();
         if length > LONGEST_FILE {
             break;
         }
         records.push(record);
     }
+    file_of(records)
+}
+
+/// The records as a file.
+pub fn file_of(records: Vec<Vec<u8>>) -> Vec<u8> {
     let mut file = MAGIC.to_vec();
     put_number(&mut file, records.len());
     file.extend(records.into_iter().flatten());
     file
 }
 
-/// Random calls, short ones only, and no answer much more often than others.
-fn chosen(seed: u64) -> impl Iterator<Item = Vec<u8>> {
+/// Random calls without end, short ones only, and no answer much more often
+/// than others.
+pub fn chosen(seed: u64) -> impl Iterator<Item = (Call, Outcome)> {
     let mut taken = 0;
     let mut answers = [[0; LAST_REFUSAL + 1]; FUNCTIONS.len()];
     let calls = (0..).flat_map(move |number| cases::group(seed, number));
@@ -52,14 +59,13 @@ fn chosen(seed: u64) -> impl Iterator<Item = Vec<u8>> {
         if *seen > 2 + taken / share {
             return None;
         }
-        let record = record(&call, &outcome);
-        let short = record.len() <= LONGEST_RECORD && strings_fit(&call);
+        let short = record(&call, &outcome).len() <= LONGEST_RECORD && strings_fit(&call);
         if !short {
             return None;
         }
         *seen += 1;
         taken += 1;
-        Some(record)
+        Some((call, outcome))
     })
 }
 
@@ -85,7 +91,7 @@ fn strings_fit(call: &Call) -> bool {
 }
 
 /// One record: the kind, the length of the body, the body.
-fn record(call: &Call, outcome: &Outcome) -> Vec<u8> {
+pub fn record(call: &Call, outcome: &Outcome) -> Vec<u8> {
     let body = body(call, outcome);
     let mut record = vec![call.kind() as u8 + 1];
     put_number(&mut record, body.len());
@@ -162,12 +168,12 @@ fn body(call: &Call, outcome: &Outcome) -> Vec<u8> {
 }
 
 /// Prepare, run and join.
-fn writes_bytes(kind: usize) -> bool {
+pub fn writes_bytes(kind: usize) -> bool {
     [0, 3, 4].contains(&kind)
 }
 
 /// Output and run.
-fn writes_state(kind: usize) -> bool {
+pub fn writes_state(kind: usize) -> bool {
     [2, 3].contains(&kind)
 }
 
@@ -335,7 +341,7 @@ impl<'a> Reader<'a> {
     }
 }
 
-fn read(file: &[u8]) -> Result<Vec<(Call, Outcome)>, String> {
+pub fn read(file: &[u8]) -> Result<Vec<(Call, Outcome)>, String> {
     let mut reader = Reader { rest: file };
     if reader.take(MAGIC.len())? != MAGIC {
         return Err(BROKEN.to_string());

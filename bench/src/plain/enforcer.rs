@@ -117,11 +117,16 @@ impl<'a> Enforcer<'a> {
     }
 
     /// Finds the rules of the state's location, once for all events tried.
-    pub fn at(self, state: State) -> Moment<'a> {
+    fn at(self, state: State) -> Moment<'a> {
+        self.with(state, self.policy.rules.of(state.location()))
+    }
+
+    /// `own` are the rules of the state's location.
+    pub fn with(self, state: State, own: Rules<'a>) -> Moment<'a> {
         Moment {
             enforcer: self,
             state,
-            own: state.own_rules(self.policy),
+            own,
         }
     }
 

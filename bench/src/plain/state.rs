@@ -59,9 +59,9 @@ impl State {
         })
     }
 
-    /// The rules of the state's location.
-    pub fn own_rules<'a>(self, policy: &Policy<'a>) -> Rules<'a> {
-        policy.rules.of(self.location as u8)
+    /// A state in range has one of at most 64 locations.
+    pub fn location(self) -> u8 {
+        self.location as u8
     }
 
     /// The next state by the first of its own rules that admits the event;

@@ -1,10 +1,13 @@
 // Puts the stored cases to the entries for a controller in C, and writes how many there were of each kind and how many came out different.
+// Then the same for a file of wrong expectations, all of which must come out different.
 mod calls;
 mod records;
 mod tally;
 
-fn main() {
-    let path = b"cases";
+use libc::STDOUT_FILENO;
+
+// Reads a file of stored cases, and writes what was found.
+fn report(path: &[u8]) {
     let file = os::open_read(path);
     if file < 0 {
         os::fail(path);
@@ -14,4 +17,10 @@ fn main() {
     let n = io::read_full(file, &mut cases);
     libc::close(file);
     records::report(&cases[..n]);
+}
+
+fn main() {
+    report(b"cases");
+    io::write_all(STDOUT_FILENO, b"wrong expectations\n");
+    report(b"wrong");
 }

@@ -1,0 +1,11 @@
+#!/usr/bin/env bash
+# Proves and builds the library, and measures it against the plain program:
+# times as ratios, then instructions a tick.
+set -euo pipefail
+shopt -s inherit_errexit
+cd "$(dirname "$0")"
+
+GROOVEPAWN_LIB=$(../tools/native-library.sh)
+export GROOVEPAWN_LIB
+cargo run --release --offline --features library
+./instructions.sh
