@@ -5,10 +5,10 @@ use mathlib.Core.Bool.{Bool, true, false, false≢true}
 use mathlib.Core.List.{List}
 use mathlib.Core.Option.{Option, none, some}
 use Prim.Native.Nat.{ℕ, zero, suc, _+_, _-_, _*_, _^_, _≤_, _<_}
-use native.Mathlib.Nat.{add-zero, mul-le-mul-right, pow-le-pow-right}
+use native.Mathlib.Nat.{add-zero, div-one, mod-one, mul-le-mul-right, pow-le-pow-right}
 use native.Mathlib.Omega.{arith}
-use lib.ListN.{length, getD, take, drop, replicate}
-use lib.Seq.{take-at, getD-take, getD-append-add}
+use lib.ListN.{length, getD, take, drop, replicate, length-append}
+use lib.Seq.{append-snoc, take-at, getD-take, getD-append-add}
 use Rattle.streams.specs.Stream.{Event}
 use Rattle.policy.specs.Rules.{Rule, Policy, Place, inputValues, outputValues, stopped, decides, taken, step}
 use Rattle.policy.specs.File.{part, ruleSize, rulesFrom, rulesOf, ceilingsOf, clocksAt, clockCount, ruleCount, rulesStart, ruleSection, policyOf}
@@ -49,6 +49,19 @@ number-unused cs vs k (suc n) location h =
     let e : k + suc n ≡ suc (k + n) = omega arith in
     let z = h (k + n) (omega arith) in
     rw (e, z .0, z .1) (omega (arith, number-unused cs vs k n location h))
+
+-- Nor does it change the state with a number.
+state-unused : (cs : List ℕ) (k n number : ℕ) → k + n ≤ 4 → ((i : ℕ) → k ≤ i → getD cs i 0 ≡ 0) → stateAt cs (k + n) number ≡ stateAt cs k number
+unfolding locationFrom clocksFrom
+state-unused cs k zero number l h = rw add-zero
+state-unused cs k (suc n) number l h =
+    let e : k + suc n ≡ suc (k + n) = omega arith in
+    ap (λ (m : ℕ). stateAt cs m number) e ∙ one (k + n) (omega arith) (h (k + n) (omega arith)) ∙ state-unused cs k n number (omega arith) h
+  where
+    one : (m : ℕ) → m < 4 → getD cs m 0 ≡ 0 → stateAt cs (suc m) number ≡ stateAt cs m number
+    one m u z =
+        let e : 4 - m ≡ suc (4 - (m + 1)) = omega arith in
+        rw (z, div-one, mod-one, length-append, clocks-length cs m number, e, append-snoc)
 
 four-past : (vs : List ℕ) (i : ℕ) → length vs ≤ i → getD (four vs) i 0 ≡ 0
 four-past vs i h =
@@ -128,6 +141,11 @@ module _ {f : List ℕ} {l : Layout} (k : Laid f l) where
   unfolding policyOf
   laid-four = k .ceilings ∙ sym (ap four laid-ceilings)
 
+  -- The ceiling of an unused clock is 0.
+  unused-ceiling : (i : ℕ) → l .clocks ≤ i → getD (l .ceilings) i 0 ≡ 0
+  unfolding policyOf
+  unused-ceiling i g = rw (k .ceilings) (four-past (ceilingsOf f) i (omega (arith, laid-clocks)))
+
   laid-ceiling : (i : ℕ) → i < l .clocks → getD (l .ceilings) i 0 ≡ getD (policyOf f .ceilings) i 0
   laid-ceiling i g = sym (getD-take (l .clocks) (l .ceilings) i 0 g) ∙ ap (λ (cs : List ℕ). getD cs i 0) laid-ceilings
 
@@ -194,8 +212,14 @@ module _ {f : List ℕ} {l : Layout} (k : Laid f l) where
       let e : 4 ≡ l .clocks + (4 - l .clocks) = omega (arith, laid-limits) in
       ap (λ (n : ℕ). numberFrom (l .ceilings) n (t .location) (four (t .clocks))) e
       ∙ number-unused (l .ceilings) (four (t .clocks)) (l .clocks) (4 - l .clocks) (t .location)
-      (λ i g. (rw (k .ceilings) (four-past (ceilingsOf f) i (omega (arith, laid-clocks))), four-past (t .clocks) i (omega (arith, laid-clocks, h .clocks))))
+      (λ i g. (unused-ceiling i g, four-past (t .clocks) i (omega (arith, laid-clocks, h .clocks))))
       ∙ next-number h
+
+  -- The state with a number is the same if all four clocks are taken in.
+  pub numbered-four : (n : ℕ) → stateAt (l .ceilings) 4 n ≡ stateAt (l .ceilings) (l .clocks) n
+  numbered-four n =
+      let e : 4 ≡ l .clocks + (4 - l .clocks) = omega (arith, laid-limits) in
+      ap (λ (c : ℕ). stateAt (l .ceilings) c n) e ∙ state-unused (l .ceilings) (l .clocks) (4 - l .clocks) n (omega (arith, laid-limits)) unused-ceiling
 
   -- The state with a number stands for the place with that number.
   pub numbered-place : (n : ℕ) → place (l .clocks) (stateAt (l .ceilings) (l .clocks) n) ≡ placeOf (policyOf f) n
