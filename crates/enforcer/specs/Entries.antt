@@ -1,14 +1,14 @@
 -- What the two halves and the run answer, for any bytes, marks, state and events: "for the halves and run, after 10, come 14, 16, 15, 17 (14 for run
 -- only, when the slice is shorter than the events)". "Every entry checks the bytes it is given anew."
-use mathlib.Core.Bool.{Bool, true, false, cond, _&&_}
-use mathlib.Core.List.{List, [], _∷_, _++_, map}
+use mathlib.Core.Bool.{Bool, cond, _&&_}
+use mathlib.Core.List.{List, _++_, map}
 use mathlib.Core.Option.{Option, none, some}
 use Prim.Native.Nat.{ℕ, zero, suc, _+_, _*_, _/_, _%_}
-use lib.Dec.{leb, ltb, eqb}
+use lib.Dec.{leb, ltb}
 use lib.ListN.{length, drop}
 use Rattle.streams.specs.Answer.{Answer, refused, gives, _orElse_, unless, answer}
-use Rattle.streams.specs.Stream.{Event, Stream}
-use Rattle.policy.specs.Rules.{Policy, Place, inputValues, outputValues}
+use Rattle.streams.specs.Stream.{Event}
+use Rattle.policy.specs.Rules.{Place, inputValues, outputValues}
 use Rattle.policy.specs.File.{policyOf}
 use Rattle.policy.specs.Check.{refusalOf, all}
 use Rattle.policy.specs.Number.{states, numberOf}

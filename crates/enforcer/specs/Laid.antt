@@ -22,7 +22,7 @@ use Rattle.policy.specs.Parts.{rules-part, rules-take, rules-drop}
 use Rattle.policy.specs.Layout.{layoutOf, checkedFrom, checkedOf}
 use Rattle.policy.specs.declared.Layout.{Layout}
 use Rattle.policy.specs.declared.Checked.{Checked}
-use Rattle.enforcer.specs.State.{placeIn, isMarked}
+use Rattle.enforcer.specs.State.{placeIn, stateOf, isMarked}
 use Rattle.enforcer.specs.Tick.{arrives, reaches}
 use Rattle.enforcer.specs.Own.{below, level, own, own-le, level-own, decides-own}
 use Rattle.enforcer.specs.Code.{eventXY, asPlace, place, stateFrom, stateAt, bare, stepFrom, ownOf}
@@ -104,6 +104,11 @@ step-bare : (on : ℕ → ℕ → ℕ) {cs : List ℕ} (rs : List Rule) (p : Pol
     decides rs s e ≡ decides (p .rules) s e → step on (bare cs rs) s e ≡ step on p s e
 unfolding step taken
 step-bare on rs p s e c d = rw (c, d)
+
+-- The state that a place of the policy is stands for that place.
+pub placeIn-stateOf : (p : Policy) {t : Place} → Inside p t → placeIn p (stateOf t) ≡ t
+placeIn-stateOf p {t} i =
+    ap (λ (vs : List ℕ). record { location = t .location; clocks = vs }) (take-at (t .clocks) _ (length (p .ceilings)) (i .clocks))
 
 module _ {f : List ℕ} {l : Layout} (k : Laid f l) where
   framed : Framed f
@@ -197,10 +202,9 @@ module _ {f : List ℕ} {l : Layout} (k : Laid f l) where
       rw (← number-take (l .ceilings) (l .clocks) (s .location) (s .clocks), ← laid-clocks)
       (number-ceilings (l .ceilings) (l .clocks) (s .location) (take (l .clocks) (s .clocks)) (policyOf f .ceilings) laid-ceiling)
 
-  -- The state that a place is stands for that place, and has its number.
+  -- The state that a place is stands for that place by the layout too, and has its number.
   pub place-back : {t : Place} → Inside (policyOf f) t → place (l .clocks) (stateFrom t) ≡ t
-  place-back {t} h =
-      ap (λ (vs : List ℕ). record { location = t .location; clocks = vs }) (take-at (t .clocks) _ (l .clocks) (h .clocks ∙ sym laid-clocks))
+  place-back {t} h = laid-place (stateFrom t) ∙ placeIn-stateOf (policyOf f) h
 
   pub next-number : {t : Place} → Inside (policyOf f) t → stateNumber l (stateFrom t) ≡ numberOf (policyOf f) t
   next-number {t} h = laid-number (stateFrom t) ∙ ap (numberOf (policyOf f)) (place-back h)

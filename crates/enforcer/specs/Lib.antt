@@ -7,5 +7,6 @@ pub mod Own
 pub mod Ready
 pub mod Laid
 pub mod States
+pub mod Refusals
 pub mod Chosen
 pub mod Promises

@@ -1,5 +1,5 @@
 -- "A state is a location and four clock values, unused ones zero." A place of a policy has a value for each of its clocks, and a state four.
-use mathlib.Core.Bool.{Bool, true, false, _&&_}
+use mathlib.Core.Bool.{Bool, false, _&&_}
 use mathlib.Core.List.{List, [], _∷_}
 use Prim.Native.Nat.{ℕ}
 use lib.Dec.{leb, ltb, eqb}

@@ -8,7 +8,7 @@ use Prim.Native.Nat.{ℕ, zero, suc, _+_, _-_, _≤_, zero-le}
 use native.Mathlib.Omega.{arith}
 use lib.Dec.{leb, ltb, eqb, leb·suc-zero, eqb·zero-suc}
 use lib.ListN.{length, getD, take, replicate}
-use borrow.Author.Tests.{leb-true, ltb-true, le-leb}
+use borrow.Author.Tests.{leb-true, ltb-true, le-leb, lt-ltb}
 use Rattle.streams.specs.Answer.{refused, _orElse_, unless, none-refused, none-unless}
 use Rattle.policy.specs.Rules.{Policy, Place}
 use Rattle.policy.specs.Number.{states, numberOf}
@@ -16,10 +16,11 @@ use Rattle.policy.specs.File.{ceilingsOf, policyOf}
 use Rattle.policy.specs.Check.{refusalOf, all}
 use Rattle.policy.specs.Sound.{Inside}
 use Rattle.policy.specs.Numbered.{numberOf-below}
+use Rattle.policy.specs.ReadBack.{all-zeros}
 use Rattle.policy.specs.Layout.{checkedOf, checked-says}
 use Rattle.policy.specs.declared.Layout.{Layout}
 use Rattle.policy.specs.declared.Checked.{Checked}
-use Rattle.enforcer.specs.State.{placeIn, clocksGood, stateGood, isMarked}
+use Rattle.enforcer.specs.State.{placeIn, stateOf, clocksGood, stateGood, isMarked}
 use Rattle.enforcer.specs.Entries.{chosen, marksRefusal, stateRefusal}
 use Rattle.enforcer.specs.Code.{asPlace}
 use Rattle.enforcer.specs.Ready.{Laid, Standing}
@@ -53,6 +54,23 @@ good-inside p s e =
     let k = and-eq-true-iff (ltb (s .location) (p .locations)) _ .0 e in
     let c = clocks-inside (p .ceilings) (s .clocks) (k .1) in
     record { location = ltb-true _ _ (k .0); clocks = c .0; stopped = c .1 }
+
+-- Clock values within their ceilings, and zeros after them, are in range.
+clocks-good :
+    (cs vs : List ℕ) (n : ℕ) → length vs ≡ length cs → ((i : ℕ) → getD vs i 0 ≤ getD cs i 0) → clocksGood cs (vs ++ replicate n 0) ≡ true
+unfolding clocksGood
+clocks-good [] [] n e h = all-zeros n
+clocks-good [] (v ∷ vs) n e h = absurd (omega arith)
+clocks-good (c ∷ cs) [] n e h = absurd (omega arith)
+clocks-good (c ∷ cs) (v ∷ vs) n e h =
+    and-eq-true-iff (leb v c) _ .1 (le-leb v c (h 0), clocks-good cs vs n (omega arith) (λ i. h (suc i)))
+
+-- A place of the policy is a state that is not out of range.
+pub inside-good : (p : Policy) (t : Place) → Inside p t → stateGood p (stateOf t) ≡ true
+unfolding stateGood
+inside-good p t i =
+    and-eq-true-iff (ltb (t .location) (p .locations)) _ .1
+    (lt-ltb _ _ (i .location), clocks-good (p .ceilings) (t .clocks) (4 - length (t .clocks)) (i .clocks) (i .stopped))
 
 -- A value is 0 exactly if it is at most the ceiling 0.
 at-zero : (v : ℕ) → leb v 0 ≡ eqb 0 v

@@ -1,9 +1,11 @@
 -- The parts of a tick and of a run, whatever the marks are.
-use mathlib.Core.Path.{_≡_, subst}
+use mathlib.Core.Path.{_≡_, refl, subst}
 use mathlib.Core.Bool.{true}
 use mathlib.Core.List.{List, [], _∷_}
-use mathlib.Core.Option.{none, some, bind-eq-some-iff, Option·some-injective}
-use Prim.Native.Nat.{ℕ}
+use mathlib.Core.Option.{Option, none, some, bind-eq-some-iff, Option·some-injective}
+use Prim.Native.Nat.{ℕ, suc, _≤_, zero-le}
+use native.Mathlib.Omega.{arith}
+use lib.ListN.{length}
 use Rattle.streams.specs.Stream.{Event, Stream}
 use Rattle.streams.specs.Choose.{Among, nearest-is}
 use Rattle.policy.specs.Rules.{Policy, Place, inputValues, outputValues, stopped, step, FitsOne}
@@ -44,3 +46,14 @@ module _ (p : Policy) (marks : List ℕ) (s : Place) where
   pub ran-none : (e : Event) (es : Stream) → tick p marks s e ≡ none → ran p marks s (e ∷ es) ≡ record { released = []; place = s; stuck = true }
   unfolding ran
   ran-none e es h = rw (h, ran)
+
+-- A run releases no more events than it reads.
+pub ran-few : (p : Policy) (marks : List ℕ) (s : Place) (es : Stream) → length (ran p marks s es .released) ≤ length es
+unfolding ran
+ran-few p marks s [] = zero-le
+ran-few p marks s (e ∷ es) = go (λ t. ran-few p marks (t .place) es) (tick p marks s e) refl
+  where
+    go : ((t : Tick) → length (ran p marks (t .place) es .released) ≤ length es) → (o : Option Tick) → tick p marks s e ≡ o →
+        length (ran p marks s (e ∷ es) .released) ≤ suc (length es)
+    go more none k = rw (ran-none p marks s e es k) zero-le
+    go more (some t) k = rw (ran-on p marks s e es t k) (omega (arith, more t))

@@ -2,22 +2,25 @@
 use mathlib.Core.Path.{_≡_, subst}
 use mathlib.Core.Bool.{Bool, true, false, cond}
 use mathlib.Core.List.{List}
-use Prim.Native.Nat.{ℕ, _≤_}
+use Prim.Native.Nat.{ℕ, zero, suc, _≤_, _<_}
+use native.Mathlib.Nat.{le-refl}
 use native.Mathlib.Omega.{arith}
 use lib.Dec.{eqb}
 use lib.ListN.{length}
-use Rattle.streams.specs.Answer.{gives, given-only, none-refused}
+use Rattle.streams.specs.Answer.{gives, _orElse_, unless, given-only, none-refused, unless-le, else-le}
 use Rattle.policy.specs.File.{policyOf}
 use Rattle.policy.specs.Number.{states}
 use Rattle.policy.specs.Checked.{frame, longest, checked-file}
 use Rattle.enforcer.specs.Entries.{marksRefusal}
 use Rattle.enforcer.specs.States.{marks-granted}
+use Rattle.enforcer.specs.Refusals.{marks-le}
 use Rattle.prepare.specs.Table.{marksOf, liveCount}
 use Rattle.prepare.specs.Marks.{total-le}
 use Rattle.prepare.specs.Live.{marks-length, marks-bits}
 use Rattle.prepare.specs.Entry.{Summary, prepareOf}
 use Rattle.join.specs.Entry.{joinRefusal, joinedFile, joinOf}
 use Rattle.join.specs.Written.{joined-passes}
+use Rattle.groovepawn.specs.Words.{oddRefusal}
 
 pub record Small (s : Summary) : Type 0 where
   pub verdict : s .verdict ≤ 1
@@ -49,3 +52,18 @@ joined-short a b out n e =
     let f = joinedFile a b out in
     let k = given-only (joinRefusal a b out) (length f) n e in
     omega (arith, longest f (frame f (joined-passes a b out (k .0))), k .1)
+
+-- A state that is not five numbers is refused, by a number up to 16.
+module _ (file marks : List ℕ) (room : Bool) where
+  pub odd-some : 0 < oddRefusal file marks room
+  unfolding oddRefusal
+  odd-some = go (marksRefusal file marks) room
+    where
+      go : (n : ℕ) (t : Bool) → 0 < (n orElse unless t 14 orElse 16)
+      go zero true = omega arith
+      go zero false = omega arith
+      go (suc n) t = omega arith
+
+  pub odd-le : oddRefusal file marks room ≤ 16
+  unfolding oddRefusal
+  odd-le = let m : marksRefusal file marks ≤ 16 = omega (arith, marks-le file marks) in search (else-le, unless-le, le-refl)

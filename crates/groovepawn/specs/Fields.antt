@@ -1,15 +1,30 @@
--- What is given is read back from its word: no field reaches into the next.
-use mathlib.Core.Path.{_≡_}
-use Prim.Native.Nat.{ℕ, _<_, _/_, _%_, _^_}
+-- What is answered is read back from its word, as the header's macros read it: no field reaches into the next.
+use mathlib.Core.Path.{_≡_, refl}
+use mathlib.Core.Bool.{Bool, true, false, cond}
+use mathlib.Core.List.{List}
+use Prim.Native.Nat.{ℕ, zero, suc, _≤_, _<_, _/_, _%_, _^_}
 use native.Mathlib.Omega.{arith}
-use Rattle.streams.specs.Answer.{gives}
-use Rattle.enforcer.specs.Entries.{RunAnswer}
-use Rattle.prepare.specs.Entry.{Summary}
-use Rattle.groovepawn.specs.Words.{answerWord, summaryWord, ranWord}
-use Rattle.groovepawn.specs.Bounds.{Small}
+use lib.Dec.{leb}
+use lib.ListN.{length}
+use Rattle.streams.specs.Answer.{Answer, refused, gives, answer, UpTo}
+use Rattle.enforcer.specs.Entries.{RunAnswer, inputOf, outputOf, runOf}
+use Rattle.enforcer.specs.Refusals.{input-up-to, output-up-to, run-up-to, run-few}
+use Rattle.prepare.specs.Entry.{Summary, prepareOf}
+use Rattle.prepare.specs.Promise.{prepare-up-to}
+use Rattle.join.specs.Entry.{joinOf}
+use Rattle.join.specs.Promise.{join-up-to}
+use Rattle.ticks.specs.Conversion.{ticksOf}
+use Rattle.ticks.specs.Laws.{ticks-up-to}
+use Rattle.groovepawn.specs.Words.{answerWord, summaryWord, ranWord, stateIn, isState, oddRefusal, prepareWord, inputWord, outputWord, runWord, joinWord, isUp, ticksWord}
+use Rattle.groovepawn.specs.Bounds.{Small, summary-small, odd-some, odd-le}
 
-pub answer-fields : (v : ℕ) → (answerWord (gives v) % 256 ≡ 0) × (answerWord (gives v) / 256 ≡ v)
-answer-fields v = (omega arith, omega arith)
+-- The answer that a word holds: the refusal in the low eight bits, and without one what stands above it.
+abbrev pub answerIn : ℕ → Answer ℕ
+answerIn w = answer (w % 256) (w / 256)
+
+-- The three numbers of prepare.
+abbrev pub summaryIn : ℕ → Answer Summary
+summaryIn w = answer (w % 256) (record { verdict = w / 256 % 256; states = w / 65536 % 16777216; live = w / 1099511627776 })
 
 pub record SummaryFields (s : Summary) (w : ℕ) : Type 0 where
   pub none : w % 256 ≡ 0
@@ -17,8 +32,73 @@ pub record SummaryFields (s : Summary) (w : ℕ) : Type 0 where
   pub states : w / 65536 % 16777216 ≡ s .states
   pub live : w / 1099511627776 ≡ s .live
 
+-- The refusal n of a run and the count k. The word holds the count modulo 2 ^ 56: whole, where the events are fewer than that.
+pub record RunFields (events : List ℕ) (n k w : ℕ) : Type 0 where
+  pub refusal : w % 256 ≡ n
+  pub count : w / 256 ≡ k % 2 ^ 56
+  pub whole : length events < 2 ^ 56 → w / 256 ≡ k
+
+pub answer-fields : (v : ℕ) → (answerWord (gives v) % 256 ≡ 0) × (answerWord (gives v) / 256 ≡ v)
+answer-fields v = (omega arith, omega arith)
+
 pub summary-fields : (s : Summary) → Small s → SummaryFields s (summaryWord (gives s))
 summary-fields s h = record { none = omega arith; verdict = omega arith; states = omega arith; live = omega arith }
 
-pub run-fields : (r : RunAnswer) → r .refusal < 256 → r .count < 2 ^ 56 → (ranWord r % 256 ≡ r .refusal) × (ranWord r / 256 ≡ r .count)
-run-fields r h g = (omega arith, omega arith)
+-- An answer whose refusals are numbers of eight bits, and not 0, comes back from its word.
+answer-back : (a : Answer ℕ) (k : ℕ) → k < 256 → UpTo k a → answerIn (answerWord a) ≡ a
+answer-back (refused zero) k l h = absurd (omega arith)
+answer-back (refused (suc n)) k l h = let e : suc n % 256 ≡ suc n = omega arith in rw e
+answer-back (gives v) k l h = let f = answer-fields v in rw (f .0, f .1)
+
+summary-back : (a : Answer Summary) (k : ℕ) → k < 256 → UpTo k a → ((s : Summary) → a ≡ gives s → Small s) → summaryIn (summaryWord a) ≡ a
+summary-back (refused zero) k l h f = absurd (omega arith)
+summary-back (refused (suc n)) k l h f = let e : suc n % 256 ≡ suc n = omega arith in rw e
+summary-back (gives s) k l h f = let g = summary-fields s (f s refl) in rw (g .none, g .verdict, g .states, g .live)
+
+-- What each function of the C interface answers comes back from the word that it returns, whatever it is handed.
+pub prepare-fields : (file marks : List ℕ) → summaryIn (prepareWord file marks) ≡ prepareOf file marks
+unfolding prepareWord
+prepare-fields file marks = summary-back (prepareOf file marks) 11 (omega arith) (prepare-up-to file marks) (summary-small file marks)
+
+module _ (file marks state : List ℕ) where
+  -- By a half: `a` of a state that is five numbers, and a refusal of one that is not.
+  half-back : (t : Bool) (a : Answer ℕ) → UpTo 17 a →
+      answerIn (cond t (answerWord a) (oddRefusal file marks true)) ≡ cond t a (refused (oddRefusal file marks true))
+  half-back true a h = answer-back a 17 (omega arith) h
+  half-back false a h = answer-back (refused (oddRefusal file marks true)) 16 (omega arith) (odd-some file marks true, odd-le file marks true)
+
+  pub input-fields : (x : ℕ) →
+      answerIn (inputWord file marks state x) ≡ cond (isState state) (inputOf file marks (stateIn state) x) (refused (oddRefusal file marks true))
+  unfolding inputWord
+  input-fields x = half-back (isState state) (inputOf file marks (stateIn state) x) (input-up-to file marks (stateIn state) x)
+
+  pub output-fields : (x y : ℕ) →
+      answerIn (outputWord file marks state x y)
+      ≡ cond (isState state) (outputOf file marks (stateIn state) x y .answer) (refused (oddRefusal file marks true))
+  unfolding outputWord
+  output-fields x y = half-back (isState state) (outputOf file marks (stateIn state) x y .answer) (output-up-to file marks (stateIn state) x y)
+
+  pub run-fields : (events out : List ℕ) →
+      let r = runOf file marks (stateIn state) events out in
+      RunFields events (cond (isState state) (r .refusal) (oddRefusal file marks (leb (length events) (length out)))) (cond (isState state) (r .count) 0)
+      (runWord file marks state events out)
+  unfolding runWord
+  run-fields events out =
+      let s = stateIn state in
+      go (isState state) (runOf file marks s events out) (run-up-to file marks s events out) (run-few file marks s events out)
+    where
+      go : (t : Bool) (r : RunAnswer) → r .refusal ≤ 17 → r .count ≤ length events →
+          let odd = oddRefusal file marks (leb (length events) (length out)) in
+          RunFields events (cond t (r .refusal) odd) (cond t (r .count) 0) (cond t (ranWord r) odd)
+      go true r h l = record { refusal = omega arith; count = omega arith; whole = λ f. omega arith }
+      go false r h l =
+          let k = odd-le file marks (leb (length events) (length out)) in
+          record { refusal = omega arith; count = omega arith; whole = λ f. omega arith }
+
+pub join-fields : (a b out : List ℕ) → answerIn (joinWord a b out) ≡ joinOf a b out
+unfolding joinWord
+join-fields a b out = answer-back (joinOf a b out) 14 (omega arith) (join-up-to a b out)
+
+pub ticks-fields : (time tick up : ℕ) → answerIn (ticksWord time tick up) ≡ ticksOf time tick (isUp up)
+unfolding ticksWord
+ticks-fields time tick up = answer-back (ticksOf time tick (isUp up)) 19 (omega arith) (ticks-up-to time tick (isUp up))

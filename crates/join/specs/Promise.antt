@@ -1,12 +1,14 @@
 -- What the join promises: its answer and what the slice holds then are those of specs/Entry.antt, for any two files and any slice.
 use mathlib.Core.Path.{_≡_, sym, _∙_}
 use mathlib.Core.List.{List}
-use Prim.Native.Nat.{ℕ}
+use Prim.Native.Nat.{ℕ, _≤_}
 use native.Mathlib.Omega.{arith}
-use Rattle.streams.specs.Answer.{Answer, refused, gives}
+use lib.ListN.{length}
+use Rattle.streams.specs.Answer.{Answer, refused, gives, UpTo, unless-le, else-le, answer-up-to}
+use Rattle.policy.specs.Check.{refusalOf, refusal-le}
 use Rattle.join.specs.declared.Joined.{Joined}
 use Rattle.join.specs.declared.Joined.the-variants.{Length, Refused}
-use Rattle.join.specs.Entry.{joinOf, joinedOut}
+use Rattle.join.specs.Entry.{joinedFile, joinRefusal, joinOf, joinedOut}
 
 abbrev pub joinedSaid : Joined → Answer ℕ
 joinedSaid (Length n) = gives n
@@ -26,3 +28,15 @@ said-one (Refused n) (Refused m) e = let h : n ≡ m = cc in rw h
 pub join-one : {a b before after later : List ℕ} {r s : Joined} → JoinPromise a b before r after → JoinPromise a b before s later →
     (r ≡ s) × (after ≡ later)
 join-one {r = r} {s = s} g h = (said-one r s (g .answers ∙ sym (h .answers)), g .writes ∙ sym (h .writes))
+
+-- The join refuses by 1 to 14 alone.
+refusals-le : (a b out : List ℕ) → joinRefusal a b out ≤ 14
+unfolding joinRefusal
+refusals-le a b out =
+    let f : refusalOf a ≤ 14 = omega (arith, refusal-le a) in
+    let g : refusalOf b ≤ 14 = omega (arith, refusal-le b) in
+    search (else-le, unless-le) depth 7
+
+pub join-up-to : (a b out : List ℕ) → UpTo 14 (joinOf a b out)
+unfolding joinOf
+join-up-to a b out = answer-up-to (joinRefusal a b out) (length (joinedFile a b out)) (refusals-le a b out)

@@ -2,11 +2,11 @@
 -- 8, 9". A refusal of 0 is none.
 use mathlib.Core.Bool.{Bool, true, false, not, _&&_, _||_}
 use mathlib.Core.List.{List, [], _∷_, _++_}
-use Prim.Native.Nat.{ℕ, zero, suc, _+_, _*_, _^_}
+use Prim.Native.Nat.{ℕ, _+_, _*_, _^_, _≤_, zero-le}
 use lib.Dec.{leb, ltb, eqb}
 use lib.Bits.{bitAnd}
 use lib.ListN.{length}
-use Rattle.streams.specs.Answer.{Answer, _orElse_, unless, answer}
+use Rattle.streams.specs.Answer.{Answer, _orElse_, unless, answer, UpTo, unless-le, else-le, answer-up-to}
 use Rattle.policy.specs.Rules.{Bound, Rule, Policy}
 use Rattle.policy.specs.File
 use Rattle.policy.specs.Number.{statesOf}
@@ -105,3 +105,27 @@ module _ (f : List ℕ) where
   -- What the check answers: the policy, or the refusal's number.
   unfoldable pub checkOf : Answer Policy
   checkOf = answer refusalOf (File.policyOf f)
+
+-- The check refuses by 1 to 9 alone.
+section-le : (f : List ℕ) (at width n low high size : ℕ) → sectionRefusal f at width n low high size ≤ 9
+unfolding sectionRefusal
+section-le f at width n low high size = search (else-le, unless-le)
+
+rule-le : (inputs outputs : ℕ) (cs : List ℕ) (locations before : ℕ) (r : Rule) → ruleRefusal inputs outputs cs locations before r ≤ 9
+unfolding ruleRefusal
+rule-le inputs outputs cs locations before r = search (else-le, unless-le)
+
+rules-le : (inputs outputs : ℕ) (cs : List ℕ) (locations before : ℕ) (rs : List Rule) → rulesRefusal inputs outputs cs locations before rs ≤ 9
+unfolding rulesRefusal
+rules-le inputs outputs cs locations before [] = zero-le
+rules-le inputs outputs cs locations before (r ∷ rs) =
+    else-le (rule-le inputs outputs cs locations before r) (rules-le inputs outputs cs locations (r .source) rs)
+
+module _ (f : List ℕ) where
+  pub refusal-le : refusalOf f ≤ 9
+  unfolding refusalOf inputsRefusal outputsRefusal clocksRefusal locationsRefusal rulesSectionRefusal
+  refusal-le = search (else-le, unless-le, section-le, rules-le) depth 9
+
+  pub check-up-to : UpTo 9 (checkOf f)
+  unfolding checkOf
+  check-up-to = answer-up-to (refusalOf f) (File.policyOf f) refusal-le

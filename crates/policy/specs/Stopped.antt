@@ -1,15 +1,15 @@
 -- A clock that stops at its ceiling changes no answer.
 use mathlib.Core.Path.{_≡_, refl, ap, sym, _∙_}
 use mathlib.Core.Bool.{Bool, true, false, cond, _&&_, _||_}
-use mathlib.Core.List.{List, [], _∷_, _++_}
+use mathlib.Core.List.{List, [], _∷_}
 use mathlib.Core.Option.{Option, none, some, bind}
 use mathlib.Core.Logic.{_⊎_, ⊎-elim}
 use Prim.Native.Nat.{ℕ, suc, _≤_, _<_, _%_, _/_, min}
 use native.Mathlib.Omega.{arith}
-use lib.Dec.{leb, eqb, T}
+use lib.Dec.{leb, eqb}
 use lib.ListN.{length, replicate}
 use borrow.Author.Tests.{le-leb, lt-leb, eq-eqb, leb-true, leb-false}
-use Rattle.streams.specs.Stream.{Event, Stream, Language}
+use Rattle.streams.specs.Stream.{Event, Stream}
 use Rattle.policy.specs.Rules.{Bound, Rule, Policy, Place, start, within, hold, fires, decides, unlimited, stopped, advance, taken, step, steps}
 
 -- The bounds of a checked file: low is at most the ceiling; high is below it, or is no bound.

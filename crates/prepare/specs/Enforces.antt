@@ -1,6 +1,6 @@
 -- With the marks of prepare, the run over stopped clocks releases what is asked for of the permitted streams, over clocks without limit.
 use mathlib.Core.Path.{_≡_, refl, sym, ap, subst, _∙_}
-use mathlib.Core.Bool.{Bool, true, false}
+use mathlib.Core.Bool.{true, false}
 use mathlib.Core.List.{List, [], _∷_, _++_, append-nil, append-assoc}
 use mathlib.Core.Logic.{_↔_, Iff·trans}
 use mathlib.Core.Option.{none, some, bind, Option·some-injective}
@@ -9,9 +9,9 @@ use lib.Dec.{eqb}
 use lib.ListN.{length, List·getD-append}
 use borrow.Author.Tests.{eqb-true, eq-eqb}
 use Rattle.streams.specs.Stream.{Event, Stream, GoesOn}
-use Rattle.streams.specs.Order.{Nearest, nearest-same}
+use Rattle.streams.specs.Order.{Nearest}
 use Rattle.streams.specs.Corrections.{corrections}
-use Rattle.streams.specs.Choose.{any-has, any-from, Among, nearest, nearest-is, nearest-found, nearest-some}
+use Rattle.streams.specs.Choose.{any-has, any-from, Among, nearest-may, nearest-some}
 use Rattle.streams.specs.Enforced.{then, MayOut, MayIn, Enforced, done}
 use Rattle.streams.specs.Enforced
 use Rattle.streams.specs.Laws.{permitted}
@@ -125,15 +125,6 @@ pub record Enforces (p : Policy) (w : Stream) (es : List Event) (r : Ran) : Type
   pub moving : r .stuck ≡ false
   pub enforced : EnforcedBy p w es (r .released)
   pub leads : Leads p (w ++ r .released) (r .place)
-
--- The choice among the values that may stand, whichever way that is said.
-nearest-may :
-    (may : ℕ → Bool) (n : ℕ) (May : ℕ → Type 0) → ((z : ℕ) → Among may n z ↔ May z) → (wanted a : ℕ) →
-    (nearest may wanted n ≡ some a) ↔ Nearest corrections May wanted a
-nearest-may may n May e wanted a = (
-  λ h. nearest-same corrections {May = Among may n} {Also = May} (λ z. e z .0) (λ z. e z .1) (nearest-is may wanted n h),
-  λ h. nearest-found may wanted n (nearest-same corrections {May = May} {Also = Among may n} (λ z. e z .1) (λ z. e z .0) h),
-)
 
 module _ (p : Policy) (ok : WellFormed p) (marks : List ℕ) (by : Prepared p marks) where
   marked-by : {s : Place} → Inside p s → (markOf p s ≡ 1) ↔ (isMarked marks (numberOf p s) ≡ true)

@@ -1,7 +1,6 @@
 -- The twelve marked cases of 01: one list, one statement, by computation.
 use mathlib.Core.Path.{_≡_, refl}
 use mathlib.Core.List.{List, [], _∷_, map}
-use mathlib.Core.Bool.{cond}
 use Prim.Native.Nat.{ℕ, zero, suc}
 use lib.ListN.{length, replicate}
 use Rattle.streams.specs.Answer.{Answer, refused, gives}

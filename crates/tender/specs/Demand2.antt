@@ -24,12 +24,13 @@ use Rattle.policy.specs.Checked.{checked-file, well-sound}
 use Rattle.enforcer.specs.State.{placeIn, stateOf}
 use Rattle.enforcer.specs.Tick.{inputChoice, ran}
 use Rattle.enforcer.specs.Entries.{eventOf, byteOf, chosen, outputFrom, RunAnswer, runFrom, marksRefusal, xGood, yGood, eventGood, inputOf, outputOf, runOf}
+use Rattle.enforcer.specs.States.{marks-granted}
+use Rattle.enforcer.specs.Refusals.{events-back, fits-good, input-17, run-17}
 use Rattle.prepare.specs.Entry.{Summary, summaryOf, prepareOf, preparedMarks}
 use Rattle.prepare.specs.Enforces.{EnforcedBy, Leads, leads-start, leads-one, leads-ready, ticked, ticked-ready, tick-found, input-stands, output-ticked, ran-on, ran-stuck, input-found, never-stuck, ran-enforces}
 use Rattle.tender.specs.Samples.{S, T}
 use Rattle.tender.specs.Cases
-use Rattle.enforcer.specs.States.{marks-granted}
-use Rattle.tender.specs.Granted.{prepared-marks, prepared-granted, judged, given-passed, given-long, given-goes-on, state-ready, entryRefusal, input-answer, output-answer, run-answer, run-ready, input-17, run-17, events-back, fits-good}
+use Rattle.tender.specs.Granted.{prepared-marks, prepared-granted, judged, given-passed, given-long, given-goes-on, state-ready, entryRefusal, input-answer, output-answer, run-answer, run-ready}
 
 -- For a file that passes the check and a slice for the marks that is long enough.
 module _ (file marks : List ℕ) (passed : refusalOf file ≡ 0) (long : states (policyOf file) ≤ length marks) where
@@ -50,14 +51,14 @@ module _ (file marks : List ℕ) (passed : refusalOf file ≡ 0) (long : states 
   pub input-never-17 : (s : Place) (x : ℕ) → ¬ (inputOf file (preparedMarks file marks) s x ≡ refused 17)
   input-never-17 s x e =
       let M = preparedMarks file marks in
-      let k = input-17 file M s (prepared-granted file marks passed long) x e in
+      let k = input-17 file M s x e in
       let z = input-found (policyOf file) (checked-file file passed) M (prepared-marks file marks passed long) (state-ready file M s (k .0)) x in
       Option·none-ne-some (z .0) (sym (k .1) ∙ z .1)
 
   pub run-never-17 : (s : Place) (events out : List ℕ) → ¬ (runOf file (preparedMarks file marks) s events out .refusal ≡ 17)
   run-never-17 s events out e =
       let M = preparedMarks file marks in
-      let k = run-17 file M s (prepared-granted file marks passed long) events out e in
+      let k = run-17 file M s events out e in
       let by = prepared-marks file marks passed long in
       true≢false (sym (k .1) ∙ never-stuck (policyOf file) (checked-file file passed) M by (state-ready file M s (k .0)) (map eventOf events))
 
@@ -157,7 +158,7 @@ module _ (file marks : List ℕ) (s : Summary) (e : prepareOf file marks ≡ giv
       let n : length bytes ≡ length events = length-map (r .released) byteOf ∙ as-many p events (r .enforced) in
       let t : take (length events) (fromStart file marks events out .out) ≡ bytes = ap (take (length events)) (r .out) ∙ take-at bytes _ _ n in
       rw t
-      (released-one (releases file marks s e bytes again (fits-good file marks ok (r .leads .fits)) (rw n room))
+      (released-one (releases file marks s e bytes again (fits-good file ok (r .leads .fits)) (rw n room))
       (record {
         released = r .released;
         enforced = rw (events-back p ok (r .leads .fits)) (passes corrections _ _ (Permits p) (Permits p) (λ w h. h) (r .enforced));

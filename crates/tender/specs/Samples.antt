@@ -1,5 +1,5 @@
 -- The sample policies of 01, byte by byte.
-use mathlib.Core.List.{List, [], _∷_, _++_}
+use mathlib.Core.List.{List, [], _∷_}
 use Prim.Native.Nat.{ℕ}
 
 -- "not A with B, not B with R"

@@ -7,7 +7,7 @@ use native.Mathlib.Nat.{div-add-mod', mod-lt, le-mul-of-pos-right, lt-of-mul-lt-
 use native.Mathlib.Omega.{arith}
 use lib.Dec.{ltb, leb, eqb}
 use borrow.Author.Tests.{ltb-true, ltb-false, leb-true, leb-false, eqb-true, eqb-false, lt-ltb, le-ltb, le-leb, lt-leb}
-use Rattle.streams.specs.Answer.{Answer, gives, refused, _orElse_, unless, answer}
+use Rattle.streams.specs.Answer.{Answer, gives, refused, _orElse_, unless, answer, UpTo, unless-le, else-le, answer-up-to}
 use Rattle.ticks.specs.declared.Milliseconds.{Milliseconds}
 use Rattle.ticks.specs.declared.Ticks.{Ticks}
 use Rattle.ticks.specs.declared.Rounding.{Rounding}
@@ -77,6 +77,12 @@ module _ (time tick : ℕ) (up : Bool) where
       go false e t f = _⊎_.inl (refl, omega (arith, ltb-false 0 tick e))
       go true e false f = _⊎_.inr (refl, (ltb-true _ _ e, leb-false _ _ f))
       go true e true f = (rounded-within time tick up (ltb-true _ _ e), leb-true _ _ f)
+
+  -- The conversion refuses by no number above 19.
+  pub ticks-up-to : UpTo 19 (ticksOf time tick up)
+  unfolding ticksOf
+  ticks-up-to =
+      answer-up-to (unless (ltb 0 tick) 18 orElse unless (leb (rounded time tick up) 1000) 19) (rounded time tick up) (search (else-le, unless-le))
 
   -- 18 is given exactly when the tick length is 0.
   pub exactly-18 : (ticksOf time tick up ≡ refused 18) ↔ (tick ≡ 0)

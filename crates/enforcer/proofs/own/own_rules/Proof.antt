@@ -1,12 +1,11 @@
 -- `enforcer::own::own_rules` meets its contract: the rules after the first ones are read from their place on. Assumes nothing.
-use mathlib.Core.Path.{_≡_, sym, ap, ap₂, _∙_}
+use mathlib.Core.Path.{_≡_, sym, ap, _∙_}
 use Prim.Native.Nat.{ℕ, _+_, _-_, _*_, _≤_}
 use native.Mathlib.Nat.{add-mul, mul-le-mul}
 use native.Mathlib.Omega.{arith}
 use lib.ListN.{drop}
 use denote.Ref.{now}
 use borrow.Author.Needs.{needs}
-use Rattle.policy.specs.Rules.{Rule}
 use Rattle.policy.specs.File.{ruleSize, rulesFrom}
 use Rattle.policy.specs.Checked.{rules-length}
 use Rattle.policy.specs.Parts.{rules-drop}

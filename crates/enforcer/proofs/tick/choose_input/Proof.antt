@@ -1,5 +1,5 @@
 -- `enforcer::tick::choose_input` meets its contract: the inputs' chooser over the values that the inputs have.
-use mathlib.Core.Path.{_≡_, ap, _∙_}
+use mathlib.Core.Path.{_≡_, _∙_}
 use denote.Ref.{now}
 use Rattle.policy.specs.File.{policyOf}
 use Rattle.policy.specs.Rules.{inputValues}
