@@ -16,6 +16,7 @@ mod moment;
 mod parse;
 mod policies;
 mod policy;
+mod program;
 mod random;
 mod refusal;
 mod rules;
@@ -37,6 +38,7 @@ const USAGE: &str = "usage:
   independent selfcheck
   independent compare SECONDS SEED [trace]   (needs the feature `library`)
   independent rehearse SECONDS SEED
+  independent program SECONDS SEED WORD...   (the words run `enforce`)
   independent show SEED GROUP
   independent vectors COUNT SEED > FILE
   independent wrong EACH SEED > FILE
@@ -63,6 +65,9 @@ fn perform(words: &[&str]) -> Result<(), String> {
         }
         ["rehearse", seconds, seed] => {
             compare_engine(&mut Model, number(seconds)?, number(seed)?, false)
+        }
+        ["program", seconds, seed, ref words @ ..] => {
+            compare_program(words, number(seconds)?, number(seed)?)
         }
         ["show", seed, group] => show(number(seed)?, number(group)?),
         ["vectors", count, seed] => {
@@ -128,6 +133,14 @@ fn compare_engine(
         }
         Err(difference) => Err(format!("difference: {difference}")),
     }
+}
+
+fn compare_program(words: &[&str], seconds: u64, seed: u64) -> Result<(), String> {
+    let began = Instant::now();
+    let goes_on = |_| began.elapsed() < Duration::from_secs(seconds);
+    let (inputs, refused) = program::compare(words, seed, goes_on)?;
+    println!("{inputs} inputs, of which refused {refused}; no difference");
+    Ok(())
 }
 
 fn show(seed: u64, group: u64) -> Result<(), String> {

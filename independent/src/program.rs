@@ -1,0 +1,266 @@
+//! What the program `enforce` prints for an input, by the paper, and a
+//! comparison of a program with that on random inputs.
+
+use crate::call::hex;
+use crate::damage;
+use crate::enforce;
+use crate::moment::STATE_LENGTH;
+use crate::policies::{self, Size};
+use crate::policy::{Policy, MAX_STATES};
+use crate::random::Random;
+use crate::refusal::Refusal;
+use crate::subject::some_events;
+use std::fmt::Write as _;
+use std::io::{self, Write as _};
+use std::process::{Command, Stdio};
+use std::thread;
+use std::time::Duration;
+
+const LONGEST_POLICY: usize = 5_974;
+const MOST_EVENTS: usize = 16_384;
+
+/// All that is to be printed.
+pub fn printed(input: &[u8]) -> String {
+    match lines(input) {
+        Ok(lines) => lines,
+        Err(refusal) => format!("refused {}\n", refusal.number()),
+    }
+}
+
+fn lines(input: &[u8]) -> Result<String, Refusal> {
+    let (file, rest) = counted(input, LONGEST_POLICY)?;
+    let mut marks = vec![0; MAX_STATES as usize];
+    let prepared = enforce::prepare(file, &mut marks)?;
+    let (events, rest) = counted(rest, MOST_EVENTS)?;
+    if !rest.is_empty() {
+        return Err(Refusal::LeftOver);
+    }
+    let mut released = vec![0; events.len()];
+    let mut state = [0; STATE_LENGTH];
+    let end = enforce::run(file, &marks, &mut state, events, &mut released);
+    if let Some(refusal) = end.refusal {
+        return Err(refusal);
+    }
+    let mut lines = format!(
+        "verdict {} states {} live {}\n",
+        prepared.verdict, prepared.states, prepared.live
+    );
+    for (place, (&event, &out)) in events.iter().zip(&released).enumerate() {
+        let letter = |same| if same { 'F' } else { 'E' };
+        let (x, y) = (event % 16, event / 16);
+        let (x_out, y_out) = (out % 16, out / 16);
+        let (input, output) = (letter(x == x_out), letter(y == y_out));
+        writeln!(
+            lines,
+            "{} {x} {y} {x_out} {y_out} {input}{output}",
+            place + 1
+        )
+        .expect("a string takes all");
+    }
+    Ok(lines)
+}
+
+/// The bytes after their two-byte count, and the rest.
+fn counted(input: &[u8], most: usize) -> Result<(&[u8], &[u8]), Refusal> {
+    let (count, rest) = input.split_at_checked(2).ok_or(Refusal::CutShort)?;
+    let count = usize::from(count[0]) * 256 + usize::from(count[1]);
+    if count > most {
+        return Err(Refusal::CountOutsideLimits);
+    }
+    rest.split_at_checked(count).ok_or(Refusal::CutShort)
+}
+
+/// Input `number` of `seed`; always the same.
+fn some_input(seed: u64, number: u64) -> Vec<u8> {
+    let mut random = Random::for_group(seed, number);
+    let random = &mut random;
+    let policy = some_policy(random);
+    let file = match random.below(10) {
+        0 => damage::damaged(random, &policy),
+        _ => policy.encode(),
+    };
+    let events = events_of(random, &policy);
+    let mut input = Vec::new();
+    put_counted(random, &mut input, &file);
+    put_counted(random, &mut input, &events);
+    match random.below(20) {
+        0 => input.truncate(random.between(0, input.len())),
+        1 => input.push(random.byte()),
+        _ => {}
+    }
+    input
+}
+
+fn some_policy(random: &mut Random) -> Policy {
+    match random.below(100) {
+        0 => policies::overfull(random),
+        1 => policies::of_size(random, Size::Medium),
+        _ => {
+            let size = random.pick(&[Size::Tiny, Size::Small]);
+            policies::of_size(random, size)
+        }
+    }
+}
+
+/// Now and then as many as there can be, or one more.
+fn events_of(random: &mut Random, policy: &Policy) -> Vec<u8> {
+    let few = some_events(random, policy);
+    match random.below(60) {
+        0 if !few.is_empty() => {
+            let many = MOST_EVENTS + usize::from(random.percent(20));
+            few.iter().cycle().copied().take(many).collect()
+        }
+        _ => few,
+    }
+}
+
+/// The count is now and then wrong.
+fn put_counted(random: &mut Random, input: &mut Vec<u8>, bytes: &[u8]) {
+    let count = match random.below(30) {
+        0 => random.next() as u16,
+        1 => bytes.len() as u16 + 1,
+        _ => bytes.len() as u16,
+    };
+    input.extend(count.to_be_bytes());
+    input.extend(bytes);
+}
+
+/// What the program prints when the input reaches it in pieces.
+fn run(words: &[&str], input: &[u8], random: &mut Random) -> io::Result<String> {
+    let [program, arguments @ ..] = words else {
+        return Err(io::Error::other("no program is named"));
+    };
+    let mut child = Command::new(program)
+        .args(arguments)
+        .stdin(Stdio::piped())
+        .stdout(Stdio::piped())
+        .spawn()?;
+    let mut pipe = child.stdin.take().expect("the input is a pipe");
+    let longest = random.pick(&[1, 7, 400, 5_000, 30_000]);
+    // A pause between pieces makes the program read less than it asked for.
+    let pauses = random.percent(10);
+    let mut rest = input;
+    let mut pieces = Vec::new();
+    while !rest.is_empty() {
+        let (piece, after) = rest.split_at(random.between(1, longest.min(rest.len())));
+        pieces.push(piece.to_vec());
+        rest = after;
+    }
+    let writer = thread::spawn(move || {
+        for (place, piece) in pieces.iter().enumerate() {
+            // A program that has seen enough may have closed its end.
+            if pipe.write_all(piece).is_err() {
+                return;
+            }
+            if pauses && place < 20 {
+                thread::sleep(Duration::from_millis(1));
+            }
+        }
+    });
+    let output = child.wait_with_output()?;
+    writer.join().expect("the writer ends");
+    if !output.status.success() {
+        return Err(io::Error::other(format!("{}", output.status)));
+    }
+    String::from_utf8(output.stdout).map_err(io::Error::other)
+}
+
+/// Runs a program on random inputs while `goes_on`, and returns how many it
+/// printed right and how many of these were refusals.
+pub fn compare(
+    words: &[&str],
+    seed: u64,
+    mut goes_on: impl FnMut(u64) -> bool,
+) -> Result<(u64, u64), String> {
+    let mut random = Random::new(seed);
+    let mut refused = 0;
+    let mut number = 0;
+    while goes_on(number) {
+        let input = some_input(seed, number);
+        let expected = printed(&input);
+        let found = run(words, &input, &mut random).map_err(|error| format!("{error}"))?;
+        if found != expected {
+            return Err(format!(
+                "difference at input {number}, {}",
+                described(&input, &expected, &found)
+            ));
+        }
+        refused += u64::from(expected.starts_with("refused"));
+        number += 1;
+    }
+    Ok((number, refused))
+}
+
+/// The input in hex and the first line that differs.
+fn described(input: &[u8], expected: &str, found: &str) -> String {
+    let same = expected
+        .lines()
+        .zip(found.lines())
+        .take_while(|(a, b)| a == b)
+        .count();
+    let line = |text: &str| text.lines().nth(same).unwrap_or("nothing").to_string();
+    format!(
+        "{}\nline {}: {} instead of {}",
+        hex(input),
+        same + 1,
+        line(found),
+        line(expected)
+    )
+}
+
+#[cfg(test)]
+mod tests {
+    use super::*;
+    use crate::call::from_hex as bytes;
+    use crate::samples;
+
+    fn input(policy: &str, rest: &str) -> Vec<u8> {
+        let file = bytes(policy);
+        let count = (file.len() as u16).to_be_bytes();
+        [&count[..], &file, &bytes(rest)].concat()
+    }
+
+    #[test]
+    fn the_sample_of_the_paper() {
+        let expected = "verdict 1 states 2 live 1\n1 1 0 0 0 EF\n2 1 1 0 1 EF\n";
+        assert_eq!(printed(&input(samples::T, "00 02 01 11")), expected);
+    }
+
+    #[test]
+    fn the_order_of_the_checks() {
+        let cases = [
+            (vec![], 1),
+            (bytes("17 57"), 2),
+            (bytes("00 01"), 1),
+            (input(samples::N, ""), 11),
+            (input(samples::T, "00"), 1),
+            (input(samples::T, "40 01"), 2),
+            (input(samples::T, "00 02 01"), 1),
+            (input(samples::T, "00 01 01 01"), 8),
+            (input(samples::T, "00 01 02"), 15),
+        ];
+        for (input, number) in cases {
+            assert_eq!(printed(&input), format!("refused {number}\n"));
+        }
+    }
+
+    #[test]
+    fn random_inputs_reach_lines_and_refusals() {
+        let texts: Vec<String> = (0..600)
+            .map(|number| printed(&some_input(1, number)))
+            .collect();
+        for refusal in [1, 2, 3, 4, 5, 6, 7, 8, 9, 11, 15] {
+            let line = format!("refused {refusal}\n");
+            assert!(texts.contains(&line), "no {line}");
+        }
+        assert!(texts
+            .iter()
+            .any(|text| text.lines().count() == MOST_EVENTS + 1));
+        assert!(texts.iter().any(|text| text.contains(" EE\n")));
+    }
+
+    #[test]
+    fn a_program_that_prints_something_else_is_noticed() {
+        assert!(compare(&["true"], 1, |number| number < 1).is_err());
+    }
+}
