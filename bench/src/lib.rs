@@ -6,6 +6,9 @@ mod clock;
 pub mod engine;
 mod file;
 mod generated;
+#[cfg(feature = "library")]
+#[path = "../../include/groovepawn.rs"]
+mod groovepawn;
 pub mod instructions;
 #[cfg(feature = "library")]
 pub mod library;

@@ -2,58 +2,7 @@
 //! lent: nothing is copied, so that only its own work is measured.
 
 use crate::engine::Engine;
-
-extern "C" {
-    fn groovepawn_prepare(
-        file: *const u8,
-        file_len: usize,
-        marks: *mut u8,
-        marks_len: usize,
-    ) -> u64;
-
-    fn groovepawn_input(
-        file: *const u8,
-        file_len: usize,
-        marks: *const u8,
-        marks_len: usize,
-        state: *const u16,
-        state_len: usize,
-        x: u8,
-    ) -> u32;
-
-    fn groovepawn_output(
-        file: *const u8,
-        file_len: usize,
-        marks: *const u8,
-        marks_len: usize,
-        state: *mut u16,
-        state_len: usize,
-        x: u8,
-        y: u8,
-    ) -> u32;
-
-    fn groovepawn_run(
-        file: *const u8,
-        file_len: usize,
-        marks: *const u8,
-        marks_len: usize,
-        state: *mut u16,
-        state_len: usize,
-        events: *const u8,
-        events_len: usize,
-        released: *mut u8,
-        released_len: usize,
-    ) -> u64;
-
-    fn groovepawn_join(
-        a: *const u8,
-        a_len: usize,
-        b: *const u8,
-        b_len: usize,
-        out: *mut u8,
-        out_len: usize,
-    ) -> u64;
-}
+use crate::groovepawn::*;
 
 pub struct Library;
 

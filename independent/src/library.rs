@@ -3,60 +3,7 @@
 //! function had no business to change.
 
 use crate::engine::Engine;
-
-extern "C" {
-    fn groovepawn_prepare(
-        file: *const u8,
-        file_len: usize,
-        marks: *mut u8,
-        marks_len: usize,
-    ) -> u64;
-
-    fn groovepawn_input(
-        file: *const u8,
-        file_len: usize,
-        marks: *const u8,
-        marks_len: usize,
-        state: *const u16,
-        state_len: usize,
-        x: u8,
-    ) -> u32;
-
-    fn groovepawn_output(
-        file: *const u8,
-        file_len: usize,
-        marks: *const u8,
-        marks_len: usize,
-        state: *mut u16,
-        state_len: usize,
-        x: u8,
-        y: u8,
-    ) -> u32;
-
-    fn groovepawn_run(
-        file: *const u8,
-        file_len: usize,
-        marks: *const u8,
-        marks_len: usize,
-        state: *mut u16,
-        state_len: usize,
-        events: *const u8,
-        events_len: usize,
-        released: *mut u8,
-        released_len: usize,
-    ) -> u64;
-
-    fn groovepawn_join(
-        a: *const u8,
-        a_len: usize,
-        b: *const u8,
-        b_len: usize,
-        out: *mut u8,
-        out_len: usize,
-    ) -> u64;
-
-    fn groovepawn_ticks(milliseconds: u32, tick_length: u32, up: u8) -> u32;
-}
+use crate::groovepawn::*;
 
 const GUARD: usize = 16;
 

@@ -8,6 +8,9 @@ mod enforce;
 mod engine;
 mod events;
 mod graph;
+#[cfg(feature = "library")]
+#[path = "../../include/groovepawn.rs"]
+mod groovepawn;
 mod join;
 mod laws;
 #[cfg(feature = "library")]

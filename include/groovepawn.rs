@@ -1,0 +1,60 @@
+//! The functions of `groovepawn.h` for Rust, which says what each takes, returns
+//! and writes. Each pointer and the length after it are those of one slice, and
+//! slices do not overlap.
+
+// A program may well need some of them only.
+#![allow(dead_code)]
+
+extern "C" {
+    pub fn groovepawn_prepare(
+        file: *const u8,
+        file_len: usize,
+        marks: *mut u8,
+        marks_len: usize,
+    ) -> u64;
+
+    pub fn groovepawn_input(
+        file: *const u8,
+        file_len: usize,
+        marks: *const u8,
+        marks_len: usize,
+        state: *const u16,
+        state_len: usize,
+        x: u8,
+    ) -> u32;
+
+    pub fn groovepawn_output(
+        file: *const u8,
+        file_len: usize,
+        marks: *const u8,
+        marks_len: usize,
+        state: *mut u16,
+        state_len: usize,
+        x: u8,
+        y: u8,
+    ) -> u32;
+
+    pub fn groovepawn_run(
+        file: *const u8,
+        file_len: usize,
+        marks: *const u8,
+        marks_len: usize,
+        state: *mut u16,
+        state_len: usize,
+        events: *const u8,
+        events_len: usize,
+        released: *mut u8,
+        released_len: usize,
+    ) -> u64;
+
+    pub fn groovepawn_join(
+        a: *const u8,
+        a_len: usize,
+        b: *const u8,
+        b_len: usize,
+        out: *mut u8,
+        out_len: usize,
+    ) -> u64;
+
+    pub fn groovepawn_ticks(milliseconds: u32, tick_length: u32, up: u8) -> u32;
+}
