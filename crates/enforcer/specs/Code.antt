@@ -2,14 +2,11 @@
 use mathlib.Core.Bool.{true, false, cond}
 use mathlib.Core.List.{List, [], _∷_}
 use mathlib.Core.Option.{Option, none, some, Option·map}
-use Prim.Native.Nat.{ℕ, suc, _*_}
-use lib.ListN.{take, drop}
+use Prim.Native.Nat.{ℕ, suc}
+use lib.ListN.{take}
 use Rattle.streams.specs.Stream.{Event}
 use Rattle.policy.specs.Rules.{Rule, Policy, Place, fires}
-use Rattle.policy.specs.File.{ruleSize}
 use Rattle.policy.specs.Number.{four, locationFrom, clocksFrom}
-use Rattle.enforcer.specs.Own.{below, level}
-use Rattle.enforcer.specs.declared.own.Own.{Own}
 use Rattle.enforcer.specs.declared.state.State.{State}
 use Rattle.enforcer.specs.declared.next.Step.{Step}
 use Rattle.enforcer.specs.declared.matcher.Found.{Found}
@@ -54,7 +51,3 @@ bare cs rs = record { inputs = []; outputs = []; ceilings = cs; locations = 0; r
 abbrev pub stepFrom : State → Option Place → Step
 stepFrom s none = record { permitted = false; state = s }
 stepFrom s (some t) = record { permitted = true; state = stateFrom t }
-
--- Where the location's own rules start, in bytes, and how many they are.
-abbrev pub ownOf : ℕ → ℕ → List Rule → Own
-ownOf clocks a rs = record { start = below a rs * ruleSize clocks; count = level a (drop (below a rs) rs) }

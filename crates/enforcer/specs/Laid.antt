@@ -5,29 +5,29 @@ use mathlib.Core.Bool.{Bool, true, false, false≢true}
 use mathlib.Core.List.{List}
 use mathlib.Core.Option.{Option, none, some}
 use Prim.Native.Nat.{ℕ, zero, suc, _+_, _-_, _*_, _^_, _≤_, _<_}
-use native.Mathlib.Nat.{add-zero, div-one, mod-one, mul-le-mul-right, pow-le-pow-right}
+use native.Mathlib.Nat.{add-zero, div-one, mod-one, pow-le-pow-right}
 use native.Mathlib.Omega.{arith}
-use lib.ListN.{length, getD, take, drop, replicate, length-append}
+use lib.ListN.{length, getD, take, replicate, length-append}
 use lib.Seq.{append-snoc, take-at, getD-take, getD-append-add}
 use Rattle.streams.specs.Stream.{Event}
 use Rattle.policy.specs.Rules.{Rule, Policy, Place, inputValues, outputValues, stopped, decides, taken, step}
-use Rattle.policy.specs.File.{part, ruleSize, rulesFrom, rulesOf, ceilingsOf, clocksAt, clockCount, ruleCount, rulesStart, ruleSection, policyOf}
+use Rattle.policy.specs.File.{part, ruleSize, rulesFrom, rulesOf, ceilingsOf, clocksAt, clockCount, ruleCount, rulesStart, policyOf}
 use Rattle.policy.specs.Check.{refusalOf}
 use Rattle.policy.specs.Number.{four, states, numberFrom, locationFrom, clocksFrom, numberOf, placeOf}
 use Rattle.policy.specs.Numbered.{number-take, number-ceilings, location-ceilings, clocks-ceilings, clocks-length, numberOf-below}
 use Rattle.policy.specs.Sound.{WellFormed, Inside}
-use Rattle.policy.specs.Checked.{Framed, frame, checked-file, inputs-length, outputs-length, pairs-length, rules-length, well-sound, well-rising}
+use Rattle.policy.specs.Checked.{Framed, frame, checked-file, inputs-length, outputs-length, pairs-length, well-sound, well-rising}
 use Rattle.policy.specs.Stays.{Of, step-inside}
-use Rattle.policy.specs.Parts.{rules-part, rules-take, rules-drop}
+use Rattle.policy.specs.Parts.{rules-part}
+use Rattle.policy.specs.Own.{level, own, ownOf, level-own, own-ends, own-reads, decides-own}
 use Rattle.policy.specs.Layout.{layoutOf, checkedFrom, checkedOf}
 use Rattle.policy.specs.declared.Layout.{Layout}
 use Rattle.policy.specs.declared.Checked.{Checked}
+use Rattle.policy.specs.declared.own.Own.{Own}
 use Rattle.enforcer.specs.State.{placeIn, stateOf, isMarked}
 use Rattle.enforcer.specs.Tick.{arrives, reaches}
-use Rattle.enforcer.specs.Own.{below, level, own, own-le, level-own, decides-own}
-use Rattle.enforcer.specs.Code.{eventXY, asPlace, place, stateFrom, stateAt, bare, stepFrom, ownOf}
+use Rattle.enforcer.specs.Code.{eventXY, asPlace, place, stateFrom, stateAt, bare, stepFrom}
 use Rattle.enforcer.specs.Ready.{Laid}
-use Rattle.enforcer.specs.declared.own.Own.{Own}
 use Rattle.enforcer.specs.declared.state.State.{State}
 use Rattle.enforcer.specs.declared.next.Step.{Step}
 
@@ -95,10 +95,6 @@ laid-of f r e z = go (refusalOf f) refl e
         })
     go (suc n) p q = absurd (omega (arith, ap (λ (c : Checked). c .refusal) q))
 
--- The location's own rules are among the file's.
-own-few : (f : List ℕ) (a : ℕ) → below a (rulesOf f) + level a (drop (below a (rulesOf f)) (rulesOf f)) ≤ ruleCount f
-own-few f a = omega (arith, own-le a (rulesOf f), rules-length (clockCount f) (ruleSection f) 0 (ruleCount f))
-
 -- Where the clocks and the decision are the same, the step is.
 step-bare : (on : ℕ → ℕ → ℕ) {cs : List ℕ} (rs : List Rule) (p : Policy) (s : Place) (e : Event) → cs ≡ p .ceilings →
     decides rs s e ≡ decides (p .rules) s e → step on (bare cs rs) s e ≡ step on p s e
@@ -160,22 +156,21 @@ module _ {f : List ℕ} {l : Layout} (k : Laid f l) where
       let n : l .«rules_end» - l .«rules_start» ≡ ruleCount f * ruleSize (clockCount f) = omega (arith, framed, k) in
       rw (n, k .start, k .clocks, k .rules)
 
+  -- So do the bytes from its start on.
+  laid-from : rulesOf f ≡ rulesFrom (l .clocks) f (l .«rules_start») (l .rules)
+  laid-from = rules-part f (clockCount f) (rulesStart f) (ruleCount f) ∙ rw (k .clocks, k .start, k .rules)
+
   module _ (a : ℕ) {o : Own} (e : o ≡ ownOf (l .clocks) a (rulesOf f)) where
+    own-from : o ≡ ownOf (l .clocks) a (rulesFrom (l .clocks) f (l .«rules_start») (l .rules))
+    own-from = e ∙ ap (ownOf (l .clocks) a) laid-from
+
     -- The bytes of the location's own rules lie within the file.
     pub own-fits : (l .«rules_start» + o .start + o .count * ruleSize (l .clocks) ≤ length f) × (o .count ≤ 256)
-    own-fits = rw (e, k .clocks, k .start) (omega (arith, own-few f a, mul-le-mul-right (ruleSize (clockCount f)) (own-few f a), framed))
+    own-fits = omega (arith, own-ends (l .clocks) f (l .«rules_start») (l .rules) a own-from, laid-section, laid-limits)
 
     -- And they read as the location's own rules.
     own-rules : rulesFrom (l .clocks) (part f (l .«rules_start» + o .start) (o .count * ruleSize (l .clocks))) 0 (o .count) ≡ own a (rulesOf f)
-    unfolding own
-    own-rules =
-        let n = below a (rulesOf f) in
-        let c = level a (drop n (rulesOf f)) in
-        rules-part f (l .clocks) (l .«rules_start» + o .start) (o .count)
-        ∙ rw (e, k .clocks, k .start)
-        (sym (ap (λ (z : List Rule). take c (drop n z)) (rules-part f (clockCount f) (rulesStart f) (ruleCount f))
-        ∙ ap (take c) (rules-drop (clockCount f) f (rulesStart f) n (ruleCount f) (omega (arith, own-few f a)))
-        ∙ rules-take (clockCount f) f (rulesStart f + n * ruleSize (clockCount f)) c (ruleCount f - n) (omega (arith, own-few f a))))
+    own-rules = own-reads (l .clocks) f (l .«rules_start») (l .rules) a own-from ∙ ap (own a) (sym laid-from)
 
     -- All of them are the location's.
     pub own-level : level a (rulesFrom (l .clocks) (part f (l .«rules_start» + o .start) (o .count * ruleSize (l .clocks))) 0 (o .count)) ≡ o .count

@@ -3,7 +3,6 @@ pub mod Tick
 pub mod Ticks
 pub mod Entries
 pub mod Code
-pub mod Own
 pub mod Ready
 pub mod Laid
 pub mod States

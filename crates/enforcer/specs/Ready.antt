@@ -7,10 +7,11 @@ use Rattle.policy.specs.File.{policyOf, rulesOf, inputCount, outputCount, clock
 use Rattle.policy.specs.Number.{four, states}
 use Rattle.policy.specs.Check.{refusalOf}
 use Rattle.policy.specs.Sound.{Inside}
+use Rattle.policy.specs.Own.{ownOf}
 use Rattle.policy.specs.declared.Layout.{Layout}
-use Rattle.enforcer.specs.Code.{place, ownOf}
+use Rattle.policy.specs.declared.own.Own.{Own}
+use Rattle.enforcer.specs.Code.{place}
 use Rattle.enforcer.specs.declared.state.State.{State}
-use Rattle.enforcer.specs.declared.own.Own.{Own}
 
 -- The file passes the check, and this is its layout.
 pub record Laid (f : List ℕ) (l : Layout) : Type 0 where

@@ -1,9 +1,9 @@
 // The nearest value that may stand: one chooser for both halves.
-use crate::own::Own;
 use crate::reach::may_stand;
 use crate::reach::reaches;
 use crate::state::State;
 use policy::Layout;
+use policy::Own;
 ghost use mathlib.Core.Path.{_≡_};
 ghost use Prim.Native.Nat.{_≤_, _<_};
 ghost use Rattle.streams.specs.Choose.{nearest};

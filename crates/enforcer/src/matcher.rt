@@ -7,7 +7,7 @@ ghost use Prim.Native.Nat.{_+_, _*_, _≤_, _<_, _^_};
 ghost use lib.ListN.{length, take};
 ghost use Rattle.policy.specs.Rules.{hold, fires};
 ghost use Rattle.policy.specs.File.{byteAt, ruleSize, boundsFrom, ruleFrom, rulesFrom};
-ghost use Rattle.enforcer.specs.Own.{level};
+ghost use Rattle.policy.specs.Own.{level};
 ghost use Rattle.enforcer.specs.Code.{eventXY, place, decider, foundSaid};
 
 pub enum Found {

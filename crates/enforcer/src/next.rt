@@ -9,7 +9,7 @@ ghost use lib.ListN.{length, take};
 ghost use Rattle.policy.specs.Rules.{stopped, advance, step};
 ghost use Rattle.policy.specs.Number.{four};
 ghost use Rattle.policy.specs.File.{ruleSize, rulesFrom};
-ghost use Rattle.enforcer.specs.Own.{level};
+ghost use Rattle.policy.specs.Own.{level};
 ghost use Rattle.enforcer.specs.Code.{eventXY, place, bare, stepFrom};
 
 // What an event does: the state after it, or a violation and the state before it.

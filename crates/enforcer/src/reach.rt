@@ -1,15 +1,16 @@
 // Which events take a state to a marked one.
 use crate::next::Step;
-use crate::own::Own;
-use crate::own::own_rules;
 use crate::state::State;
 use policy::Layout;
+use policy::Own;
+use policy::own_rules;
 ghost use mathlib.Core.Path.{_≡_};
 ghost use Prim.Native.Nat.{_≤_, _^_};
 ghost use Rattle.policy.specs.Rules.{stopped, step};
 ghost use Rattle.policy.specs.File.{policyOf, rulesOf};
+ghost use Rattle.policy.specs.Own.{ownOf};
 ghost use Rattle.enforcer.specs.Tick.{reaches, mayStand};
-ghost use Rattle.enforcer.specs.Code.{eventXY, place, ownOf, stepFrom};
+ghost use Rattle.enforcer.specs.Code.{eventXY, place, stepFrom};
 ghost use Rattle.enforcer.specs.Ready.{Laid, Ready};
 
 // How many values so many signals have, one bit a signal.

@@ -2,12 +2,12 @@
 use crate::choose::Choice;
 use crate::choose::Half;
 use crate::choose::nearest;
-use crate::own::Own;
 use crate::reach::own_of;
 use crate::reach::step_of;
 use crate::reach::values;
 use crate::state::State;
 use policy::Layout;
+use policy::Own;
 ghost use mathlib.Core.Path.{_≡_};
 ghost use mathlib.Core.Option.{none};
 ghost use Prim.Native.Nat.{_<_};

@@ -14,8 +14,8 @@ use Rattle.streams.specs.Answer.{first-refused}
 use Rattle.policy.specs.File.{byteAt, part, ruleSize, inputCount, outputsAt, outputCount, clocksAt, clockCount, locationCount, ruleCount, rulesStart, rulesEnd, inputTags, outputTags, ceilingsOf, ruleSection, policyOf}
 use Rattle.policy.specs.Check.{refusalOf}
 use Rattle.policy.specs.Bytes.{pairsBytes, countsBytes, bytesOf}
-use Rattle.policy.specs.Sound.{Each, each-weak}
-use Rattle.policy.specs.Checked.{Framed, passed, frame, checked-file, well-sound, inputs-length, outputs-length, section-length, pairs-length}
+use Rattle.policy.specs.Sound.{each-weak}
+use Rattle.policy.specs.Checked.{Framed, passed, frame, checked-file, well-sound, well-rising, inputs-length, outputs-length, section-length, pairs-length}
 use Rattle.policy.specs.ReadBack.{rules-length}
 use Rattle.join.specs.Joins.{join-sound, join-clocks}
 use Rattle.policy.specs.Number.{states}
@@ -30,7 +30,7 @@ use Rattle.join.specs.Promise.{JoinPromise}
 use Rattle.join.specs.Limits.{states-join}
 use Rattle.join.proofs.RuleLaws.{bytes-length, pairs-copied}
 use Rattle.join.proofs.Laws.{laid-parts}
-use Rattle.join.specs.Lay.{Laid, bytesFrom, Joinable, FormedFor, rulesIn, rowsBytes, LayoutOf, limits, Ready, joinedCount, joinedRules, clocksFor, countsFrom, countsLength}
+use Rattle.join.specs.Lay.{Laid, bytesFrom, Joinable, Section, rulesIn, rowsBytes, LayoutOf, limits, Ready, joinedCount, joinedRules, clocksFor, countsFrom, countsLength}
 
 -- The tags from i on: the first, and the rest.
 pub same-turn : (xs ys : List ℕ) (i : ℕ) → i < length xs → i < length ys →
@@ -118,7 +118,19 @@ states-read : (f : List ℕ) → states (policyOf f) ≡ layoutOf f .states
 unfolding policyOf
 states-read f = rw (pairs-length f (clocksAt f + 1) (clockCount f))
 
--- The rule sections as the writers want them, and the join's rules.
+-- The rule section as the writers want it.
+pub rules-section : {f : List ℕ} {x : Layout} → LayoutOf f x → Section x (ruleSection f)
+unfolding policyOf
+rules-section {f} l =
+    let z = sizes l in
+    let w = checked-file f (l .passes) in
+    let c = pairs-length f (clocksAt f + 1) (clockCount f) in
+    record {
+      whole = record { few = z .rules; ends = z .whole; formed = rw (l .is) (rw c at (well-sound (policyOf f) w .rules)) };
+      rising = rw (l .is) (well-rising (policyOf f) w);
+    }
+
+-- The limits of the join, and its rules.
 module _ {f g : List ℕ} {x y : Layout} (r : Ready f x g y) where
   pub few : (x .locations * y .locations ≤ 64) × (x .clocks + y .clocks ≤ 4) × (x .states * y .states ≤ 65536)
   unfolding limits
@@ -127,27 +139,8 @@ module _ {f g : List ℕ} {x y : Layout} (r : Ready f x g y) where
       let k = and-eq-true-iff (leb (x .clocks + y .clocks) 4) _ .0 (l .1) in
       (leb-true _ _ (l .0), leb-true _ _ (k .0), leb-true _ _ (k .1))
 
-  rules-formed : (h : List ℕ) (z : Layout) → LayoutOf h z → Each (FormedFor z) (rulesIn z (ruleSection h))
-  unfolding policyOf
-  rules-formed h z l =
-      rw (l .is) (rw (pairs-length h (clocksAt h + 1) (clockCount h)) at (well-sound (policyOf h) (checked-file h (l .passes)) .rules))
-
-  pub joinable : Joinable (ruleSection f) x (ruleSection g) y
-  joinable =
-      let a = sizes (r .first) in
-      let b = sizes (r .second) in
-      record {
-        clocks = few .1;
-        locations = few .0;
-        start = a .start;
-        other = b .start;
-        firsts = a .rules;
-        seconds = b .rules;
-        firstsEnd = a .whole;
-        secondsEnd = b .whole;
-        formed = rules-formed f x (r .first);
-        others = rules-formed g y (r .second);
-      }
+  pub joinable : Joinable x y
+  joinable = record { clocks = few .1; locations = few .0; start = sizes (r .first) .start; other = sizes (r .second) .start }
 
   pub rules-joined : rowsBytes x y (rulesIn x (ruleSection f)) (rulesIn y (ruleSection g)) (x .locations * y .locations) ≡ joinedRules f g
   unfolding policyOf join

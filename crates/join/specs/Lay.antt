@@ -2,7 +2,7 @@
 use mathlib.Core.Path.{_≡_}
 use mathlib.Core.Bool.{Bool, true, _&&_}
 use mathlib.Core.List.{List, [], _∷_, _++_}
-use Prim.Native.Nat.{ℕ, zero, suc, _+_, _*_, _/_, _%_, _≤_, _<_}
+use Prim.Native.Nat.{ℕ, zero, suc, _+_, _*_, _≤_, _<_}
 use lib.Bits.{bitOr}
 use lib.Dec.{leb}
 use lib.ListN.{length, replicate}
@@ -13,9 +13,10 @@ use Rattle.policy.specs.Check.{refusalOf}
 use Rattle.policy.specs.Bytes.{pairBytes, rulesBytes}
 use Rattle.policy.specs.Layout.{layoutOf}
 use Rattle.policy.specs.Sound.{Each, Formed}
+use Rattle.policy.specs.Checked.{Rising}
 use Rattle.policy.specs.declared.Layout.{Layout}
 use Rattle.join.specs.Masks.{alike}
-use Rattle.join.specs.Join.{of, both, pair, each, cell, rows, join}
+use Rattle.join.specs.Join.{both, pair, each, cell, rows, join}
 use Rattle.join.specs.Entry.{sameSignals}
 
 -- n bytes from a position on. Past the end stands 0.
@@ -50,18 +51,23 @@ ruleAt x f p = ruleFrom (x .clocks) f p
 abbrev pub FormedFor : Layout → Rule → Type 0
 FormedFor x = Formed (x .clocks) (x .locations)
 
--- What the writers ask of the two rule sections: they are whole, the check has passed them, and the join has at most 4 clocks and 64 locations.
-pub record Joinable (f : List ℕ) (x : Layout) (g : List ℕ) (y : Layout) : Type 0 where
+-- What the writers ask of the two policies: the join has at most 4 clocks and 64 locations.
+pub record Joinable (x y : Layout) : Type 0 where
   pub clocks : x .clocks + y .clocks ≤ 4
   pub locations : x .locations * y .locations ≤ 64
   pub start : 0 < x .locations
   pub other : 0 < y .locations
-  pub firsts : x .rules ≤ 256
-  pub seconds : y .rules ≤ 256
-  pub firstsEnd : x .rules * ruleSize (x .clocks) ≤ length f
-  pub secondsEnd : y .rules * ruleSize (y .clocks) ≤ length g
-  pub formed : Each (FormedFor x) (rulesIn x f)
-  pub others : Each (FormedFor y) (rulesIn y g)
+
+-- What they ask of n rules: they are whole, and the check has passed them.
+pub record Whole (x : Layout) (f : List ℕ) (n : ℕ) : Type 0 where
+  pub few : n ≤ 256
+  pub ends : n * ruleSize (x .clocks) ≤ length f
+  pub formed : Each (FormedFor x) (rulesFrom (x .clocks) f 0 n)
+
+-- And of a rule section: "Sources never fall from one rule to the next."
+pub record Section (x : Layout) (f : List ℕ) : Type 0 where
+  pub whole : Whole x f (x .rules)
+  pub rising : Rising 0 (rulesIn x f)
 
 -- The seven bytes before a rule's bounds.
 abbrev pub headBytes : Rule → List ℕ
@@ -76,10 +82,10 @@ module _ (x y : Layout) where
   pairBytesAt at r s = rulesBytes (pair (x .clocks) (y .locations) at r s)
 
   abbrev pub eachBytes : ℕ → Rule → List Rule → List ℕ
-  eachBytes at r ss = rulesBytes (each (x .clocks) (y .locations) at r (of (at % y .locations) ss))
+  eachBytes at r ss = rulesBytes (each (x .clocks) (y .locations) at r ss)
 
   abbrev pub cellBytes : ℕ → List Rule → List Rule → List ℕ
-  cellBytes at rs ss = rulesBytes (cell (x .clocks) (y .locations) at (of (at / y .locations) rs) (of (at % y .locations) ss))
+  cellBytes at rs ss = rulesBytes (cell (x .clocks) (y .locations) at rs ss)
 
   abbrev pub rowsBytes : List Rule → List Rule → ℕ → List ℕ
   rowsBytes rs ss m = rulesBytes (rows (x .clocks) (y .locations) rs ss m)

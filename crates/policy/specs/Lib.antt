@@ -8,6 +8,7 @@ pub mod Numbered
 pub mod Checked
 pub mod Stays
 pub mod Parts
+pub mod Own
 pub mod Bytes
 pub mod ReadBack
 pub mod Layout

@@ -1,7 +1,7 @@
 -- `join::lay_joined` meets its contract: the parts of the files that the rules are.
 use native.Mathlib.Omega.{arith}
 use Rattle.join.proofs.Laws.{laid-as}
-use Rattle.join.proofs.FileLaws.{sizes, joinable, rules-joined}
+use Rattle.join.proofs.FileLaws.{sizes, rules-section, joinable, rules-joined}
 use borrow.Author.Needs.{needs}
 use Rattle.join.proofs.lay_joined.Statement.{statement}
 use Rattle.join.proofs.lay_joined.Tie as tie
@@ -25,7 +25,9 @@ part-lay-rules-end-2 : tie.Need-part-lay-rules-end-2
 part-lay-rules-end-2 c = omega (arith, sizes (c .before .before .before .before .pre .second))
 
 lay-rules-requires : tie.Need-lay-rules-requires
-lay-rules-requires c κs = let p = c .before .before .before .before .before .before .pre in rw (sizes (p .first) .section, sizes (p .second) .section) (joinable p)
+lay-rules-requires c κs =
+    let p = c .before .before .before .before .before .before .pre in
+    rw (sizes (p .first) .section, sizes (p .second) .section) (joinable p, rules-section (p .first), rules-section (p .second))
 
 same-length : tie.Need-same-length
 same-length c = search needs

@@ -7,7 +7,7 @@ use native.Mathlib.Omega.{arith}
 use denote.Ref.{now}
 use borrow.Author.Needs.{needs}
 use Rattle.policy.specs.File.{byteAt, ruleSize, rulesFrom}
-use Rattle.enforcer.specs.Own.{level, level-all}
+use Rattle.policy.specs.Own.{level, level-all}
 use Rattle.enforcer.specs.Code.{eventXY, place, decider}
 use Rattle.enforcer.proofs.RuleLaws.{deciderFrom, decider-start, decider-here, decider-turn, decider-end}
 use Rattle.enforcer.proofs.matcher.first_rule.Statement.{statement}

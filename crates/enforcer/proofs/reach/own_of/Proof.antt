@@ -3,7 +3,7 @@ use mathlib.Core.Path.{ap, _∙_}
 use native.Mathlib.Omega.{arith}
 use lib.ListN.{length-take, length-drop}
 use borrow.Author.Needs.{needs}
-use Rattle.enforcer.specs.Code.{ownOf}
+use Rattle.policy.specs.Own.{ownOf}
 use Rattle.enforcer.specs.Laid.{laid-limits, laid-section, laid-rules}
 use Rattle.enforcer.proofs.reach.own_of.Statement.{statement}
 use Rattle.enforcer.proofs.reach.own_of.Tie as tie

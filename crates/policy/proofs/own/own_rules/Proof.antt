@@ -1,4 +1,4 @@
--- `enforcer::own::own_rules` meets its contract: the rules after the first ones are read from their place on. Assumes nothing.
+-- `policy::own::own_rules` meets its contract: the rules after the first ones are read from their place on. Assumes nothing.
 use mathlib.Core.Path.{_≡_, sym, ap, _∙_}
 use Prim.Native.Nat.{ℕ, _+_, _-_, _*_, _≤_}
 use native.Mathlib.Nat.{add-mul, mul-le-mul}
@@ -6,12 +6,12 @@ use native.Mathlib.Omega.{arith}
 use lib.ListN.{drop}
 use denote.Ref.{now}
 use borrow.Author.Needs.{needs}
 use Rattle.policy.specs.File.{ruleSize, rulesFrom}
 use Rattle.policy.specs.Checked.{rules-length}
 use Rattle.policy.specs.Parts.{rules-drop}
-use Rattle.enforcer.specs.Own.{below, level, below-le}
-use Rattle.enforcer.proofs.own.own_rules.Statement.{statement}
-use Rattle.enforcer.proofs.own.own_rules.Tie as tie
+use Rattle.policy.specs.Own.{below, level, below-le}
+use Rattle.policy.proofs.own.own_rules.Statement.{statement}
+use Rattle.policy.proofs.own.own_rules.Tie as tie
 
 -- No more rules are passed than there are, so they end within the section.
 passed : (c : tie.After-rules-below) →

@@ -1,11 +1,10 @@
 // A location's own rules. Sources never fall from one rule to the next, so they stand together.
-use policy::bytes::byte_within;
+use crate::bytes::byte_within;
 ghost use mathlib.Core.Path.{_≡_};
 ghost use Prim.Native.Nat.{_+_, _*_, _≤_, _<_, _^_};
 ghost use lib.ListN.{length};
 ghost use Rattle.policy.specs.File.{ruleSize, rulesFrom};
-ghost use Rattle.enforcer.specs.Own.{below, level};
-ghost use Rattle.enforcer.specs.Code.{ownOf};
+ghost use Rattle.policy.specs.Own.{below, level, ownOf};
 
 // Where a location's own rules start in the rule section, and how many they are.
 pub struct Own {

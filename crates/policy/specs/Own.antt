@@ -1,17 +1,20 @@
 -- A location's own rules stand together: "Sources never fall from one rule to the next."
-use mathlib.Core.Path.{_≡_, refl, sym, ap}
+use mathlib.Core.Path.{_≡_, refl, sym, ap, _∙_}
 use mathlib.Core.Bool.{Bool, true, false, cond}
 use mathlib.Core.List.{List, [], _∷_}
-use mathlib.Core.Option.{none, some}
-use Prim.Native.Nat.{ℕ, suc, _+_, _-_, _≤_, _<_}
+use mathlib.Core.Option.{some}
+use Prim.Native.Nat.{ℕ, suc, _+_, _-_, _*_, _≤_, _<_}
+use native.Mathlib.Nat.{mul-le-mul-right}
 use native.Mathlib.Omega.{arith}
 use lib.Dec.{ltb, eqb}
 use lib.ListN.{length, take, drop, length-drop}
 use borrow.Author.Tests.{lt-ltb, le-ltb, ltb-true, ltb-false, eqb-true, eqb-false, eq-eqb, ne-eqb}
 use Rattle.streams.specs.Stream.{Event}
 use Rattle.policy.specs.Rules.{Rule, Place, fires, decides}
-use Rattle.policy.specs.File.{byteAt, ruleFrom, rulesFrom, ruleSize}
-use Rattle.policy.specs.Checked.{Rising, rising-none, rising-more}
+use Rattle.policy.specs.File.{byteAt, part, ruleFrom, rulesFrom, ruleSize}
+use Rattle.policy.specs.Checked.{rules-length, Rising, rising-none, rising-more}
+use Rattle.policy.specs.Parts.{rules-part, rules-take, rules-drop}
+use Rattle.policy.specs.declared.own.Own.{Own}
 
 -- How many rules at the front have a source below the location.
 unfoldable pub below : ℕ → List Rule → ℕ
@@ -26,6 +29,10 @@ level a (r ∷ rs) = cond (eqb (r .source) a) (suc (level a rs)) 0
 -- The rules of the location a.
 unfoldable pub own : ℕ → List Rule → List Rule
 own a rs = take (level a (drop (below a rs) rs)) (drop (below a rs) rs)
+
+-- Where they start, in bytes, and how many they are.
+abbrev pub ownOf : ℕ → ℕ → List Rule → Own
+ownOf clocks a rs = record { start = below a rs * ruleSize clocks; count = level a (drop (below a rs) rs) }
 
 pub below-le : (a : ℕ) (rs : List Rule) → below a rs ≤ length rs
 unfolding below
@@ -46,7 +53,7 @@ level-le a (r ∷ rs) = go (eqb (r .source) a) (level-le a rs)
     go false h = omega arith
 
 -- The rules before the location's own and those themselves are no more than there are.
-pub own-le : (a : ℕ) (rs : List Rule) → below a rs + level a (drop (below a rs) rs) ≤ length rs
+own-le : (a : ℕ) (rs : List Rule) → below a rs + level a (drop (below a rs) rs) ≤ length rs
 own-le a rs =
     omega (arith, below-le a rs, level-le a (drop (below a rs) rs), length-drop (below a rs) rs)
 
@@ -110,44 +117,63 @@ pub none-level : (clocks : ℕ) (f : List ℕ) (at a n : ℕ) → n ≡ 0 → le
 unfolding level rulesFrom
 none-level clocks f at a n e = rw e
 
+-- n rules stand from `at` on, and o says which of them are the location's own.
+module _ (clocks : ℕ) (f : List ℕ) (at n a : ℕ) {o : Own} (e : o ≡ ownOf clocks a (rulesFrom clocks f at n)) where
+  own-few : below a (rulesFrom clocks f at n) + level a (drop (below a (rulesFrom clocks f at n)) (rulesFrom clocks f at n)) ≤ n
+  own-few = omega (arith, own-le a (rulesFrom clocks f at n), rules-length clocks f at n)
+
+  -- They end where the n rules end, or before.
+  pub own-ends : (o .count ≤ n) × (o .start + o .count * ruleSize clocks ≤ n * ruleSize clocks)
+  own-ends = rw e (omega (arith, own-few, mul-le-mul-right (ruleSize clocks) own-few))
+
+  -- The part that they take reads as them.
+  pub own-reads : rulesFrom clocks (part f (at + o .start) (o .count * ruleSize clocks)) 0 (o .count) ≡ own a (rulesFrom clocks f at n)
+  unfolding own
+  own-reads =
+      let m = below a (rulesFrom clocks f at n) in
+      let c = level a (drop m (rulesFrom clocks f at n)) in
+      rules-part f clocks (at + o .start) (o .count)
+      ∙ rw e
+      (sym (ap (take c) (rules-drop clocks f at m n (omega (arith, own-few)))
+      ∙ rules-take clocks f (at + m * ruleSize clocks) c (n - m) (omega (arith, own-few))))
+
+-- What passes over each rule of another location says of the location's own rules what it says of all.
+module _ {A : Type 0} (a : ℕ) (says : List Rule → A) (passes : (r : Rule) (rs : List Rule) → (r .source ≡ a → ⊥) → says (r ∷ rs) ≡ says rs)
+    (same : (r : Rule) (rs ss : List Rule) → says rs ≡ says ss → says (r ∷ rs) ≡ says (r ∷ ss)) where
+  above : {b : ℕ} {rs : List Rule} → a < b → Rising b rs → says rs ≡ says []
+  above l rising-none = refl
+  above l (rising-more {r = r} {rs = rs} h k) = let m : a < r .source = omega arith in passes r rs (omega arith) ∙ above m k
+
+  at-front : {b : ℕ} {rs : List Rule} → a ≤ b → Rising b rs → says rs ≡ says (take (level a rs) rs)
+  unfolding level
+  at-front l rising-none = refl
+  at-front l (rising-more {r = r} {rs = rs} h k) = let m : a ≤ r .source = omega arith in go (eqb (r .source) a) refl (at-front m k)
+    where
+      go : (t : Bool) → eqb (r .source) a ≡ t → says rs ≡ says (take (level a rs) rs) →
+          says (r ∷ rs) ≡ says (take (cond t (suc (level a rs)) 0) (r ∷ rs))
+      go true q ih = same r rs (take (level a rs) rs) ih
+      go false q ih =
+          let d : r .source ≡ a → ⊥ = eqb-false (r .source) a q in
+          let n : a < r .source = omega arith in
+          passes r rs d ∙ above n k
+
+  pub own-alone : {b : ℕ} {rs : List Rule} → Rising b rs → says (own a rs) ≡ says rs
+  unfolding own below level
+  own-alone rising-none = refl
+  own-alone (rising-more {r = r} {rs = rs} h k) = go (ltb (r .source) a) refl (own-alone k)
+    where
+      go : (t : Bool) → ltb (r .source) a ≡ t → says (own a rs) ≡ says rs →
+          says (take (level a (drop (cond t (suc (below a rs)) 0) (r ∷ rs))) (drop (cond t (suc (below a rs)) 0) (r ∷ rs))) ≡ says (r ∷ rs)
+      go true q ih = let l : r .source < a = ltb-true _ _ q in ih ∙ sym (passes r rs (omega arith))
+      go false q ih = let m : a ≤ r .source = ltb-false _ _ q in sym (at-front (omega arith) (rising-more {before = a} m k))
+
 module _ (s : Place) (e : Event) where
   -- A rule of another location does not fire.
   other : (r : Rule) → (r .source ≡ s .location → ⊥) → fires r s e ≡ false
   unfolding fires
   other r h = rw (ne-eqb (r .source) (s .location) h)
 
-  above : {b : ℕ} {rs : List Rule} → s .location < b → Rising b rs → decides rs s e ≡ none
-  unfolding decides
-  above l rising-none = refl
-  above l (rising-more {r = r} {rs = rs} h k) =
-      let m : s .location < r .source = omega arith in
-      rw (other r (omega arith)) (above m k)
-
-  at-front : {b : ℕ} {rs : List Rule} → s .location ≤ b → Rising b rs → decides rs s e ≡ decides (take (level (s .location) rs) rs) s e
-  unfolding decides level
-  at-front l rising-none = refl
-  at-front l (rising-more {r = r} {rs = rs} h k) =
-      let m : s .location ≤ r .source = omega arith in
-      go (eqb (r .source) (s .location)) refl (at-front m k)
-    where
-      go : (t : Bool) → eqb (r .source) (s .location) ≡ t → decides rs s e ≡ decides (take (level (s .location) rs) rs) s e →
-          decides (r ∷ rs) s e ≡ decides (take (cond t (suc (level (s .location) rs)) 0) (r ∷ rs)) s e
-      go true q ih = ap (cond (fires r s e) (some r)) ih
-      go false q ih =
-          let d : r .source ≡ s .location → ⊥ = eqb-false (r .source) (s .location) q in
-          let n : s .location < r .source = omega arith in
-          rw (other r d) (above n k)
-
   -- The first of the location's own rules that fires is the first of all rules that does.
   pub decides-own : {b : ℕ} {rs : List Rule} → Rising b rs → decides (own (s .location) rs) s e ≡ decides rs s e
-  unfolding decides own below level
-  decides-own rising-none = refl
-  decides-own (rising-more {r = r} {rs = rs} h k) = go (ltb (r .source) (s .location)) refl (decides-own k)
-    where
-      go : (t : Bool) → ltb (r .source) (s .location) ≡ t → decides (own (s .location) rs) s e ≡ decides rs s e →
-          decides
-          (take (level (s .location) (drop (cond t (suc (below (s .location) rs)) 0) (r ∷ rs)))
-          (drop (cond t (suc (below (s .location) rs)) 0) (r ∷ rs))) s e
-          ≡ decides (r ∷ rs) s e
-      go true q ih = let l : r .source < s .location = ltb-true _ _ q in rw (other r (omega arith)) ih
-      go false q ih = let m : s .location ≤ r .source = ltb-false _ _ q in sym (at-front (omega arith) (rising-more {before = s .location} m k))
+  unfolding decides
+  decides-own = own-alone (s .location) (λ rs. decides rs s e) (λ r rs h. rw (other r h)) (λ r rs ss h. ap (cond (fires r s e) (some r)) h)

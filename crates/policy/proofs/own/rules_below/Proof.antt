@@ -1,14 +1,14 @@
--- `enforcer::own::rules_below` meets its contract. What the rest adds to i is what all rules give. Assumes nothing.
+-- `policy::own::rules_below` meets its contract. What the rest adds to i is what all rules give. Assumes nothing.
 use mathlib.Core.Path.{_≡_, _∙_}
 use Prim.Native.Nat.{_+_, _-_, _*_, _≤_}
 use native.Mathlib.Nat.{mul-le-mul-right}
 use native.Mathlib.Omega.{arith}
 use lib.ListN.{length}
 use denote.Ref.{now}
 use Rattle.policy.specs.File.{ruleSize, rulesFrom}
-use Rattle.enforcer.specs.Own.{below, below-more, below-done, none-below}
-use Rattle.enforcer.proofs.own.rules_below.Statement.{statement}
-use Rattle.enforcer.proofs.own.rules_below.Tie as tie
+use Rattle.policy.specs.Own.{below, below-more, below-done, none-below}
+use Rattle.policy.proofs.own.rules_below.Statement.{statement}
+use Rattle.policy.proofs.own.rules_below.Tie as tie
 
 abbrev Inv-loop : tie.InvT-loop
 Inv-loop rules count clocks location size at₀ i₀ at i =
