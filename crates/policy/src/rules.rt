@@ -4,7 +4,7 @@ use crate::bytes::pair_at;
 use crate::bytes::pair_within;
 use crate::sections::section_refusal;
 ghost use mathlib.Core.Path.{_≡_};
-ghost use Prim.Native.Nat.{ℕ, _+_, _*_, _≤_, _<_, _^_};
+ghost use Prim.Native.Nat.{_+_, _*_, _≤_, _<_, _^_};
 ghost use lib.ListN.{length, take};
 ghost use Rattle.policy.specs.File.{ruleSize, ruleFrom, rulesFrom, boundsFrom, rulesAt};
 ghost use Rattle.policy.specs.Check.{maskGood, headGood, boundsGood, ruleRefusal, rulesRefusal, rulesSectionRefusal};
