@@ -28,7 +28,7 @@ fn put_spaced(text: &mut [u8], at: usize, n: usize) -> usize
 }
 
 // The one line of a refusal: at most 8 + 3 + 1 bytes.
-pub fn put_refused(text: &mut [u8], at: usize, n: u8) -> usize
+pub(crate) fn put_refused(text: &mut [u8], at: usize, n: u8) -> usize
     requires { ⌜ at + 12 ≤ length (now text) ⌝ }
     ensures { λ r. ⌜ Wrote (now (text .entry)) at (refusedLine n) r (now (text .exit)) ⌝ }
 {
@@ -37,7 +37,13 @@ pub fn put_refused(text: &mut [u8], at: usize, n: u8) -> usize
 }
 
 // The first line: at most 8 + 3 + 8 + 20 + 6 + 20 + 1 bytes.
-pub fn put_verdict(text: &mut [u8], at: usize, verdict: u8, states: usize, live: usize) -> usize
+pub(crate) fn put_verdict(
+    text: &mut [u8],
+    at: usize,
+    verdict: u8,
+    states: usize,
+    live: usize,
+) -> usize
     requires { ⌜ at + 66 ≤ length (now text) ⌝ }
     ensures { λ r. ⌜ Wrote (now (text .entry)) at (verdictLine verdict states live) r (now (text .exit)) × (r ≤ at + 66) ⌝ }
 {
@@ -64,7 +70,7 @@ fn put_halves(text: &mut [u8], at: usize, event: u8) -> usize
 }
 
 // The line of a tick: at most 21 bytes.
-pub fn put_tick(text: &mut [u8], at: usize, tick: usize, event: u8, released: u8) -> usize
+pub(crate) fn put_tick(text: &mut [u8], at: usize, tick: usize, event: u8, released: u8) -> usize
     requires { ⌜ (tick < 10 ^ 5) × (at + 21 ≤ length (now text)) ⌝ }
     ensures { λ r. ⌜ Wrote (now (text .entry)) at (eventLine tick event released) r (now (text .exit)) ⌝ }
 {
@@ -80,7 +86,7 @@ pub fn put_tick(text: &mut [u8], at: usize, tick: usize, event: u8, released: u8
 }
 
 // A line for each event, the ticks counted from 1.
-pub fn put_ticks(text: &mut [u8], at: usize, events: &[u8], released: &[u8]) -> usize
+pub(crate) fn put_ticks(text: &mut [u8], at: usize, events: &[u8], released: &[u8]) -> usize
     requires { ⌜ (length (now events) ≤ 16384) × (length (now events) ≤ length (now released)) × (at + 21 * length (now events) ≤ length (now text)) ⌝ }
     ensures { λ r. ⌜ Wrote (now (text .entry)) at (tickLines 1 (now (events .entry)) (now (released .entry))) r (now (text .exit)) ⌝ }
 {

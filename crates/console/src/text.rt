@@ -6,7 +6,7 @@ ghost use Rattle.console.specs.Text.{digit, decimal};
 ghost use Rattle.console.specs.Wrote.{Wrote};
 
 // Bytes as they are.
-pub fn put_bytes(text: &mut [u8], at: usize, bytes: &[u8]) -> usize
+pub(crate) fn put_bytes(text: &mut [u8], at: usize, bytes: &[u8]) -> usize
     requires { ⌜ at + length (now bytes) ≤ length (now text) ⌝ }
     ensures { λ r. ⌜ Wrote (now (text .entry)) at (now (bytes .entry)) r (now (text .exit)) ⌝ }
 {
@@ -28,7 +28,7 @@ fn put_digit(text: &mut [u8], at: usize, n: usize) -> usize
 }
 
 // The digits of n in decimal.
-pub fn put_decimal(text: &mut [u8], at: usize, n: usize) -> usize
+pub(crate) fn put_decimal(text: &mut [u8], at: usize, n: usize) -> usize
     requires { ⌜ at + length (decimal n) ≤ length (now text) ⌝ }
     ensures { λ r. ⌜ Wrote (now (text .entry)) at (decimal n) r (now (text .exit)) ⌝ }
 {

@@ -51,7 +51,7 @@ fn stands(
 }
 
 // Of the values below n that may stand, the one nearest to the wanted one; a value that is no nearer than the best so far is not asked about.
-pub fn nearest(
+pub(crate) fn nearest(
     file: &[u8],
     layout: Layout,
     own: Own,

@@ -66,7 +66,7 @@ fn state_good(file: &[u8], layout: Layout, state: State) -> bool
 }
 
 // 16 where the state is not in range or not marked, else 0.
-pub fn state_refusal(file: &[u8], layout: Layout, marks: &[u8], state: State) -> u8
+pub(crate) fn state_refusal(file: &[u8], layout: Layout, marks: &[u8], state: State) -> u8
     requires { ⌜ Laid (now file) layout × (states (policyOf (now file)) ≤ length (now marks)) ⌝ }
     ensures { λ r. ⌜ r ≡ stateRefusal (now (file .entry)) (now (marks .entry)) (asPlace state) ⌝ }
 {

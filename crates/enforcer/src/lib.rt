@@ -14,7 +14,6 @@ pub use halves::Output;
 pub use halves::input_half;
 pub use halves::marks_refusal;
 pub use lent::output_half;
-pub use next::Step;
 pub use reach::may_stand;
 pub use reach::own_of;
 pub use reach::values;

@@ -43,7 +43,7 @@ fn advanced(mask: usize, ceilings: [u16; 4], values: [u16; 4]) -> [u16; 4]
 
 impl State {
     // The next state by the location's own rules: the first that fires decides, and no such rule means violation.
-    pub fn step(
+    pub(crate) fn step(
         self,
         rules: &[u8],
         count: usize,

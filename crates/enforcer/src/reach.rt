@@ -37,7 +37,7 @@ pub fn own_of(file: &[u8], layout: Layout, state: State) -> Own
 }
 
 // The state after the event x, y, by the rules of its own location.
-pub fn step_of(file: &[u8], layout: Layout, own: Own, state: State, x: u8, y: u8) -> Step
+pub(crate) fn step_of(file: &[u8], layout: Layout, own: Own, state: State, x: u8, y: u8) -> Step
     requires { ⌜ Laid (now file) layout × (own ≡ ownOf (layout .clocks) (state .location) (rulesOf (now file))) ⌝ }
     ensures { λ r. ⌜ r ≡ stepFrom state (step stopped (policyOf (now (file .entry))) (place (layout .clocks) state) (eventXY x y)) ⌝ }
 {
@@ -49,7 +49,7 @@ pub fn step_of(file: &[u8], layout: Layout, own: Own, state: State, x: u8, y: u8
 }
 
 // The event x, y takes the state to a marked one.
-pub fn reaches(
+pub(crate) fn reaches(
     file: &[u8],
     layout: Layout,
     own: Own,

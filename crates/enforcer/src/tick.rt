@@ -26,7 +26,7 @@ pub struct Ticked {
     pub y: u8,
 }
 
-pub fn choose_input(
+pub(crate) fn choose_input(
     file: &[u8],
     layout: Layout,
     own: Own,
@@ -50,7 +50,7 @@ pub fn choose_input(
 }
 
 // The output half with its move.
-pub fn output_tick(
+pub(crate) fn output_tick(
     file: &[u8],
     layout: Layout,
     own: Own,
@@ -90,7 +90,7 @@ fn stuck(state: State) -> Ticked
 }
 
 // Both halves.
-pub fn tick(file: &[u8], layout: Layout, marks: &[u8], state: State, x: u8, y: u8) -> Ticked
+pub(crate) fn tick(file: &[u8], layout: Layout, marks: &[u8], state: State, x: u8, y: u8) -> Ticked
     requires { ⌜ Standing (now file) layout (now marks) state × (x < inputValues (policyOf (now file))) × (y < outputValues (policyOf (now file))) ⌝ }
     ensures { λ r. ⌜ r ≡ tickFrom state (tick (policyOf (now (file .entry))) (now (marks .entry)) (place (layout .clocks) state) (eventXY x y)) ⌝ }
 {

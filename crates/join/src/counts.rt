@@ -28,7 +28,7 @@ fn same_tags(a: &[u8], b: &[u8]) -> bool
     true
 }
 
-pub fn same_signals(a: &[u8], x: Layout, b: &[u8], y: Layout) -> bool
+pub(crate) fn same_signals(a: &[u8], x: Layout, b: &[u8], y: Layout) -> bool
     requires { ⌜ LayoutOf (now a) x × LayoutOf (now b) y ⌝ }
     ensures { λ r. ⌜ r ≡ sameSignals (policyOf (now (a .entry))) (policyOf (now (b .entry))) ⌝ }
 {
@@ -43,7 +43,7 @@ pub fn same_signals(a: &[u8], x: Layout, b: &[u8], y: Layout) -> bool
 }
 
 // The join has at most 64 locations, 4 clocks and 65,536 states.
-pub fn within_limits(x: Layout, y: Layout) -> bool
+pub(crate) fn within_limits(x: Layout, y: Layout) -> bool
     requires { ⌜ (x .locations ≤ 64) × (y .locations ≤ 64) × (x .clocks ≤ 4) × (y .clocks ≤ 4) ⌝ }
     requires { ⌜ (x .states ≤ 65536) × (y .states ≤ 65536) ⌝ }
     ensures { λ r. ⌜ r ≡ limits x y ⌝ }
@@ -58,7 +58,7 @@ pub fn within_limits(x: Layout, y: Layout) -> bool
 }
 
 // How many bytes stand before the join's rules.
-pub fn counts_length(x: Layout, y: Layout) -> usize
+pub(crate) fn counts_length(x: Layout, y: Layout) -> usize
     requires { ⌜ (x .inputs ≤ 4) × (x .outputs ≤ 4) × (x .clocks + y .clocks ≤ 4) × (x .locations * y .locations ≤ 64) ⌝ }
     ensures { λ r. ⌜ r ≡ countsLength x y ⌝ }
 {
@@ -97,7 +97,14 @@ fn lay_places(locations: usize, rules: usize, out: &mut [u8], at: usize) -> usiz
 }
 
 // All that stands before the rules. Signals and their tags are A's.
-pub fn lay_counts(a: &[u8], x: Layout, b: &[u8], y: Layout, rules: usize, out: &mut [u8]) -> usize
+pub(crate) fn lay_counts(
+    a: &[u8],
+    x: Layout,
+    b: &[u8],
+    y: Layout,
+    rules: usize,
+    out: &mut [u8],
+) -> usize
     requires { ⌜ (x .inputs ≤ 4) × (x .outputs ≤ 4) ⌝ }
     requires { ⌜ (clocksFor x + 1 + 2 * x .clocks ≤ length (now a)) × (clocksFor y + 1 + 2 * y .clocks ≤ length (now b)) ⌝ }
     requires { ⌜ (x .clocks + y .clocks ≤ 4) × (x .locations * y .locations ≤ 64) × (rules ≤ 256) ⌝ }

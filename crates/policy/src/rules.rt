@@ -134,7 +134,7 @@ fn rules_refusal(section: &[u8], n: usize, shape: Shape) -> u8
     0
 }
 
-pub fn rules_section_refusal(file: &[u8], at: usize, shape: Shape) -> u8
+pub(crate) fn rules_section_refusal(file: &[u8], at: usize, shape: Shape) -> u8
     requires { ⌜ (at < 2 ^ 10) × (at ≡ rulesAt (now file)) × ShapeOf (now file) shape ⌝ }
     ensures { λ r. ⌜ r ≡ rulesSectionRefusal (now (file .entry)) ⌝ }
 {

@@ -10,7 +10,7 @@ ghost use Rattle.policy.specs.Check.{sectionRefusal, among, tagsGood, ce
 ghost use Rattle.policy.specs.Number.{four, statesOf};
 
 // 1 where the count at `at` or its section is cut short, 2 where the count n is outside its limits, else 0.
-pub fn section_refusal(
+pub(crate) fn section_refusal(
     file: &[u8],
     at: usize,
     width: usize,
@@ -52,7 +52,7 @@ fn is_among(t: u8, tags: &[u8]) -> bool
 }
 
 // Each tag is a capital letter, and new after those before it in the file.
-pub fn tags_good(before: &[u8], tags: &[u8]) -> bool
+pub(crate) fn tags_good(before: &[u8], tags: &[u8]) -> bool
     ensures { λ r. ⌜ r ≡ tagsGood (now (before .entry)) (now (tags .entry)) ⌝ }
 {
     let mut i = 0;
@@ -76,7 +76,7 @@ pub fn tags_good(before: &[u8], tags: &[u8]) -> bool
 }
 
 // Every byte is 0.
-pub fn all_zero(bytes: &[u8]) -> bool
+pub(crate) fn all_zero(bytes: &[u8]) -> bool
     ensures { λ r. ⌜ r ≡ all (eqb 0) (now (bytes .entry)) ⌝ }
 {
     let mut i = 0;
@@ -90,7 +90,7 @@ pub fn all_zero(bytes: &[u8]) -> bool
 }
 
 // Each of the n ceilings from `at` on is 1 to 1,001.
-pub fn ceilings_good(file: &[u8], at: usize, n: usize) -> bool
+pub(crate) fn ceilings_good(file: &[u8], at: usize, n: usize) -> bool
     requires { ⌜ (at < 2 ^ 16) × (n ≤ 4) ⌝ }
     ensures { λ r. ⌜ r ≡ all ceilingGood (pairsFrom (now (file .entry)) at n) ⌝ }
 {
@@ -109,7 +109,7 @@ pub fn ceilings_good(file: &[u8], at: usize, n: usize) -> bool
 }
 
 // The n ceilings from `at` on, then 0.
-pub fn ceilings_of(file: &[u8], at: usize, n: usize) -> [u16; 4]
+pub(crate) fn ceilings_of(file: &[u8], at: usize, n: usize) -> [u16; 4]
     requires { ⌜ (at < 2 ^ 16) × (n ≤ 4) ⌝ }
     ensures { λ r. ⌜ r ≡ four (pairsFrom (now (file .entry)) at n) ⌝ }
 {
@@ -123,7 +123,7 @@ pub fn ceilings_of(file: &[u8], at: usize, n: usize) -> [u16; 4]
 }
 
 // How many states there are: locations × the product of (ceiling + 1).
-pub fn states_of(ceilings: [u16; 4], clocks: usize, locations: usize) -> usize
+pub(crate) fn states_of(ceilings: [u16; 4], clocks: usize, locations: usize) -> usize
     requires { ⌜ (clocks ≤ 4) × (locations ≤ 64) × ((i : ℕ) → i < clocks → getD ceilings i 0 ≤ 1001) ⌝ }
     ensures { λ r. ⌜ r ≡ statesOf ceilings clocks locations ⌝ }
 {
@@ -136,7 +136,7 @@ pub fn states_of(ceilings: [u16; 4], clocks: usize, locations: usize) -> usize
     states
 }
 
-pub fn inputs_refusal(file: &[u8]) -> u8
+pub(crate) fn inputs_refusal(file: &[u8]) -> u8
     ensures { λ r. ⌜ r ≡ inputsRefusal (now (file .entry)) ⌝ }
 {
     let n = byte_at(file, 0);
@@ -151,7 +151,7 @@ pub fn inputs_refusal(file: &[u8]) -> u8
     }
 }
 
-pub fn outputs_refusal(file: &[u8], at: usize, inputs: usize) -> u8
+pub(crate) fn outputs_refusal(file: &[u8], at: usize, inputs: usize) -> u8
     requires { ⌜ (inputsRefusal (now file) ≡ 0) × (inputs ≡ inputCount (now file)) × (at ≡ outputsAt (now file)) ⌝ }
     ensures { λ r. ⌜ r ≡ outputsRefusal (now (file .entry)) ⌝ }
 {
@@ -167,7 +167,7 @@ pub fn outputs_refusal(file: &[u8], at: usize, inputs: usize) -> u8
     }
 }
 
-pub fn clocks_refusal(file: &[u8], at: usize) -> u8
+pub(crate) fn clocks_refusal(file: &[u8], at: usize) -> u8
     requires { ⌜ (at < 2 ^ 10) × (at ≡ clocksAt (now file)) ⌝ }
     ensures { λ r. ⌜ r ≡ clocksRefusal (now (file .entry)) ⌝ }
 {
@@ -179,7 +179,7 @@ pub fn clocks_refusal(file: &[u8], at: usize) -> u8
     if ceilings_good(file, at + 1, n) { 0 } else { 4 }
 }
 
-pub fn locations_refusal(file: &[u8], at: usize) -> u8
+pub(crate) fn locations_refusal(file: &[u8], at: usize) -> u8
     requires { ⌜ (at < 2 ^ 10) × (at ≡ locationsAt (now file)) ⌝ }
     ensures { λ r. ⌜ r ≡ locationsRefusal (now (file .entry)) ⌝ }
 {

@@ -26,7 +26,7 @@ fn first_of(answer: bool, bytes: bool, state: bool) -> Differs {
     }
 }
 
-pub fn prepare(cases: &[u8], at: Cursor, file: &[u8], marks: &mut [u8]) -> Outcome {
+pub(crate) fn prepare(cases: &[u8], at: Cursor, file: &[u8], marks: &mut [u8]) -> Outcome {
     let got = groovepawn::groovepawn_prepare(file, marks);
     let answer = at.long(cases);
     let next = answer.next;
@@ -38,7 +38,7 @@ pub fn prepare(cases: &[u8], at: Cursor, file: &[u8], marks: &mut [u8]) -> Outco
     }
 }
 
-pub fn input(cases: &[u8], at: Cursor, file: &[u8], marks: &[u8], state: &[u16]) -> Outcome {
+pub(crate) fn input(cases: &[u8], at: Cursor, file: &[u8], marks: &[u8], state: &[u16]) -> Outcome {
     let x = at.byte(cases);
     let next = x.next;
     let got = groovepawn::groovepawn_input(file, marks, state, x.value);
@@ -50,7 +50,13 @@ pub fn input(cases: &[u8], at: Cursor, file: &[u8], marks: &[u8], state: &[u16])
     }
 }
 
-pub fn output(cases: &[u8], at: Cursor, file: &[u8], marks: &[u8], state: &mut [u16]) -> Outcome {
+pub(crate) fn output(
+    cases: &[u8],
+    at: Cursor,
+    file: &[u8],
+    marks: &[u8],
+    state: &mut [u16],
+) -> Outcome {
     let x = at.byte(cases);
     let next = x.next;
     let y = next.byte(cases);
@@ -66,7 +72,7 @@ pub fn output(cases: &[u8], at: Cursor, file: &[u8], marks: &[u8], state: &mut [
     }
 }
 
-pub fn run(
+pub(crate) fn run(
     cases: &[u8],
     at: Cursor,
     file: &[u8],
@@ -88,7 +94,7 @@ pub fn run(
     }
 }
 
-pub fn join(cases: &[u8], at: Cursor, a: &[u8], b: &[u8], out: &mut [u8]) -> Outcome {
+pub(crate) fn join(cases: &[u8], at: Cursor, a: &[u8], b: &[u8], out: &mut [u8]) -> Outcome {
     let got = groovepawn::groovepawn_join(a, b, out);
     let answer = at.long(cases);
     let next = answer.next;
@@ -100,7 +106,7 @@ pub fn join(cases: &[u8], at: Cursor, a: &[u8], b: &[u8], out: &mut [u8]) -> Out
     }
 }
 
-pub fn ticks(cases: &[u8], at: Cursor) -> Outcome {
+pub(crate) fn ticks(cases: &[u8], at: Cursor) -> Outcome {
     let milliseconds = at.word(cases);
     let next = milliseconds.next;
     let tick_length = next.word(cases);

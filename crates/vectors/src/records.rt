@@ -146,7 +146,7 @@ fn tallied(cases: &[u8], start: Cursor, total: u32) -> Tally {
 }
 
 // Goes through the file, which begins with `GPV1` and the number of its records, and writes what was found.
-pub fn report(cases: &[u8]) {
+pub(crate) fn report(cases: &[u8]) {
     let magic = Cursor::start().word(cases);
     let next = magic.next;
     let total = next.word(cases);

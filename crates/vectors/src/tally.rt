@@ -14,7 +14,7 @@ pub enum Kind {
 }
 
 impl Kind {
-    pub fn of(number: u8) -> Self {
+    pub(crate) fn of(number: u8) -> Self {
         match number {
             1 => Kind::Prepare,
             2 => Kind::Input,
@@ -106,7 +106,7 @@ pub struct Tally {
 }
 
 impl Tally {
-    pub fn new(next: Cursor) -> Self {
+    pub(crate) fn new(next: Cursor) -> Self {
         Self {
             counts: Counts {
                 prepare: 0,
@@ -122,12 +122,12 @@ impl Tally {
         }
     }
 
-    pub fn is_lost(self) -> bool {
+    pub(crate) fn is_lost(self) -> bool {
         let next = self.next;
         next.lost
     }
 
-    pub fn add(self, number: u32, kind: Kind, differs: Differs, next: Cursor) -> Self {
+    pub(crate) fn add(self, number: u32, kind: Kind, differs: Differs, next: Cursor) -> Self {
         let counts = self.counts.add(kind);
         let first = self.first;
         match differs {
@@ -147,7 +147,7 @@ impl Tally {
     }
 
     // The counts, the first difference, and whether the file was one of stored cases to its end.
-    pub fn print(self, end: usize) {
+    pub(crate) fn print(self, end: usize) {
         let counts = self.counts;
         let first = self.first;
         let next = self.next;
