@@ -9,6 +9,9 @@ mod enforcer;
 mod join;
 mod policy;
 mod prepare;
+// The scope document's numbers, some of which no function here gives.
+#[allow(dead_code)]
+#[path = "../../independent/src/refusal.rs"]
 mod refusal;
 mod rule;
 mod state;

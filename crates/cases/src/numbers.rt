@@ -1,4 +1,7 @@
 // Numbers, the high byte first.
+ghost use mathlib.Core.Path.{_≡_};
+ghost use mathlib.Core.Bool.{false};
+ghost use Rattle.cases.specs.Numbers.{lost, byteFrom, pairFrom, wordFrom, longFrom};
 
 // Where to read next. A lost cursor stays lost.
 pub struct Cursor {
@@ -27,11 +30,15 @@ pub struct Long {
 }
 
 impl Cursor {
-    pub fn start() -> Self {
+    pub fn start() -> Self
+        ensures { λ r. ⌜ r ≡ record { at = 0; lost = false } ⌝ }
+    {
         Self { at: 0, lost: false }
     }
 
-    pub fn lose(self) -> Self {
+    pub fn lose(self) -> Self
+        ensures { λ r. ⌜ r ≡ lost self ⌝ }
+    {
         Self {
             at: self.at,
             lost: true,
@@ -39,7 +46,9 @@ impl Cursor {
     }
 
     // Past the end stands 0.
-    pub fn byte(self, cases: &[u8]) -> Byte {
+    pub fn byte(self, cases: &[u8]) -> Byte
+        ensures { λ r. ⌜ r ≡ byteFrom (now (cases .entry)) self ⌝ }
+    {
         let at = self.at;
         if at < cases.len() {
             Byte {
@@ -57,7 +66,9 @@ impl Cursor {
         }
     }
 
-    pub fn pair(self, cases: &[u8]) -> Pair {
+    pub fn pair(self, cases: &[u8]) -> Pair
+        ensures { λ r. ⌜ r ≡ pairFrom (now (cases .entry)) self ⌝ }
+    {
         let high = self.byte(cases);
         let middle = high.next;
         let low = middle.byte(cases);
@@ -68,7 +79,9 @@ impl Cursor {
         }
     }
 
-    pub fn word(self, cases: &[u8]) -> Word {
+    pub fn word(self, cases: &[u8]) -> Word
+        ensures { λ r. ⌜ r ≡ wordFrom (now (cases .entry)) self ⌝ }
+    {
         let high = self.pair(cases);
         let middle = high.next;
         let low = middle.pair(cases);
@@ -79,7 +92,9 @@ impl Cursor {
         }
     }
 
-    pub fn long(self, cases: &[u8]) -> Long {
+    pub fn long(self, cases: &[u8]) -> Long
+        ensures { λ r. ⌜ r ≡ longFrom (now (cases .entry)) self ⌝ }
+    {
         let high = self.word(cases);
         let middle = high.next;
         let low = middle.word(cases);

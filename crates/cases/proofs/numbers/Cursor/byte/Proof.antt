@@ -1,0 +1,26 @@
+-- `cases::numbers::Cursor::byte` meets its contract.
+use borrow.Author.Needs.{needs}
+use borrow.Author.Tests.{lt-ltb, le-ltb}
+use Rattle.cases.specs.Numbers.{byteFrom}
+use Rattle.cases.proofs.numbers.Cursor.byte.Statement.{statement}
+use Rattle.cases.proofs.numbers.Cursor.byte.Tie as tie
+
+shared-slice-read-t8 : tie.Need-shared-slice-read-t8
+shared-slice-read-t8 c = search needs
+
+add-t9 : tie.Need-add-t9
+add-t9 c = search needs
+
+lose-requires : tie.Need-lose-requires
+lose-requires c κs = search needs
+
+returns : tie.Need-returns
+unfolding byteFrom
+returns c = simp (lt-ltb _ _ (c .before .if1 .taken))
+
+returns-2 : tie.Need-returns-2
+unfolding byteFrom
+returns-2 c = simp (le-ltb _ _ (c .before .if1 .left), c .lose .ensures)
+
+pub byte-spec : {M : Type 1} → statement M
+byte-spec = tie.close (tie.spec shared-slice-read-t8 add-t9 lose-requires returns returns-2)
