@@ -1,5 +1,6 @@
 // The frame of the input: a count and the policy, a count and the events.
 use policy::bytes::pair_at;
+use policy::limits::FILE;
 ghost use mathlib.Core.Path.{_≡_};
 ghost use Prim.Native.Nat.{_<_, _^_};
 ghost use Rattle.console.specs.Frame.{countRefusal, policyFramed, eventsFramed};
@@ -34,7 +35,7 @@ pub(crate) fn policy_frame(input: &[u8]) -> Part
     ensures { λ r. ⌜ r ≡ policyFramed (now (input .entry)) ⌝ }
 {
     Part {
-        refusal: count_refusal(input, 0, 5974),
+        refusal: count_refusal(input, 0, FILE),
         start: 2,
         end: 2 + pair_at(input, 0),
     }

@@ -70,7 +70,7 @@ fn reply(input: &[u8], marks: &mut [u8], released: &mut [u8], text: &mut [u8]) -
 // and afterwards, is nobody's concern. The text is long enough for a verdict and a line for each of 16,384 events.
 pub fn respond(
     input: &[u8],
-    marks: &mut [u8; 65536],
+    marks: &mut [u8; State::STATES],
     released: &mut [u8; 16384],
     text: &mut [u8; 344130],
 ) -> usize

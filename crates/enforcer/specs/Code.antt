@@ -8,6 +8,7 @@ use Rattle.streams.specs.Stream.{Event}
 use Rattle.policy.specs.Rules.{Rule, Policy, Place, fires}
 use Rattle.policy.specs.Number.{four, locationFrom, clocksFrom}
 use Rattle.enforcer.specs.declared.state.State.{State}
+use Rattle.enforcer.specs.declared.state.Limits.{Limits}
 use Rattle.enforcer.specs.declared.next.Step.{Step}
 use Rattle.enforcer.specs.declared.matcher.Found.{Found}
 use Rattle.enforcer.specs.declared.matcher.Found.the-variants as Found
@@ -25,6 +26,10 @@ place clocks s = record { location = s .location; clocks = take clocks (s .clock
 
 abbrev pub stateFrom : Place → State
 stateFrom t = record { location = t .location; clocks = four (t .clocks) }
+
+-- "Clocks: 0 to 4, a two-byte ceiling each, 1 to 1,001. Locations: 1 to 64"; "at most 65,536" states.
+abbrev pub limitsSaid : Limits
+limitsSaid = record { locations = 64; clocks = 4; ceiling = 1001; states = 65536 }
 
 -- "The start state is location 0 with every clock 0."
 abbrev pub startState : State

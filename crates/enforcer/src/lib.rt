@@ -19,4 +19,5 @@ pub use reach::own_of;
 pub use reach::values;
 pub use runs::Ran;
 pub use runs::run;
+pub use state::Limits;
 pub use state::State;

@@ -19,10 +19,14 @@ pub struct Step {
 }
 
 // Each clock goes to 0 if the mask names it, else up by one and no further than its ceiling. An unused clock stays at its ceiling 0.
-fn advanced(mask: usize, ceilings: [u16; 4], values: [u16; 4]) -> [u16; 4]
+fn advanced(
+    mask: usize,
+    ceilings: [u16; State::CLOCKS],
+    values: [u16; State::CLOCKS],
+) -> [u16; State::CLOCKS]
     ensures { λ r. ⌜ r ≡ advance stopped mask ceilings values ⌝ }
 {
-    let mut next = [0u16; 4];
+    let mut next = [0u16; State::CLOCKS];
     let mut rest = mask;
     let mut i = 0;
     while i < State::CLOCKS {
@@ -47,7 +51,7 @@ impl State {
         self,
         rules: &[u8],
         count: usize,
-        ceilings: [u16; 4],
+        ceilings: [u16; State::CLOCKS],
         clocks: usize,
         x: u8,
         y: u8,

@@ -17,6 +17,9 @@ ghost use Rattle.enforcer.specs.Promises.{answerSaid};
 ghost use Rattle.groovepawn.specs.Words.{answerWord, stateIn, stateWords, oddRefusal};
 ghost use Rattle.groovepawn.specs.Calls.{PrepareCall, InputCall, OutputCall, RunCall, JoinCall, TicksCall};
 
+// How many numbers a state is.
+const NUMBERS: usize = State::CLOCKS + 1;
+
 // The state in five numbers.
 fn state_of(state: &[u16]) -> State
     requires { ⌜ length (now state) ≡ 5 ⌝ }
@@ -77,7 +80,7 @@ pub extern "C" fn groovepawn_prepare(file: &[u8], marks: &mut [u8]) -> u64
 pub extern "C" fn groovepawn_input(file: &[u8], marks: &[u8], state: &[u16], x: u8) -> u32
     ensures { λ r. ⌜ InputCall (now (file .entry)) (now (marks .entry)) (now (state .entry)) x r ⌝ }
 {
-    if state.len() != 5 {
+    if state.len() != NUMBERS {
         return odd_refusal(file, marks, true) as u32;
     }
     answer_word(input_half(file, marks, state_of(state), x))
@@ -93,7 +96,7 @@ pub extern "C" fn groovepawn_output(
 ) -> u32
     ensures { λ r. ⌜ OutputCall (now (file .entry)) (now (marks .entry)) (now (state .entry)) x y r (now (state .exit)) ⌝ }
 {
-    if state.len() != 5 {
+    if state.len() != NUMBERS {
         return odd_refusal(file, marks, true) as u32;
     }
     let given = state_of(state);
@@ -114,7 +117,7 @@ pub extern "C" fn groovepawn_run(
 ) -> u64
     ensures { λ r. ⌜ RunCall (now (file .entry)) (now (marks .entry)) (now (state .entry)) (now (events .entry)) (now (released .entry)) r (now (state .exit)) (now (released .exit)) ⌝ }
 {
-    if state.len() != 5 {
+    if state.len() != NUMBERS {
         return odd_refusal(file, marks, events.len() <= released.len()) as u64;
     }
     let given = state_of(state);

@@ -4,6 +4,9 @@ use crate::lay::put;
 use crate::lay::put_pair;
 use crate::lay::put_zeros;
 use policy::Layout;
+use policy::limits::CLOCKS;
+use policy::limits::LOCATIONS;
+use policy::limits::STATES;
 ghost use mathlib.Core.Path.{_≡_};
 ghost use Prim.Native.Nat.{_+_, _*_, _≤_, _<_, _^_};
 ghost use lib.ListN.{length};
@@ -48,13 +51,13 @@ pub(crate) fn within_limits(x: Layout, y: Layout) -> bool
     requires { ⌜ (x .states ≤ 65536) × (y .states ≤ 65536) ⌝ }
     ensures { λ r. ⌜ r ≡ limits x y ⌝ }
 {
-    if 64 < x.locations * y.locations {
+    if LOCATIONS < x.locations * y.locations {
         return false;
     }
-    if 4 < x.clocks + y.clocks {
+    if CLOCKS < x.clocks + y.clocks {
         return false;
     }
-    x.states * y.states <= 65536
+    x.states * y.states <= STATES
 }
 
 // How many bytes stand before the join's rules.

@@ -10,6 +10,7 @@ use crate::counts::within_limits;
 use crate::rules::lay_rules;
 use policy::Layout;
 use policy::check;
+use policy::limits::RULES;
 ghost use mathlib.Core.Path.{_≡_};
 ghost use Prim.Native.Nat.{_+_, _≤_, _<_, _^_};
 ghost use lib.ListN.{length};
@@ -62,7 +63,7 @@ fn join_within(a: &[u8], x: Layout, b: &[u8], y: Layout, out: &mut [u8]) -> Join
 {
     let laid = rules_length(a, x, b, y, out);
     let rules = laid / (7 + 4 * (x.clocks + y.clocks));
-    if 256 < rules {
+    if RULES < rules {
         return Joined::Refused(13);
     }
     if out.len() < counts_length(x, y) + laid {

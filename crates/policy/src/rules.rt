@@ -2,6 +2,8 @@
 use crate::bytes::byte_within;
 use crate::bytes::pair_at;
 use crate::bytes::pair_within;
+use crate::limits::CLOCKS;
+use crate::limits::RULES;
 use crate::sections::section_refusal;
 ghost use mathlib.Core.Path.{_≡_};
 ghost use Prim.Native.Nat.{_+_, _*_, _≤_, _<_, _^_};
@@ -16,7 +18,7 @@ pub struct Shape {
     pub outputs: usize,
     pub clocks: usize,
     pub locations: usize,
-    pub ceilings: [u16; 4],
+    pub ceilings: [u16; CLOCKS],
 }
 
 // No care bit is beyond the signals, and no value bit outside the care bits.
@@ -69,7 +71,7 @@ fn head_good(section: &[u8], at: usize, shape: Shape, before: usize) -> bool
 }
 
 // The bounds from `at` on keep the rules, one for each clock.
-fn bounds_good(section: &[u8], at: usize, ceilings: [u16; 4], clocks: usize) -> bool
+fn bounds_good(section: &[u8], at: usize, ceilings: [u16; CLOCKS], clocks: usize) -> bool
     requires { ⌜ (at < 2 ^ 16) × (clocks ≤ 4) ⌝ }
     requires { ⌜ at + 4 * clocks ≤ length (now section) ⌝ }
     ensures { λ r. ⌜ r ≡ boundsGood (take clocks ceilings) (boundsFrom (now (section .entry)) at clocks) ⌝ }
@@ -140,7 +142,7 @@ pub(crate) fn rules_section_refusal(file: &[u8], at: usize, shape: Shape) -> u8
 {
     let n = pair_at(file, at);
     let size = 7 + 4 * shape.clocks;
-    let r = section_refusal(file, at, 2, n, 0, 256, size);
+    let r = section_refusal(file, at, 2, n, 0, RULES, size);
     if r != 0 {
         return r;
     }

@@ -1,6 +1,10 @@
 // The sections before the rules: counts, limits, lengths and contents.
 use crate::bytes::byte_at;
 use crate::bytes::pair_at;
+use crate::limits::CEILING;
+use crate::limits::CLOCKS;
+use crate::limits::LOCATIONS;
+use crate::limits::SIGNALS;
 ghost use mathlib.Core.Path.{_≡_};
 ghost use Prim.Native.Nat.{ℕ, _+_, _*_, _≤_, _<_, _^_};
 ghost use lib.Dec.{eqb};
@@ -100,7 +104,7 @@ pub(crate) fn ceilings_good(file: &[u8], at: usize, n: usize) -> bool
         if c < 1 {
             return false;
         }
-        if 1001 < c {
+        if CEILING < c {
             return false;
         }
         i += 1;
@@ -109,11 +113,11 @@ pub(crate) fn ceilings_good(file: &[u8], at: usize, n: usize) -> bool
 }
 
 // The n ceilings from `at` on, then 0.
-pub(crate) fn ceilings_of(file: &[u8], at: usize, n: usize) -> [u16; 4]
+pub(crate) fn ceilings_of(file: &[u8], at: usize, n: usize) -> [u16; CLOCKS]
     requires { ⌜ (at < 2 ^ 16) × (n ≤ 4) ⌝ }
     ensures { λ r. ⌜ r ≡ four (pairsFrom (now (file .entry)) at n) ⌝ }
 {
-    let mut ceilings = [0u16; 4];
+    let mut ceilings = [0u16; CLOCKS];
     let mut i = 0;
     while i < n {
         ceilings[i] = pair_at(file, at + 2 * i) as u16;
@@ -123,7 +127,7 @@ pub(crate) fn ceilings_of(file: &[u8], at: usize, n: usize) -> [u16; 4]
 }
 
 // How many states there are: locations × the product of (ceiling + 1).
-pub(crate) fn states_of(ceilings: [u16; 4], clocks: usize, locations: usize) -> usize
+pub(crate) fn states_of(ceilings: [u16; CLOCKS], clocks: usize, locations: usize) -> usize
     requires { ⌜ (clocks ≤ 4) × (locations ≤ 64) × ((i : ℕ) → i < clocks → getD ceilings i 0 ≤ 1001) ⌝ }
     ensures { λ r. ⌜ r ≡ statesOf ceilings clocks locations ⌝ }
 {
@@ -140,7 +144,7 @@ pub(crate) fn inputs_refusal(file: &[u8]) -> u8
     ensures { λ r. ⌜ r ≡ inputsRefusal (now (file .entry)) ⌝ }
 {
     let n = byte_at(file, 0);
-    let r = section_refusal(file, 0, 1, n, 0, 4, 1);
+    let r = section_refusal(file, 0, 1, n, 0, SIGNALS, 1);
     if r != 0 {
         return r;
     }
@@ -156,7 +160,7 @@ pub(crate) fn outputs_refusal(file: &[u8], at: usize, inputs: usize) -> u8
     ensures { λ r. ⌜ r ≡ outputsRefusal (now (file .entry)) ⌝ }
 {
     let n = byte_at(file, at);
-    let r = section_refusal(file, at, 1, n, 0, 4, 1);
+    let r = section_refusal(file, at, 1, n, 0, SIGNALS, 1);
     if r != 0 {
         return r;
     }
@@ -172,7 +176,7 @@ pub(crate) fn clocks_refusal(file: &[u8], at: usize) -> u8
     ensures { λ r. ⌜ r ≡ clocksRefusal (now (file .entry)) ⌝ }
 {
     let n = byte_at(file, at);
-    let r = section_refusal(file, at, 1, n, 0, 4, 2);
+    let r = section_refusal(file, at, 1, n, 0, CLOCKS, 2);
     if r != 0 {
         return r;
     }
@@ -184,7 +188,7 @@ pub(crate) fn locations_refusal(file: &[u8], at: usize) -> u8
     ensures { λ r. ⌜ r ≡ locationsRefusal (now (file .entry)) ⌝ }
 {
     let n = byte_at(file, at);
-    let r = section_refusal(file, at, 1, n, 1, 64, 1);
+    let r = section_refusal(file, at, 1, n, 1, LOCATIONS, 1);
     if r != 0 {
         return r;
     }

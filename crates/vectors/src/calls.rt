@@ -1,5 +1,5 @@
 // One call of each kind, and what differs afterwards from what the record says.
-use cases::Cursor;
+use crate::numbers::Cursor;
 
 pub enum Differs {
     Nothing,

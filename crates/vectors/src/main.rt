@@ -1,7 +1,10 @@
 // Puts the stored cases to the entries for a controller in C, and writes how many there were of each kind and how many came out different.
 // Then the same for a file of wrong expectations, all of which must come out different.
 mod calls;
+mod numbers;
 mod records;
+mod states;
+mod strings;
 mod tally;
 
 use libc::STDOUT_FILENO;

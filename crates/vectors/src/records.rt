@@ -2,9 +2,9 @@
 use crate::calls;
 use crate::calls::Differs;
 use crate::calls::Outcome;
+use crate::numbers::Cursor;
 use crate::tally::Kind;
 use crate::tally::Tally;
-use cases::Cursor;
 
 // The rest of a record of a run.
 fn run_record(cases: &[u8], at: Cursor, file: &[u8], marks: &[u8], state: &mut [u16]) -> Outcome {

@@ -1,6 +1,6 @@
 // What has been found so far.
 use crate::calls::Differs;
-use cases::Cursor;
+use crate::numbers::Cursor;
 use libc::STDOUT_FILENO;
 
 pub enum Kind {

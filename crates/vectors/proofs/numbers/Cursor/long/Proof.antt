@@ -1,8 +1,8 @@
--- `cases::numbers::Cursor::long` meets its contract: the second number is read where the first ended.
+-- `vectors::numbers::Cursor::long` meets its contract: the second number is read where the first ended.
 use borrow.Author.Needs.{needs}
-use Rattle.cases.specs.Numbers.{longFrom}
-use Rattle.cases.proofs.numbers.Cursor.long.Statement.{statement}
-use Rattle.cases.proofs.numbers.Cursor.long.Tie as tie
+use Rattle.vectors.specs.Numbers.{longFrom}
+use Rattle.vectors.proofs.numbers.Cursor.long.Statement.{statement}
+use Rattle.vectors.proofs.numbers.Cursor.long.Tie as tie
 
 word-requires : tie.Need-word-requires
 word-requires c κs = search needs

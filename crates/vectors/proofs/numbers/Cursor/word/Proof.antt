@@ -1,8 +1,8 @@
--- `cases::numbers::Cursor::word` meets its contract: the second number is read where the first ended.
+-- `vectors::numbers::Cursor::word` meets its contract: the second number is read where the first ended.
 use borrow.Author.Needs.{needs}
-use Rattle.cases.specs.Numbers.{wordFrom}
-use Rattle.cases.proofs.numbers.Cursor.word.Statement.{statement}
-use Rattle.cases.proofs.numbers.Cursor.word.Tie as tie
+use Rattle.vectors.specs.Numbers.{wordFrom}
+use Rattle.vectors.proofs.numbers.Cursor.word.Statement.{statement}
+use Rattle.vectors.proofs.numbers.Cursor.word.Tie as tie
 
 pair-requires : tie.Need-pair-requires
 pair-requires c κs = search needs

@@ -1,9 +1,9 @@
 // Strings, which are stored in pieces.
-use crate::Compared;
-use crate::Taken;
+use crate::numbers::Compared;
 use crate::numbers::Cursor;
+use crate::numbers::Taken;
 ghost use Prim.Native.Nat.{_<_};
-ghost use Rattle.cases.specs.Counts.{Counts};
+ghost use Rattle.vectors.specs.Counts.{Counts};
 
 // The piece that is being read: how many bytes it has yet to make, each its own or all the same one.
 struct Pieces {
@@ -91,7 +91,7 @@ impl Pieces {
 
 impl Cursor {
     // The next string, unpacked to the start of `into`.
-    pub fn string(self, cases: &[u8], into: &mut [u8]) -> Taken
+    pub(crate) fn string(self, cases: &[u8], into: &mut [u8]) -> Taken
         ensures { λ r. ⌜ Counts (r .count) (now (into .exit)) ⌝ }
     {
         let head = self.word(cases);
@@ -118,7 +118,7 @@ impl Cursor {
     }
 
     // The next string, which is as long as `held`, compared with what that holds.
-    pub fn same_string(self, cases: &[u8], held: &[u8]) -> Compared {
+    pub(crate) fn same_string(self, cases: &[u8], held: &[u8]) -> Compared {
         let head = self.word(cases);
         let start = head.next;
         if head.value as usize != held.len() {

@@ -1,21 +1,23 @@
--- `cases::Cursor::same_state` is safe and ends. Nothing has to hold from turn to turn.
+-- `vectors::numbers::Cursor::state` meets its contract. The invariant: `into` keeps its length.
+use mathlib.Core.Path.{_≡_}
 use Prim.Native.Nat.{_-_}
 use lib.ListN.{length}
 use borrow.Author.Needs.{needs}
-use Rattle.cases.proofs.numbers.Cursor.same_state.Statement.{statement}
-use Rattle.cases.proofs.numbers.Cursor.same_state.Tie as tie
+use Rattle.vectors.specs.Counts.{counts}
+use Rattle.vectors.proofs.numbers.Cursor.state.Statement.{statement}
+use Rattle.vectors.proofs.numbers.Cursor.state.Tie as tie
 
 abbrev Inv-loop : tie.InvT-loop
-Inv-loop cases held next₀ same₀ i₀ next same i = Unit {0}
+Inv-loop cases into₀ count next₀ i₀ into next i = length into ≡ length into₀
 
 abbrev μ-loop : tie.MeasureT-loop
-μ-loop cases held next₀ same₀ i₀ next same i = length held - i
+μ-loop cases into₀ count next₀ i₀ into next i = count - i
 
 byte-requires : tie.Need-byte-requires Inv-loop μ-loop
 byte-requires c κs = search needs
 
-cast-if1 : tie.Need-cast-if1 Inv-loop μ-loop
-cast-if1 c = search needs
+cast-count : tie.Need-cast-count Inv-loop μ-loop
+cast-count c = search needs
 
 lose-requires : tie.Need-lose-requires Inv-loop μ-loop
 lose-requires c κs = search needs
@@ -29,11 +31,11 @@ loop-holds c = search needs
 pair-requires : tie.Need-pair-requires Inv-loop μ-loop
 pair-requires c κs = search needs
 
-mul-if2 : tie.Need-mul-if2 Inv-loop μ-loop
-mul-if2 c = search needs
+mul-into : tie.Need-mul-into Inv-loop μ-loop
+mul-into c = search needs
 
-shared-slice-read-if2 : tie.Need-shared-slice-read-if2 Inv-loop μ-loop
-shared-slice-read-if2 c = search needs
+slice-write-into : tie.Need-slice-write-into Inv-loop μ-loop
+slice-write-into c = search needs
 
 add-i : tie.Need-add-i Inv-loop μ-loop
 add-i c = search needs
@@ -44,24 +46,28 @@ loop-less c = search needs
 loop-again : tie.Need-loop-again Inv-loop μ-loop
 loop-again c = search needs
 
-returns-2 : tie.Need-returns-2 Inv-loop μ-loop
-returns-2 c = search needs
+same-length : tie.Need-same-length Inv-loop μ-loop
+same-length c = search needs
 
-pub same-state-spec : {M : Type 1} → statement M
-same-state-spec =
+returns-2 : tie.Need-returns-2 Inv-loop μ-loop
+returns-2 c = counts _ _ (search needs)
+
+pub state-spec : {M : Type 1} → statement M
+state-spec =
     tie.close
     (tie.spec
     Inv-loop
     μ-loop
     byte-requires
-    cast-if1
+    cast-count
     lose-requires
     returns
     loop-holds
     pair-requires
-    mul-if2
-    shared-slice-read-if2
+    mul-into
+    slice-write-into
     add-i
     loop-less
     loop-again
+    same-length
     returns-2)

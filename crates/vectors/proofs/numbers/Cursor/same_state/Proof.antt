@@ -1,18 +1,18 @@
--- `cases::Cursor::same_string` is safe and ends. Nothing has to hold from turn to turn.
+-- `vectors::numbers::Cursor::same_state` is safe and ends. Nothing has to hold from turn to turn.
 use Prim.Native.Nat.{_-_}
 use lib.ListN.{length}
 use borrow.Author.Needs.{needs}
-use Rattle.cases.proofs.numbers.Cursor.same_string.Statement.{statement}
-use Rattle.cases.proofs.numbers.Cursor.same_string.Tie as tie
+use Rattle.vectors.proofs.numbers.Cursor.same_state.Statement.{statement}
+use Rattle.vectors.proofs.numbers.Cursor.same_state.Tie as tie
 
 abbrev Inv-loop : tie.InvT-loop
-Inv-loop cases held pieces₀ same₀ i₀ pieces same i = Unit {0}
+Inv-loop cases held next₀ same₀ i₀ next same i = Unit {0}
 
 abbrev μ-loop : tie.MeasureT-loop
-μ-loop cases held pieces₀ same₀ i₀ pieces same i = length held - i
+μ-loop cases held next₀ same₀ i₀ next same i = length held - i
 
-word-requires : tie.Need-word-requires Inv-loop μ-loop
-word-requires c κs = search needs
+byte-requires : tie.Need-byte-requires Inv-loop μ-loop
+byte-requires c κs = search needs
 
 cast-if1 : tie.Need-cast-if1 Inv-loop μ-loop
 cast-if1 c = search needs
@@ -23,14 +23,14 @@ lose-requires c κs = search needs
 returns : tie.Need-returns Inv-loop μ-loop
 returns c = search needs
 
-new-requires : tie.Need-new-requires Inv-loop μ-loop
-new-requires c κs = search needs
-
 loop-holds : tie.Need-loop-holds Inv-loop μ-loop
 loop-holds c = search needs
 
-step-requires : tie.Need-step-requires Inv-loop μ-loop
-step-requires c κs = search needs
+pair-requires : tie.Need-pair-requires Inv-loop μ-loop
+pair-requires c κs = search needs
+
+mul-if2 : tie.Need-mul-if2 Inv-loop μ-loop
+mul-if2 c = search needs
 
 shared-slice-read-if2 : tie.Need-shared-slice-read-if2 Inv-loop μ-loop
 shared-slice-read-if2 c = search needs
@@ -44,28 +44,24 @@ loop-less c = search needs
 loop-again : tie.Need-loop-again Inv-loop μ-loop
 loop-again c = search needs
 
-end-requires : tie.Need-end-requires Inv-loop μ-loop
-end-requires c κs = search needs
-
 returns-2 : tie.Need-returns-2 Inv-loop μ-loop
 returns-2 c = search needs
 
-pub same-string-spec : {M : Type 1} → statement M
-same-string-spec =
+pub same-state-spec : {M : Type 1} → statement M
+same-state-spec =
     tie.close
     (tie.spec
     Inv-loop
     μ-loop
-    word-requires
+    byte-requires
     cast-if1
     lose-requires
     returns
-    new-requires
     loop-holds
-    step-requires
+    pair-requires
+    mul-if2
     shared-slice-read-if2
     add-i
     loop-less
     loop-again
-    end-requires
     returns-2)

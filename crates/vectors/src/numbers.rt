@@ -1,7 +1,8 @@
-// Numbers, the high byte first.
+// The stored cases, read from a file's bytes. What is read stands in independent/README.md; every reader takes any bytes, and a file
+// that ends too early, or says what cannot be, loses the cursor for good. Here: numbers, the high byte first.
 ghost use mathlib.Core.Path.{_≡_};
 ghost use mathlib.Core.Bool.{false};
-ghost use Rattle.cases.specs.Numbers.{lost, byteFrom, pairFrom, wordFrom, longFrom};
+ghost use Rattle.vectors.specs.Numbers.{lost, byteFrom, pairFrom, wordFrom, longFrom};
 
 // Where to read next. A lost cursor stays lost.
 pub struct Cursor {
@@ -29,14 +30,26 @@ pub struct Long {
     pub next: Cursor,
 }
 
+// What was read into a lent slice: how many places of it, from its start.
+pub struct Taken {
+    pub count: usize,
+    pub next: Cursor,
+}
+
+// Whether what was read is just what a slice holds.
+pub struct Compared {
+    pub same: bool,
+    pub next: Cursor,
+}
+
 impl Cursor {
-    pub fn start() -> Self
+    pub(crate) fn start() -> Self
         ensures { λ r. ⌜ r ≡ record { at = 0; lost = false } ⌝ }
     {
         Self { at: 0, lost: false }
     }
 
-    pub fn lose(self) -> Self
+    pub(crate) fn lose(self) -> Self
         ensures { λ r. ⌜ r ≡ lost self ⌝ }
     {
         Self {
@@ -46,7 +59,7 @@ impl Cursor {
     }
 
     // Past the end stands 0.
-    pub fn byte(self, cases: &[u8]) -> Byte
+    pub(crate) fn byte(self, cases: &[u8]) -> Byte
         ensures { λ r. ⌜ r ≡ byteFrom (now (cases .entry)) self ⌝ }
     {
         let at = self.at;
@@ -66,7 +79,7 @@ impl Cursor {
         }
     }
 
-    pub fn pair(self, cases: &[u8]) -> Pair
+    pub(crate) fn pair(self, cases: &[u8]) -> Pair
         ensures { λ r. ⌜ r ≡ pairFrom (now (cases .entry)) self ⌝ }
     {
         let high = self.byte(cases);
@@ -79,7 +92,7 @@ impl Cursor {
         }
     }
 
-    pub fn word(self, cases: &[u8]) -> Word
+    pub(crate) fn word(self, cases: &[u8]) -> Word
         ensures { λ r. ⌜ r ≡ wordFrom (now (cases .entry)) self ⌝ }
     {
         let high = self.pair(cases);
@@ -92,7 +105,7 @@ impl Cursor {
         }
     }
 
-    pub fn long(self, cases: &[u8]) -> Long
+    pub(crate) fn long(self, cases: &[u8]) -> Long
         ensures { λ r. ⌜ r ≡ longFrom (now (cases .entry)) self ⌝ }
     {
         let high = self.word(cases);

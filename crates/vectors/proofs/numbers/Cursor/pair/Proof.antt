@@ -1,8 +1,8 @@
--- `cases::numbers::Cursor::pair` meets its contract: the second number is read where the first ended.
+-- `vectors::numbers::Cursor::pair` meets its contract: the second number is read where the first ended.
 use borrow.Author.Needs.{needs}
-use Rattle.cases.specs.Numbers.{pairFrom}
-use Rattle.cases.proofs.numbers.Cursor.pair.Statement.{statement}
-use Rattle.cases.proofs.numbers.Cursor.pair.Tie as tie
+use Rattle.vectors.specs.Numbers.{pairFrom}
+use Rattle.vectors.proofs.numbers.Cursor.pair.Statement.{statement}
+use Rattle.vectors.proofs.numbers.Cursor.pair.Tie as tie
 
 byte-requires : tie.Need-byte-requires
 byte-requires c κs = search needs

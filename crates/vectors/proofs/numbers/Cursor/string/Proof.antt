@@ -1,11 +1,11 @@
--- `cases::Cursor::string` meets its contract. The invariant: `into` keeps its length.
+-- `vectors::numbers::Cursor::string` meets its contract. The invariant: `into` keeps its length.
 use mathlib.Core.Path.{_≡_}
 use Prim.Native.Nat.{_-_}
 use lib.ListN.{length}
 use borrow.Author.Needs.{needs}
-use Rattle.cases.specs.Counts.{counts}
-use Rattle.cases.proofs.numbers.Cursor.string.Statement.{statement}
-use Rattle.cases.proofs.numbers.Cursor.string.Tie as tie
+use Rattle.vectors.specs.Counts.{counts}
+use Rattle.vectors.proofs.numbers.Cursor.string.Statement.{statement}
+use Rattle.vectors.proofs.numbers.Cursor.string.Tie as tie
 
 abbrev Inv-loop : tie.InvT-loop
 Inv-loop cases into₀ count pieces₀ i₀ into pieces i = length into ≡ length into₀

@@ -1,9 +1,9 @@
--- `cases::numbers::Cursor::byte` meets its contract.
+-- `vectors::numbers::Cursor::byte` meets its contract.
 use borrow.Author.Needs.{needs}
 use borrow.Author.Tests.{lt-ltb, le-ltb}
-use Rattle.cases.specs.Numbers.{byteFrom}
-use Rattle.cases.proofs.numbers.Cursor.byte.Statement.{statement}
-use Rattle.cases.proofs.numbers.Cursor.byte.Tie as tie
+use Rattle.vectors.specs.Numbers.{byteFrom}
+use Rattle.vectors.proofs.numbers.Cursor.byte.Statement.{statement}
+use Rattle.vectors.proofs.numbers.Cursor.byte.Tie as tie
 
 shared-slice-read-t8 : tie.Need-shared-slice-read-t8
 shared-slice-read-t8 c = search needs

@@ -4,11 +4,11 @@ use mathlib.Core.List.{List}
 use Prim.Native.Nat.{ℕ, _+_, _*_}
 use lib.Dec.{ltb}
 use lib.ListN.{length, getD}
-use Rattle.cases.specs.declared.numbers.Cursor.{Cursor}
-use Rattle.cases.specs.declared.numbers.Byte.{Byte}
-use Rattle.cases.specs.declared.numbers.Pair.{Pair}
-use Rattle.cases.specs.declared.numbers.Word.{Word}
-use Rattle.cases.specs.declared.numbers.Long.{Long}
+use Rattle.vectors.specs.declared.numbers.Cursor.{Cursor}
+use Rattle.vectors.specs.declared.numbers.Byte.{Byte}
+use Rattle.vectors.specs.declared.numbers.Pair.{Pair}
+use Rattle.vectors.specs.declared.numbers.Word.{Word}
+use Rattle.vectors.specs.declared.numbers.Long.{Long}
 
 abbrev pub lost : Cursor → Cursor
 lost c = record { at = c .at; lost = true }

@@ -1,12 +1,12 @@
 // States: how many numbers, then the numbers.
-use crate::Compared;
-use crate::Taken;
+use crate::numbers::Compared;
 use crate::numbers::Cursor;
-ghost use Rattle.cases.specs.Counts.{Counts};
+use crate::numbers::Taken;
+ghost use Rattle.vectors.specs.Counts.{Counts};
 
 impl Cursor {
     // The numbers of the next state, at the start of `into`.
-    pub fn state(self, cases: &[u8], into: &mut [u16]) -> Taken
+    pub(crate) fn state(self, cases: &[u8], into: &mut [u16]) -> Taken
         ensures { λ r. ⌜ Counts (r .count) (now (into .exit)) ⌝ }
     {
         let head = self.byte(cases);
@@ -29,7 +29,7 @@ impl Cursor {
     }
 
     // The next state, which has as many numbers as `held`, compared with what that holds.
-    pub fn same_state(self, cases: &[u8], held: &[u16]) -> Compared {
+    pub(crate) fn same_state(self, cases: &[u8], held: &[u16]) -> Compared {
         let head = self.byte(cases);
         let mut next = head.next;
         if head.value as usize != held.len() {
