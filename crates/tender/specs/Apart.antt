@@ -1,8 +1,9 @@
 -- "Trimming A and B apart and joining the results: each may be live where together they are not."
-use mathlib.Core.Path.{_≡_, refl}
+use mathlib.Core.Path.{_≡_, refl, ap}
 use mathlib.Core.List.{List, [], _∷_}
 use mathlib.Core.Option.{bind}
 use Prim.Native.Nat.{ℕ}
+use lib.ListN.{take, replicate}
 use Rattle.streams.specs.Answer.{refused, gives}
 use Rattle.streams.specs.Choose.{any}
 use Rattle.policy.specs.Rules.{step, decides, fires, hold, within, taken, advance}
@@ -16,7 +17,8 @@ use Rattle.prepare.specs.Table.{roundsBy, roundBy, goesOn, tab}
 use Rattle.prepare.specs.Entry.{prepareOf}
 use Rattle.join.specs.Join.{of, agree, target, both, pair, each, cell, rows, join}
 use Rattle.join.specs.Masks.{alike}
-use Rattle.join.specs.Entry.{joinedFile}
+use Rattle.join.specs.Entry.{sameTags, sameSignals, joinFits, joinedFile, joinRefusal, joinOf, joinedOut}
+use Rattle.tender.specs.Demand3.{Joined, joined-is}
 
 -- The credit K is always on; it is always off.
 abbrev pub alwaysOn : List ℕ
@@ -31,14 +33,23 @@ alwaysOff =
     ∷ 0x00 ∷ 0x00 ∷ 0x00 ∷ 0x01 ∷ 0x01 ∷ 0x00 ∷ 0xFF
     ∷ 0x00 ∷ 0x00 ∷ 0x00 ∷ 0x00 ∷ 0x00 ∷ 0x00 ∷ 0x00 ∷ []
 
--- Each part has its one state live, and nothing is trimmed; the join is hopeless.
-pub live-apart :
+-- Their join is made,
+pub apart-made : Joined alwaysOn alwaysOff (take 29 (joinedOut alwaysOn alwaysOff (replicate 29 0)))
+unfolding
+    joinOf joinRefusal joinedFile sameSignals sameTags joinFits join rows cell each pair both agree target of alike bytesOf countsBytes pairsBytes
+    rulesBytes ruleBytes boundsBytes refusalOf inputsRefusal outputsRefusal clocksRefusal locationsRefusal rulesSectionRefusal sectionRefusal tagsGood
+    among all rulesRefusal ruleRefusal headGood maskGood boundsGood boundGood policyOf outputsAt clocksAt locationsAt rulesAt rulesStart rulesEnd
+    pairsFrom rulesFrom ruleFrom boundsFrom statesOf
+apart-made = record { slice = replicate 29 0; size = 29; given = refl; written = refl }
+
+-- and wherever it is made: each part has its one state live, and nothing is trimmed; the join is hopeless.
+pub live-apart : {f : List ℕ} → Joined alwaysOn alwaysOff f →
     (prepareOf alwaysOn (0 ∷ []) ≡ gives (record { verdict = 0; states = 1; live = 1 }))
     × (prepareOf alwaysOff (0 ∷ []) ≡ gives (record { verdict = 0; states = 1; live = 1 }))
-    × (prepareOf (joinedFile alwaysOn alwaysOff []) (0 ∷ []) ≡ refused 11)
+    × (prepareOf f (0 ∷ []) ≡ refused 11)
 unfolding
     prepareOf marksRefusal joinedFile join rows cell each pair both agree target of alike bytesOf countsBytes pairsBytes rulesBytes ruleBytes boundsBytes
     refusalOf inputsRefusal outputsRefusal clocksRefusal locationsRefusal rulesSectionRefusal sectionRefusal tagsGood among all rulesRefusal ruleRefusal
     headGood maskGood boundsGood boundGood policyOf outputsAt clocksAt locationsAt rulesAt rulesStart rulesEnd pairsFrom rulesFrom ruleFrom boundsFrom
     statesOf numberFrom locationFrom clocksFrom mayStand reaches step decides fires hold within taken advance bind any roundsBy roundBy goesOn tab
-live-apart = (refl, refl, refl)
+live-apart j = (refl, refl, ap (λ (f : List ℕ). prepareOf f (0 ∷ [])) (joined-is j))

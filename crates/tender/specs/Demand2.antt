@@ -176,7 +176,7 @@ after b r = record { refusal = r .refusal; count = suc (r .count); state = r .st
 
 -- One event b, of x = b % 16 and y = b / 16, by the two halves and by the run, whatever the marks and the state are: the run releases the input of the
 -- input half with the output of the output half, and ends in the state that the output half hands back. From there it goes on with the events that
--- follow, so that a whole run is the two halves tick by tick.
+-- follow. That is one tick: a whole stream, tick after tick, is in specs/Halves.antt.
 pub record Agree (file marks : List ℕ) (s : Place) (b : ℕ) : Type 0 where
   pub x : ℕ
   pub y : ℕ

@@ -11,8 +11,8 @@ use Rattle.streams.specs.Answer.{refused, gives, given-only}
 use Rattle.streams.specs.Stream.{Stream, _∩_}
 use Rattle.streams.specs.Enforced.{Enforced}
 use Rattle.streams.specs.Corrections.{corrections}
-use Rattle.streams.specs.Laws.{not-both, enforced-one}
-use Rattle.policy.specs.Rules.{Policy, Place, Runs, Permits}
+use Rattle.streams.specs.Laws.{_⊆_, not-both, enforced-one}
+use Rattle.policy.specs.Rules.{Policy, Place, Fits, Runs, Permits}
 use Rattle.policy.specs.Number.{states, statesOf}
 use Rattle.policy.specs.File.{policyOf, outputsAt, clocksAt, locationsAt, rulesAt, rulesStart, rulesEnd, pairsFrom, rulesFrom, ruleFrom, boundsFrom}
 use Rattle.policy.specs.Check.{refusalOf, inputsRefusal, outputsRefusal, clocksRefusal, locationsRefusal, rulesSectionRefusal, sectionRefusal, tagsGood, among, all, rulesRefusal, ruleRefusal, headGood, maskGood, boundsGood, boundGood}
@@ -77,6 +77,13 @@ made {a} {b} {f} j =
       tags-second = t ∙ ap₂ (λ (x y : List ℕ). (x, y)) (i .inputs) (i .outputs);
       permits = λ w. rw policy (permits-both p q g h i w, λ z. permits-join p q g h i w (z .0) (z .1));
     }
+
+-- Its file is the joined one, whatever the slice held before.
+pub joined-is : {a b f : List ℕ} → Joined a b f → f ≡ joinedFile a b []
+unfolding joinOf joinedFile
+joined-is {a} {b} j =
+    let only = given-only (joinRefusal a b (j .slice)) (length (joinedFile a b (j .slice))) (j .size) (j .given) in
+    j .written ∙ ap (λ (n : ℕ). take n (joinedOut a b (j .slice))) (sym (only .1)) ∙ joined-written a b (j .slice) (only .0)
 
 -- "the join permits exactly the streams that all its parts permit."
 pub permits-exactly : {a b f : List ℕ} → Joined a b f → (w : Stream) → Permits (policyOf f) w ↔ (Permits (policyOf a) ∩ Permits (policyOf b)) w
@@ -210,25 +217,47 @@ repetition j = let s = made j in permits-alike _ _ (s .passed) (s .first) (s .ta
 abbrev pub permitsAll : List ℕ → List ℕ
 permitsAll a = freeFile (policyOf a .inputs) (policyOf a .outputs)
 
-all-permitted : (a : List ℕ) → refusalOf a ≡ 0 → (w : Stream) → Permits (policyOf a) w → Permits (policyOf (permitsAll a)) w
+all-permitted : (a : List ℕ) → refusalOf a ≡ 0 → Permits (policyOf a) ⊆ Permits (policyOf (permitsAll a))
 unfolding freeFile Runs
 all-permitted a e w p =
     let i = policyOf a .inputs in
     let o = policyOf a .outputs in
     rw (read-back (free i o) (free-well (policyOf a) (checked-file a e))) (free-permits i o w (fits-same (policyOf a) (free i o) refl refl (p .0)))
 
--- "A with the policy that permits all"
+-- "A with the policy that permits all": with any policy that permits all that A permits, on either side.
+module _ {a b f : List ℕ} (more : Permits (policyOf a) ⊆ Permits (policyOf b)) where
+  pub unit-any : Joined a b f → Alike f a
+  unit-any j =
+      let s = made j in
+      permits-alike _ _ (s .passed) (s .first) (s .tags-first) (λ w. (λ p. s .permits w .0 p .0, λ p. s .permits w .1 (p, more w p)))
+
+  pub unit-any-first : Joined b a f → Alike f a
+  unit-any-first j =
+      let s = made j in
+      permits-alike _ _ (s .passed) (s .second) (s .tags-second) (λ w. (λ p. s .permits w .0 p .1, λ p. s .permits w .1 (more w p, p)))
+
+-- "the policy that permits all": every stream over its signals.
+abbrev pub PermitsAll : List ℕ → Type 0
+PermitsAll b = (w : Stream) → Fits (policyOf b) w → Permits (policyOf b) w
+
+-- Any such policy over the signals of a permits all that a permits; a join of the two is made only over the same signals.
+permits-more : (a b : List ℕ) → tags a ≡ tags b → PermitsAll b → Permits (policyOf a) ⊆ Permits (policyOf b)
+unfolding Runs
+permits-more a b same free w p =
+    free w (fits-same (policyOf a) (policyOf b) (ap (λ (t : List ℕ × List ℕ). t .0) same) (ap (λ (t : List ℕ × List ℕ). t .1) same) (p .0))
+
+pub unit : {a b f : List ℕ} → PermitsAll b → Joined a b f → Alike f a
+unit {a} {b} free j = let s = made j in unit-any (permits-more a b (sym (s .tags-first) ∙ s .tags-second) free) j
+
+pub unit-first : {a b f : List ℕ} → PermitsAll b → Joined b a f → Alike f a
+unit-first {a} {b} free j = let s = made j in unit-any-first (permits-more a b (sym (s .tags-second) ∙ s .tags-first) free) j
+
+-- The file that permits all, over the signals of a, is one.
 pub unit-law : {a f : List ℕ} → Joined a (permitsAll a) f → Alike f a
-unit-law {a} j =
-    let s = made j in
-    permits-alike _ _ (s .passed) (s .first) (s .tags-first)
-    (λ w. (λ p. s .permits w .0 p .0, λ p. s .permits w .1 (p, all-permitted a (s .first) w p)))
+unit-law {a} j = unit-any (all-permitted a (made j .first)) j
 
 pub unit-law-first : {a f : List ℕ} → Joined (permitsAll a) a f → Alike f a
-unit-law-first {a} j =
-    let s = made j in
-    permits-alike _ _ (s .passed) (s .second) (s .tags-second)
-    (λ w. (λ p. s .permits w .0 p .1, λ p. s .permits w .1 (all-permitted a (s .second) w p, p)))
+unit-law-first {a} j = unit-any-first (all-permitted a (made j .second)) j
 
 -- "Forwarding everything would meet demand 3's repeat and order laws, so demand 3 is stated over demand 2's streams."
 abbrev pub forward : Run

@@ -4,6 +4,10 @@ pub mod Demand1
 pub mod Granted
 pub mod Demand2
 pub mod Demand3
+pub mod Halves
+pub mod Code
 pub mod Incident
 pub mod Program
+pub mod Prints
 pub mod Apart
+pub mod Made

@@ -1,0 +1,164 @@
+-- What the program `enforce` prints, by demand 2: exactly the stream that it fixes, `refused 11` exactly where it says hopeless, and of the run no refusal
+-- but 15. First of the text `printed`, then of what the code of `console::respond` wrote.
+use mathlib.Core.Path.{_≡_, refl, sym, ap, _∙_}
+use mathlib.Core.Bool.{Bool, true, false}
+use mathlib.Core.List.{List, [], _∷_, _++_, map, append-nil}
+use mathlib.Core.Logic.{_↔_, ⊎-elim}
+use Prim.Native.Nat.{ℕ, zero, suc, _≤_}
+use native.Mathlib.Nat.{le-refl}
+use native.Mathlib.Omega.{arith}
+use lib.ListN.{length, getD, take, drop, length-append, length-replicate}
+use lib.Seq.{take-at}
+use borrow.Author.Tests.{le-leb}
+use Rattle.streams.specs.Answer.{gives, _orElse_, unless, unless-le, else-le}
+use Rattle.streams.specs.Stream.{Stream, Hopeless}
+use Rattle.streams.specs.Corrections.{corrections}
+use Rattle.streams.specs.Laws.{not-both, enforced-one}
+use Rattle.policy.specs.Rules.{Place, start, Permits}
+use Rattle.policy.specs.Number.{states}
+use Rattle.policy.specs.File.{policyOf}
+use Rattle.policy.specs.Check.{refusalOf, all}
+use Rattle.policy.specs.Checked.{checked-file}
+use Rattle.enforcer.specs.State.{stateOf}
+use Rattle.enforcer.specs.Tick.{Ran, ran}
+use Rattle.enforcer.specs.States.{marks-granted}
+use Rattle.enforcer.specs.Entries.{eventOf, byteOf, eventGood, runFrom, runRefusal, marksRefusal, runOf}
+use Rattle.prepare.specs.Table.{marksOf}
+use Rattle.prepare.specs.Live.{marks-length}
+use Rattle.prepare.specs.Entry.{Summary, prepareOf}
+use Rattle.prepare.specs.Enforces.{Prepared, Ready, leads-start, leads-ready, never-stuck, ran-enforces}
+use Rattle.console.specs.Text.{verdictLine, refusedLine, decimal}
+use Rattle.console.specs.Decimal.{valueFrom, reads-back}
+use Rattle.console.specs.Frame.{countRefusal, policyFrameRefusal, policyPart, eventsFrameRefusal, eventsPart}
+use Rattle.console.specs.Printed.{unlessRefused, lent, ranOver, summaryLines, enforcedText, printed}
+use Rattle.console.specs.Reply.{Replied, replied-front}
+use Rattle.tender.specs.Granted.{judged, given-passed, given-goes-on, state-ready, ready-state, run-ready}
+use Rattle.tender.specs.Demand2.{ReleasedFor, as-many}
+
+lent-length : (n : ℕ) → length (lent n) ≡ n
+unfolding lent
+lent-length n = length-replicate n 0
+
+drop-all : (xs : List ℕ) (n : ℕ) → length xs ≤ n → drop n xs ≡ []
+drop-all [] zero h = refl
+drop-all [] (suc n) h = refl
+drop-all (x ∷ xs) zero h = absurd (omega arith)
+drop-all (x ∷ xs) (suc n) h = drop-all xs n (omega arith)
+
+-- Two refusals that print the same are the same.
+refused-one : (n m : ℕ) → refusedLine n ≡ refusedLine m → n ≡ m
+unfolding refusedLine
+refused-one n m e =
+    let d : decimal n ++ (10 ∷ []) ≡ decimal m ++ (10 ∷ []) = ap (drop 8) e in
+    let l : length (decimal n) ≡ length (decimal m) = omega (arith, simp length-append at (ap length d)) in
+    let k : decimal n ≡ decimal m = sym (take-at (decimal n) (10 ∷ []) _ refl) ∙ ap (take (length (decimal n))) d ∙ take-at (decimal m) (10 ∷ []) _ (sym l) in
+    sym (reads-back n) ∙ ap (valueFrom 0) k ∙ reads-back m
+
+-- A refusal's line is no summary: it begins with an r, and not with a v.
+refused-not-summary : (s : Summary) (events released : List ℕ) (n : ℕ) → ¬ (summaryLines s events released ≡ refusedLine n)
+unfolding verdictLine refusedLine
+refused-not-summary s events released n e = omega (arith, ap (λ (l : List ℕ). getD l 0 0) e)
+
+-- The events are refused by 1, 2, 8 and 15, and never by 11.
+frame-le : (input : List ℕ) → eventsFrameRefusal input ≤ 8
+unfolding countRefusal
+frame-le input = search (else-le, unless-le)
+
+not-eleven :
+    (n : ℕ) (b : Bool) → n ≤ 8 → (s : Summary) (events released : List ℕ) →
+    ¬ (unlessRefused (n orElse unless b 15) (summaryLines s events released) ≡ refusedLine 11)
+not-eleven zero true l s events released t = refused-not-summary s events released 11 t
+not-eleven zero false l s events released t = omega (arith, refused-one 15 11 t)
+not-eleven (suc n) b l s events released t = omega (arith, refused-one (suc n) 11 t)
+
+-- Where prepare gives a summary of the policy in the input.
+module _ (file : List ℕ) (s : Summary) (e : prepareOf file (lent 65536) ≡ gives s) where
+  by : Prepared (policyOf file) (marksOf (policyOf file))
+  by n l = refl
+
+  granted : marksRefusal file (marksOf (policyOf file)) ≡ 0
+  granted = marks-granted file _ .1 (given-passed file (lent 65536) s e, rw marks-length (le-refl (states (policyOf file))))
+
+  ready : Ready (policyOf file) (marksOf (policyOf file)) (start (policyOf file))
+  ready =
+      let p = policyOf file in
+      leads-ready p (checked-file file (given-passed file (lent 65536) s e)) (marksOf p) by (leads-start p) (given-goes-on file (lent 65536) s e)
+
+  -- "events (15)": the run is refused by 15 alone, where an event has a bit beyond its signals.
+  pub run-refused : (events : List ℕ) → ranOver file events .refusal ≡ unless (all (eventGood file) events) 15
+  unfolding runOf runRefusal
+  run-refused events =
+      let p = policyOf file in
+      let t = stateOf (start p) in
+      let stands = ready-state file (marksOf p) (start p) ready in
+      let room : length events ≤ length (lent (length events)) = rw lent-length (le-refl (length events)) in
+      let moves = never-stuck p (checked-file file (given-passed file (lent 65536) s e)) (marksOf p) by (state-ready file (marksOf p) t stands) (map eventOf events) in
+      rw (granted, le-leb _ _ room, stands) (go t (lent (length events)) _ moves (all (eventGood file) events))
+    where
+      go : (t : Place) (out : List ℕ) (r : Ran) → r .stuck ≡ false → (b : Bool) → runFrom t out (unless b 15) r .refusal ≡ unless b 15
+      go t out r h true = rw h
+      go t out r h false = refl
+
+  -- What it releases is demand 2's stream.
+  run-released :
+      (events : List ℕ) → all (eventGood file) events ≡ true → (rs : Stream) → ReleasedFor (policyOf file) events rs →
+      ranOver file events .out ≡ map byteOf rs
+  run-released events good rs h =
+      let p = policyOf file in
+      let M = marksOf p in
+      let out = lent (length events) in
+      let room : length events ≤ length out = rw lent-length (le-refl (length events)) in
+      let ok = checked-file file (given-passed file (lent 65536) s e) in
+      let r = ran-enforces p ok M by (leads-start p) (given-goes-on file (lent 65536) s e) (map eventOf events) in
+      let ran-is = run-ready file M granted (start p) ready events out room good in
+      let n : length (ran p M (start p) (map eventOf events) .released) ≡ length events = as-many p events (r .enforced) in
+      let same = enforced-one corrections _ _ (Permits p) (r .enforced) h in
+      let empty : drop (length events) out ≡ [] = drop-all out (length events) (rw lent-length (le-refl (length events))) in
+      rw (ran-is, n, empty, append-nil, same)
+
+module _ (input : List ℕ) (framed : policyFrameRefusal input ≡ 0) where
+  -- Where the policy's bytes are all there and prepare gives a summary: the text is one line with the first refusal of the events, and otherwise the
+  -- verdict's line with a line for each event. No other refusal is printed then.
+  pub printed-exactly :
+      (s : Summary) → prepareOf (policyPart input) (lent 65536) ≡ gives s →
+      printed input
+      ≡ unlessRefused (eventsFrameRefusal input orElse unless (all (eventGood (policyPart input)) (eventsPart input)) 15)
+      (summaryLines s (eventsPart input) (ranOver (policyPart input) (eventsPart input) .out))
+  unfolding printed enforcedText
+  printed-exactly s e = rw (framed, e, run-refused (policyPart input) s e (eventsPart input))
+
+  -- "one event is released for each one read": with events that are all there and within the signals, the lines hold exactly demand 2's stream.
+  pub printed-releases :
+      (s : Summary) → prepareOf (policyPart input) (lent 65536) ≡ gives s →
+      eventsFrameRefusal input ≡ 0 → all (eventGood (policyPart input)) (eventsPart input) ≡ true →
+      (rs : Stream) → ReleasedFor (policyOf (policyPart input)) (eventsPart input) rs →
+      printed input ≡ summaryLines s (eventsPart input) (map byteOf rs)
+  printed-releases s e b good rs h = printed-exactly s e ∙ rw (b, good, run-released (policyPart input) s e (eventsPart input) good rs h)
+
+  -- "refused as hopeless exactly if, from its start, some length has no permitted stream": of a policy that passes its own checks, `refused 11` is
+  -- printed exactly if it is hopeless, whatever the events are.
+  pub printed-hopeless :
+      refusalOf (policyPart input) ≡ 0 → (printed input ≡ refusedLine 11) ↔ Hopeless (Permits (policyOf (policyPart input)))
+  unfolding printed enforcedText
+  printed-hopeless passed =
+      let file = policyPart input in
+      let p = policyOf file in
+      let long : states p ≤ length (lent 65536) = rw lent-length (checked-file file passed .states) in
+      ⊎-elim (λ h. (λ t. h .0, λ t. rw (framed, h .1)))
+      (λ g. (
+        λ t. absurd (not-eleven (eventsFrameRefusal input) (all (eventGood file) (eventsPart input)) (frame-le input) _ _ _ (sym (printed-exactly _ (g .1)) ∙ t)),
+        λ d. absurd (not-both (Permits p) [] (g .0) d),
+      ))
+      (judged file (lent 65536) passed long)
+
+-- What the code of `console::respond` wrote into the text: its first r bytes.
+module _ (input : List ℕ) {before after : List ℕ} {r : ℕ} (k : Replied before (printed input) r after) (framed : policyFrameRefusal input ≡ 0) where
+  pub respond-releases :
+      (s : Summary) → prepareOf (policyPart input) (lent 65536) ≡ gives s →
+      eventsFrameRefusal input ≡ 0 → all (eventGood (policyPart input)) (eventsPart input) ≡ true →
+      (rs : Stream) → ReleasedFor (policyOf (policyPart input)) (eventsPart input) rs →
+      take r after ≡ summaryLines s (eventsPart input) (map byteOf rs)
+  respond-releases s e b good rs h = replied-front k ∙ printed-releases input framed s e b good rs h
+
+  pub respond-hopeless : refusalOf (policyPart input) ≡ 0 → (take r after ≡ refusedLine 11) ↔ Hopeless (Permits (policyOf (policyPart input)))
+  respond-hopeless passed = rw (replied-front k) (printed-hopeless input framed passed)
