@@ -1,22 +1,29 @@
 -- Demands 2 and 3 over the promises of the code, those that stand in the `ensures` of the entries: nobody has to join a promise and a theorem over the
 -- definitions himself. The two halves are in specs/Halves.antt, and the program is in specs/Program.antt.
-use mathlib.Core.Path.{_≡_, refl, sym, ap, subst, _∙_}
-use mathlib.Core.Bool.{true}
+use mathlib.Core.Path.{_≡_, refl, sym, ap, ap₂, subst, _∙_}
+use mathlib.Core.Bool.{Bool, true, false, cond}
 use mathlib.Core.List.{List, [], _∷_, _++_, map}
 use mathlib.Core.Logic.{_↔_, _⊎_, inl, inr, ⊎-elim, Iff·trans}
-use Prim.Native.Nat.{ℕ, _/_, _%_, _^_, _≤_, _<_}
+use mathlib.Core.Option.{Option, none, some, bind-eq-some-iff, Option·some-injective}
+use Prim.Native.Nat.{ℕ, zero, suc, _*_, _/_, _%_, _^_, _≤_, _<_}
 use native.Mathlib.Omega.{arith}
 use lib.ListN.{length, getD, take, drop, length-append, length-replicate}
-use Rattle.streams.specs.Answer.{gives}
-use Rattle.streams.specs.Stream.{Stream, Hopeless}
-use Rattle.policy.specs.Rules.{Place, Permits}
+use Rattle.streams.specs.Answer.{Answer, refused, gives, none-refused}
+use Rattle.streams.specs.Stream.{Event, Stream, _∩_, Hopeless}
+use Rattle.policy.specs.Rules.{Policy, Place, stopped, step, Permits}
 use Rattle.policy.specs.Number.{four, states}
 use Rattle.policy.specs.File.{policyOf}
 use Rattle.policy.specs.Check.{refusalOf, all}
-use Rattle.policy.specs.Checked.{checked-file}
-use Rattle.enforcer.specs.Entries.{RunAnswer, byteOf, eventGood, runOf}
+use Rattle.policy.specs.Sound.{Inside}
+use Rattle.policy.specs.Stays.{of-some, step-inside}
+use Rattle.policy.specs.Checked.{checked-file, well-sound}
+use Rattle.enforcer.specs.State.{placeIn}
+use Rattle.enforcer.specs.States.{marks-granted}
+use Rattle.enforcer.specs.Tick.{Tick, outputChoice, moved, outputTick}
+use Rattle.enforcer.specs.Entries.{chosen, outputFrom, RunAnswer, byteOf, eventGood, marksRefusal, stateRefusal, inputOf, outputRefusal, outputOf, runOf}
 use Rattle.enforcer.specs.Code.{asPlace, startState}
 use Rattle.enforcer.specs.Promises.{RunPromise, ranSaid}
+use Rattle.enforcer.specs.declared.state.State.{State}
 use Rattle.enforcer.specs.declared.runs.Ran.{Ran}
 use Rattle.prepare.specs.Entry.{Summary, summaryOf, prepareOf, preparedMarks}
 use Rattle.prepare.specs.Promise.{summarySaid, preparedSaid, PreparePromise, prepared-one}
@@ -27,13 +34,14 @@ use Rattle.prepare.specs.declared.Prepared.the-variants as Prepared
 use Rattle.join.specs.Promise.{JoinPromise}
 use Rattle.join.specs.declared.Joined.the-variants as Code
 use Rattle.console.specs.Scratch.{start-is}
-use Rattle.groovepawn.specs.Words.{stateWords, stateIn, runState, runOut}
-use Rattle.groovepawn.specs.Calls.{PrepareCall, RunCall, JoinCall}
+use Rattle.groovepawn.specs.Words.{stateWords, stateIn, isState, outputState, runState, runOut}
+use Rattle.groovepawn.specs.Calls.{PrepareCall, InputCall, OutputCall, RunCall, JoinCall}
 use Rattle.groovepawn.specs.Numbers.{words-back}
-use Rattle.groovepawn.specs.Fields.{summaryIn, answerIn, prepare-fields, run-fields, join-fields}
-use Rattle.tender.specs.Granted.{given-passed}
+use Rattle.groovepawn.specs.Fields.{summaryIn, answerIn, answer-fields, prepare-fields, input-fields, output-fields, run-fields, join-fields}
+use Rattle.tender.specs.Granted.{state-ready, given-passed}
 use Rattle.tender.specs.Demand2.{ReleasedFor, Released, releases, fromStart, hopeless-exactly}
-use Rattle.tender.specs.Demand3.{Joined, Alike, permitsAll, order, grouping, repetition, unit-law}
+use Rattle.tender.specs.Halves.{Ticks, ticks-none, ticks-more, TicksReleased, ticks-release}
+use Rattle.tender.specs.Demand3.{Joined, Alike, permits-exactly, permitsAll, order, grouping, repetition, unit-law}
 
 -- "a policy is refused as hopeless exactly if, from its start, some length has no permitted stream": prepare's code, of a file that passes its checks and
 -- with a slice for the marks that is long enough.
@@ -90,6 +98,10 @@ words-in t e =
 four-long : (vs : List ℕ) → length vs ≤ 4 → length (four vs) ≡ 4
 four-long vs h = simp (length-append, length-replicate) (omega arith)
 
+-- A summary, as the code's own type has it.
+abbrev codeSummary : Summary → Given
+codeSummary s = record { verdict = s .verdict; states = s .states; live = s .live }
+
 -- What the word of prepare holds is what prepare answers.
 prepare-read : {file before marks : List ℕ} {v : ℕ} → PrepareCall file before v marks → v % 256 ≡ 0 → (s : Summary) × (prepareOf file before ≡ gives s)
 prepare-read {file} {before} {v = v} h z =
@@ -97,6 +109,7 @@ prepare-read {file} {before} {v = v} h z =
     let e : summaryIn v ≡ gives s = rw z in
     (s, sym (prepare-fields file before) ∙ ap summaryIn (sym (h .said)) ∙ e)
 
+-- groovepawn_prepare refused nothing, and groovepawn_run ran from there with those marks, over fewer than 2^56 events.
 pub c-releases :
     {file before marks events out state written : List ℕ} {v r : ℕ} → PrepareCall file before v marks → v % 256 ≡ 0 →
     RunCall file marks cStart events out r state written → all (eventGood file) events ≡ true → length events ≤ length out → length events < 2 ^ 56 →
@@ -129,6 +142,66 @@ c-releases {file} {before} {marks} {events} {out} {state} {written} {r = r} h z 
       state = there ∙ a .state;
     }
 
+-- The two halves in C, used tick after tick over the five numbers of one state: each returned a word without a refusal, its value above eight bits of 0.
+pub data CTicks (file marks : List ℕ) : List ℕ → (read released : Stream) → List ℕ → Type 0 where
+  c-none : {state : List ℕ} → CTicks file marks state [] [] state
+  c-more : {state next last : List ℕ} {e r : Event} {es rs : Stream} →
+      InputCall file marks state (e .x) (r .x * 256) → OutputCall file marks state (r .x) (e .y) (r .y * 256) next →
+      CTicks file marks next es rs last → CTicks file marks state (e ∷ es) (r ∷ rs) last
+
+-- The state in five numbers.
+abbrev pub cState : List ℕ → State
+cState l = record { location = getD l 0 0; clocks = getD l 1 0 ∷ getD l 2 0 ∷ getD l 3 0 ∷ getD l 4 0 ∷ [] }
+
+-- A word without a refusal is the answer of five numbers.
+value-said : (v : ℕ) (t : Bool) (a : Answer ℕ) (n : ℕ) → answerIn (v * 256) ≡ cond t a (refused n) → (t ≡ true) × (gives v ≡ a)
+value-said v true a n e = let f = answer-fields v in (refl, rw (f .0, f .1) at e)
+value-said v false a n e = let f = answer-fields v in let h : gives v ≡ refused n = rw (f .0, f .1) at e in let z : _≡_ {A = ℕ} 0 1 = cc in absurd (omega arith)
+
+-- Where the output half gives an output, the state that it hands back has four clock values.
+module _ (file marks : List ℕ) (s : Place) (x y : ℕ) {z : ℕ} where
+  output-four : outputOf file marks s x y .answer ≡ gives z → length (outputOf file marks s x y .state .clocks) ≡ 4
+  unfolding outputOf outputRefusal outputTick moved
+  output-four = go (outputRefusal file marks s x y) refl (outputTick (policyOf file) marks (placeIn (policyOf file) s) x y) refl
+    where
+      p : Policy
+      p = policyOf file
+
+      go : (n : ℕ) → outputRefusal file marks s x y ≡ n → (o : Option Tick) → outputTick p marks (placeIn p s) x y ≡ o →
+          outputFrom s (chosen n o) .answer ≡ gives z → length (outputFrom s (chosen n o) .state .clocks) ≡ 4
+      go (suc n) e o q h = let f : _≡_ {A = ℕ} 0 1 = cc in absurd (omega arith)
+      go zero e none q h = let f : _≡_ {A = ℕ} 0 1 = cc in absurd (omega arith)
+      go zero e (some t) q h =
+          let a = none-refused (marksRefusal file marks) _ .0 e in
+          let ok = checked-file file (marks-granted file marks .0 (a .0) .0) in
+          let inside = state-ready file marks s (none-refused (stateRefusal file marks s) _ .0 (a .1) .0) .inside in
+          let m = bind-eq-some-iff (outputChoice p marks (placeIn p s) x y) _ .0 q in
+          let v = bind-eq-some-iff (step stopped p (placeIn p s) (record { x = x; y = m .0 })) _ .0 (m .2) in
+          let there : Inside p (v .0) = of-some (Inside p) (v .1) (step-inside p (well-sound p ok) (placeIn p s) inside (record { x = x; y = m .0 })) in
+          let same : v .0 ≡ t .place = ap (λ (u : Tick). u .place) (Option·some-injective _ t (v .2)) in
+          four-long (t .place .clocks) (rw (← same) (omega (arith, there .clocks, ok .clocks)))
+
+-- They are the halves of the code, and so all that specs/Halves.antt says of those holds of them.
+pub c-ticks : {file marks state last : List ℕ} {es rs : Stream} → CTicks file marks state es rs last → Ticks file marks (cState state) es rs (cState last)
+unfolding outputState
+c-ticks c-none = ticks-none
+c-ticks {file} {marks} (c-more {state = state} {next = next} {e = e} {r = r} i o h) =
+    let s = stateIn state in
+    let input = value-said (r .x) (isState state) (inputOf file marks s (e .x)) _ (ap answerIn (i .said) ∙ input-fields file marks state (e .x)) in
+    let out = outputOf file marks s (r .x) (e .y) in
+    let output = value-said (r .y) (isState state) (out .answer) _ (ap answerIn (o .said) ∙ output-fields file marks state (r .x) (e .y)) in
+    let moved : next ≡ stateWords (out .state) = o .next ∙ ap (λ (t : Bool). cond t (stateWords (out .state)) state) (output .0) in
+    let there : stateIn next ≡ out .state = ap stateIn moved ∙ words-in (out .state) (output-four file marks s (r .x) (e .y) (sym (output .1))) in
+    ticks-more (record { said = input .1 })
+    (record { said = ap₂ (λ (a : Answer ℕ) (t : Place). record { answer = a; state = t }) (output .1) there }) (c-ticks h)
+
+-- From { 0, 0, 0, 0, 0 }, after groovepawn_prepare refused nothing: demand 2's stream, and the five numbers are the state that it leads to.
+pub c-ticks-release :
+    {file before marks last : List ℕ} {v : ℕ} {es rs : Stream} → PrepareCall file before v marks → v % 256 ≡ 0 →
+    CTicks file marks cStart es rs last → TicksReleased (policyOf file) es rs (cState last)
+c-ticks-release {file} {before} h z k =
+    let s = prepare-read h z in ticks-release {s = codeSummary (s .0)} (record { said = sym (s .1); marks = h .marks }) (c-ticks k)
+
 -- "Wherever the joins named are made": what join's code wrote is a join that was made, and so is what groovepawn_join wrote.
 pub code-joined : {a b before after : List ℕ} {n : ℕ} → JoinPromise a b before (Code.Length n) after → Joined a b (take n after)
 code-joined {before = before} {n = n} h = record { slice = before; size = n; given = sym (h .answers); written = ap (take n) (h .writes) }
@@ -143,7 +216,13 @@ c-joined {a} {b} {before} {r = r} h z =
       written = ap (take (r / 256)) (h .out);
     }
 
--- So demand 3 speaks of the files that the code wrote: "A with B or B with A",
+-- So demand 3 speaks of the files that the code wrote: "the join permits exactly the streams that all its parts permit",
+pub code-permits :
+    {a b before after : List ℕ} {n : ℕ} → JoinPromise a b before (Code.Length n) after →
+    (w : Stream) → Permits (policyOf (take n after)) w ↔ (Permits (policyOf a) ∩ Permits (policyOf b)) w
+code-permits h = permits-exactly (code-joined h)
+
+-- "A with B or B with A",
 pub code-order :
     {a b x f y g : List ℕ} {n m : ℕ} → JoinPromise a b x (Code.Length n) f → JoinPromise b a y (Code.Length m) g → Alike (take n f) (take m g)
 code-order j k = order (code-joined j) (code-joined k)
@@ -162,8 +241,8 @@ code-repetition j = repetition (code-joined j)
 pub code-unit : {a x f : List ℕ} {n : ℕ} → JoinPromise a (permitsAll a) x (Code.Length n) f → Alike (take n f) a
 code-unit j = unit-law (code-joined j)
 
--- "hopeless together, or the same released stream for every event stream", of the code: what prepare's code said of two files that are alike, and what
--- run's code then released from `State::start()` with the marks that it wrote.
+-- "hopeless together, or the same released stream for every event stream", of the code: what prepare's code said of two files that are alike, with slices
+-- for the marks that are long enough, and what run's code then released from `State::start()` with the marks m and n that it wrote.
 pub record SameRuns (f g events out : List ℕ) (a : Ran) (after : List ℕ) (b : Ran) (also : List ℕ) : Type 0 where
   pub released : Stream
   pub first : ReleasedFor (policyOf f) events released
@@ -172,16 +251,17 @@ pub record SameRuns (f g events out : List ℕ) (a : Ran) (after : List ℕ) (b 
   pub counts : (a .count ≡ length events) × (b .count ≡ length events)
   pub written : (after ≡ map byteOf released ++ drop (length events) out) × (also ≡ after)
 
-abbrev codeSummary : Summary → Given
-codeSummary s = record { verdict = s .verdict; states = s .states; live = s .live }
+pub record SameGiven (f m g n : List ℕ) (r q : Prepared) : Type 0 where
+  pub first : (s : Given) × (r ≡ Prepared.Gives s)
+  pub second : (s : Given) × (q ≡ Prepared.Gives s)
+  pub runs :
+      (events out after also : List ℕ) (a b : Ran) → all (eventGood f) events ≡ true → length events ≤ length out →
+      RunPromise f m startState events out a after → RunPromise g n startState events out b also → SameRuns f g events out a after b also
 
 pub code-alike :
     {f x m g y n : List ℕ} {r q : Prepared} → Alike f g → PreparePromise f x r m → PreparePromise g y q n →
     states (policyOf f) ≤ length x → states (policyOf g) ≤ length y →
-    ((r ≡ Prepared.Refused 11) × (q ≡ Prepared.Refused 11))
-    ⊎ ((s : Given) × (t : Given) × (r ≡ Prepared.Gives s) × (q ≡ Prepared.Gives t)
-    × ((events out after also : List ℕ) (a b : Ran) → all (eventGood f) events ≡ true → length events ≤ length out →
-    RunPromise f m startState events out a after → RunPromise g n startState events out b also → SameRuns f g events out a after b also))
+    ((r ≡ Prepared.Refused 11) × (q ≡ Prepared.Refused 11)) ⊎ SameGiven f m g n r q
 code-alike {f} {x} {m} {g} {y} {n} {r} {q} alike h k l o =
     ⊎-elim
     (λ d. inl (prepared-one r (Prepared.Refused 11) (h .said ∙ d .0), prepared-one q (Prepared.Refused 11) (k .said ∙ d .1)))
@@ -192,12 +272,11 @@ code-alike {f} {x} {m} {g} {y} {n} {r} {q} alike h k l o =
     let j : q ≡ Prepared.Gives t = prepared-one q (Prepared.Gives t) (k .said ∙ d .1) in
     let of-f = subst (λ (z : Prepared). PreparePromise f x z m) i h in
     let of-g = subst (λ (z : Prepared). PreparePromise g y z n) j k in
-    inr (
-      s,
-      t,
-      i,
-      j,
-      λ events out after also a b good long u v.
+    inr (record {
+      first = (s, i);
+      second = (t, j);
+      runs =
+          λ events out after also a b good long u v.
           let c = d .2 events out good long in
           let one = code-runs of-f u in
           let two = code-runs of-g v in
@@ -211,5 +290,5 @@ code-alike {f} {x} {m} {g} {y} {n} {r} {q} alike h k l o =
               ap (λ (z : RunAnswer). z .out) (sym one) ∙ c .first .out,
               ap (λ (z : RunAnswer). z .out) (sym two) ∙ sym (c .answer .out) ∙ ap (λ (z : RunAnswer). z .out) one,
             );
-          },
-    )) (alike .together x y l o)
+          };
+    })) (alike .together x y l o)

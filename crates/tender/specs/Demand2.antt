@@ -1,5 +1,5 @@
 -- Demand 2, over the definitions of the entries. "Over clocks that count without limit" is `Permits`, "go on for ever" is `GoesOn`, and what is
--- released for an event stream is `Enforced`: none of them knows a mark, a stopped clock or a byte.
+-- released for an event stream is `Enforced`: none of them knows a mark, a stopped clock or a byte. Over the promises of the code: specs/Code.antt.
 use mathlib.Core.Path.{_≡_, refl, sym, ap, subst, _∙_}
 use mathlib.Core.Bool.{true, and-eq-true-iff, true≢false}
 use mathlib.Core.List.{List, [], _∷_, _++_, map}

@@ -1,4 +1,5 @@
--- Demand 3, over the definitions of the entries: what prepare and run answer for a file that the join wrote.
+-- Demand 3, over the definitions of the entries: what prepare and run answer for a file that the join wrote. Over the promises of the code:
+-- specs/Code.antt.
 use mathlib.Core.Path.{_≡_, refl, sym, ap, ap₂, subst, _∙_}
 use mathlib.Core.Bool.{true, _&&_}
 use mathlib.Core.List.{List, [], _∷_, _++_, map, List·Memᴰ, List·Memᴰ·head, List·Memᴰ·append-cases, List·Memᴰ·eq-of-singleton, Memᴰ·append-left, Memᴰ·append-right}

@@ -8,13 +8,14 @@ use native.Mathlib.Omega.{arith}
 use lib.Dec.{ltb, eqb}
 use lib.ListN.{length, take, replicate, length-append}
 use borrow.Author.Tests.{le-leb, ltb-true, ltb-false, eqb-true}
+use Rattle.streams.specs.Answer.{gives}
 use Rattle.policy.specs.Rules.{Rule, Policy}
 use Rattle.policy.specs.Number.{states, statesOf}
 use Rattle.policy.specs.File.{policyOf, outputsAt, clocksAt, locationsAt, rulesAt, rulesStart, rulesEnd, pairsFrom, rulesFrom, ruleFrom, boundsFrom}
 use Rattle.policy.specs.Check.{refusalOf, inputsRefusal, outputsRefusal, clocksRefusal, locationsRefusal, rulesSectionRefusal, sectionRefusal, tagsGood, among, all, rulesRefusal, ruleRefusal, headGood, maskGood, boundsGood, boundGood}
 use Rattle.policy.specs.Bytes.{bytesOf, countsBytes, pairsBytes, rulesBytes, ruleBytes, boundsBytes}
 use Rattle.policy.specs.Sound.{WellFormed}
-use Rattle.policy.specs.Checked.{checked-file}
+use Rattle.policy.specs.Checked.{frame, longest, checked-file}
 use Rattle.policy.specs.ReadBack.{read-back, written-passes}
 use Rattle.join.specs.Join.{of, agree, target, both, pair, each, cell, rows, join}
 use Rattle.join.specs.Masks.{alike}
@@ -23,7 +24,10 @@ use Rattle.join.specs.Entry.{sameTags, sameSignals, joinFits, joinedFile, joinR
 use Rattle.join.specs.Joins.{join-clocks}
 use Rattle.join.specs.Limits.{states-join}
 use Rattle.join.specs.Again.{sameTags-is}
-use Rattle.join.specs.Written.{Unrefused, joined-written}
+use Rattle.join.specs.Written.{Unrefused, joined-passes, joined-written}
+use Rattle.join.specs.Promise.{JoinPromise, join-one}
+use Rattle.join.specs.declared.Joined as Code
+use Rattle.join.specs.declared.Joined.the-variants as Variants
 use Rattle.tender.specs.Samples.{K}
 use Rattle.tender.specs.Demand3.{Joined, Alike, permitsAll, grouping}
 use Rattle.tender.specs.Apart.{alwaysOff}
@@ -32,16 +36,18 @@ none-refused : (a b out : List ℕ) → Unrefused a b out → joinRefusal a b ou
 unfolding joinRefusal
 none-refused a b out u = rw (u .first, u .second, u .signals, u .fits, le-leb _ _ (u .room))
 
+given-of : (a b out : List ℕ) → Unrefused a b out → joinOf a b out ≡ gives (length (joinedFile a b out))
+unfolding joinOf
+given-of a b out u = rw (none-refused a b out u)
+
 -- Where nothing is refused the join is made, and its file is the joined one.
 pub made-of : (a b out : List ℕ) → Unrefused a b out → Joined a b (joinedFile a b out)
-unfolding joinOf
 made-of a b out u =
-    let none = none-refused a b out u in
     record {
       slice = out;
       size = length (joinedFile a b out);
-      given = rw none;
-      written = sym (joined-written a b out none);
+      given = given-of a b out u;
+      written = sym (joined-written a b out (none-refused a b out u));
     }
 
 -- A rule of A gives at most one rule with each rule of B.
@@ -140,18 +146,37 @@ module _ (a : List ℕ) (passed : refusalOf a ≡ 0) where
   unfolding freeFile
   is-free = read-back (free (policyOf a .inputs) (policyOf a .outputs)) (free-well (policyOf a) (checked-file a passed))
 
-  pub unit-made : (out : List ℕ) → length (joinedFile a (permitsAll a) out) ≤ length out → Joined a (permitsAll a) (joinedFile a (permitsAll a) out)
+  unit-unrefused :
+      (out : List ℕ) → length (joinedFile a (permitsAll a) out) ≤ length out → Unrefused a (permitsAll a) out
   unfolding freeFile sameSignals
-  unit-made out room =
+  unit-unrefused out room =
       let p = policyOf a in
-      made-of a (permitsAll a) out
-      (record {
+      record {
         first = passed;
         second = written-passes (free (p .inputs) (p .outputs)) (free-well p (checked-file a passed));
         signals = rw (is-free, sameTags-is (p .inputs) (p .inputs) .1 refl, sameTags-is (p .outputs) (p .outputs) .1 refl);
         fits = rw is-free (free-fits p (checked-file a passed));
         room = room;
-      })
+      }
+
+  pub unit-made : (out : List ℕ) → length (joinedFile a (permitsAll a) out) ≤ length out → Joined a (permitsAll a) (joinedFile a (permitsAll a) out)
+  unit-made out room = made-of a (permitsAll a) out (unit-unrefused out room)
+
+  -- "The longest is 5,974 bytes": a slice of that length holds it.
+  unit-room : (out : List ℕ) → length (joinedFile a (permitsAll a) out) ≤ 5974
+  unfolding joinedFile
+  unit-room out =
+      let f = joinedFile a (permitsAll a) out in
+      let none = none-refused a (permitsAll a) f (unit-unrefused f (le-refl (length f))) in
+      longest f (frame f (joined-passes a (permitsAll a) f none))
+
+  -- So join's code gives a length.
+  pub unit-given : {before after : List ℕ} {r : Code.Joined} → JoinPromise a (permitsAll a) before r after → 5974 ≤ length before →
+      (n : ℕ) × (r ≡ Variants.Length n)
+  unit-given {before} h long =
+      let n = length (joinedFile a (permitsAll a) before) in
+      let e = given-of a (permitsAll a) before (unit-unrefused before (omega (arith, unit-room before))) in
+      (n, join-one {s = Variants.Length n} h (record { answers = sym e; writes = refl }) .0)
 
 -- Three policies joined "either way": K, the credit always off, and K again.
 abbrev joinedIn : (size : ℕ) (a b : List ℕ) → List ℕ
@@ -163,38 +188,20 @@ left = joinedIn 54 K alwaysOff
 abbrev pub right : List ℕ
 right = joinedIn 54 alwaysOff K
 
-pub left-made : Joined K alwaysOff left
-unfolding
-    joinOf joinRefusal joinedFile sameSignals sameTags joinFits join rows cell each pair both agree target of alike bytesOf countsBytes pairsBytes
-    rulesBytes ruleBytes boundsBytes refusalOf inputsRefusal outputsRefusal clocksRefusal locationsRefusal rulesSectionRefusal sectionRefusal tagsGood
-    among all rulesRefusal ruleRefusal headGood maskGood boundsGood boundGood policyOf outputsAt clocksAt locationsAt rulesAt rulesStart rulesEnd
-    pairsFrom rulesFrom ruleFrom boundsFrom statesOf
-left-made = record { slice = replicate 54 0; size = 54; given = refl; written = refl }
-
-pub left-whole : Joined left K (joinedIn 132 left K)
+pub three-made :
+    Joined K alwaysOff left × Joined left K (joinedIn 132 left K) × Joined alwaysOff K right × Joined K right (joinedIn 132 K right)
 unfolding
     joinOf joinedOut joinRefusal joinedFile sameSignals sameTags joinFits join rows cell each pair both agree target of alike bytesOf countsBytes pairsBytes
     rulesBytes ruleBytes boundsBytes refusalOf inputsRefusal outputsRefusal clocksRefusal locationsRefusal rulesSectionRefusal sectionRefusal tagsGood
     among all rulesRefusal ruleRefusal headGood maskGood boundsGood boundGood policyOf outputsAt clocksAt locationsAt rulesAt rulesStart rulesEnd
     pairsFrom rulesFrom ruleFrom boundsFrom statesOf
-left-whole = record { slice = replicate 132 0; size = 132; given = refl; written = refl }
-
-pub right-made : Joined alwaysOff K right
-unfolding
-    joinOf joinRefusal joinedFile sameSignals sameTags joinFits join rows cell each pair both agree target of alike bytesOf countsBytes pairsBytes
-    rulesBytes ruleBytes boundsBytes refusalOf inputsRefusal outputsRefusal clocksRefusal locationsRefusal rulesSectionRefusal sectionRefusal tagsGood
-    among all rulesRefusal ruleRefusal headGood maskGood boundsGood boundGood policyOf outputsAt clocksAt locationsAt rulesAt rulesStart rulesEnd
-    pairsFrom rulesFrom ruleFrom boundsFrom statesOf
-right-made = record { slice = replicate 54 0; size = 54; given = refl; written = refl }
-
-pub right-whole : Joined K right (joinedIn 132 K right)
-unfolding
-    joinOf joinedOut joinRefusal joinedFile sameSignals sameTags joinFits join rows cell each pair both agree target of alike bytesOf countsBytes pairsBytes
-    rulesBytes ruleBytes boundsBytes refusalOf inputsRefusal outputsRefusal clocksRefusal locationsRefusal rulesSectionRefusal sectionRefusal tagsGood
-    among all rulesRefusal ruleRefusal headGood maskGood boundsGood boundGood policyOf outputsAt clocksAt locationsAt rulesAt rulesStart rulesEnd
-    pairsFrom rulesFrom ruleFrom boundsFrom statesOf
-right-whole = record { slice = replicate 132 0; size = 132; given = refl; written = refl }
+three-made = (
+  record { slice = replicate 54 0; size = 54; given = refl; written = refl },
+  record { slice = replicate 132 0; size = 132; given = refl; written = refl },
+  record { slice = replicate 54 0; size = 54; given = refl; written = refl },
+  record { slice = replicate 132 0; size = 132; given = refl; written = refl },
+)
 
 -- So "grouped either way with C" speaks of them.
 pub three-alike : Alike (joinedIn 132 left K) (joinedIn 132 K right)
-three-alike = grouping left-made left-whole right-made right-whole
+three-alike = grouping (three-made .0) (three-made .1) (three-made .2) (three-made .3)

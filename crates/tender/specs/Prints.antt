@@ -7,7 +7,7 @@ use mathlib.Core.Logic.{_↔_, ⊎-elim}
 use Prim.Native.Nat.{ℕ, zero, suc, _≤_}
 use native.Mathlib.Nat.{le-refl}
 use native.Mathlib.Omega.{arith}
-use lib.ListN.{length, getD, take, drop, length-append, length-replicate}
+use lib.ListN.{length, getD, take, drop, length-append, length-replicate, drop-of-length-le}
 use lib.Seq.{take-at}
 use borrow.Author.Tests.{le-leb}
 use Rattle.streams.specs.Answer.{gives, _orElse_, unless, unless-le, else-le}
@@ -17,7 +17,7 @@ use Rattle.streams.specs.Laws.{not-both, enforced-one}
 use Rattle.policy.specs.Rules.{Place, start, Permits}
 use Rattle.policy.specs.Number.{states}
 use Rattle.policy.specs.File.{policyOf}
-use Rattle.policy.specs.Check.{refusalOf, all}
+use Rattle.policy.specs.Check.{refusalOf, all, refusal-le}
 use Rattle.policy.specs.Checked.{checked-file}
 use Rattle.enforcer.specs.State.{stateOf}
 use Rattle.enforcer.specs.Tick.{Ran, ran}
@@ -33,17 +33,11 @@ use Rattle.console.specs.Frame.{countRefusal, policyFrameRefusal, policyPart, e
 use Rattle.console.specs.Printed.{unlessRefused, lent, ranOver, summaryLines, enforcedText, printed}
 use Rattle.console.specs.Reply.{Replied, replied-front}
 use Rattle.tender.specs.Granted.{judged, given-passed, given-goes-on, state-ready, ready-state, run-ready}
-use Rattle.tender.specs.Demand2.{ReleasedFor, as-many}
+use Rattle.tender.specs.Demand2.{ReleasedFor, releases, as-many}
 
 lent-length : (n : ℕ) → length (lent n) ≡ n
 unfolding lent
 lent-length n = length-replicate n 0
-
-drop-all : (xs : List ℕ) (n : ℕ) → length xs ≤ n → drop n xs ≡ []
-drop-all [] zero h = refl
-drop-all [] (suc n) h = refl
-drop-all (x ∷ xs) zero h = absurd (omega arith)
-drop-all (x ∷ xs) (suc n) h = drop-all xs n (omega arith)
 
 -- Two refusals that print the same are the same.
 refused-one : (n m : ℕ) → refusedLine n ≡ refusedLine m → n ≡ m
@@ -63,6 +57,10 @@ refused-not-summary s events released n e = omega (arith, ap (λ (l : List ℕ).
 frame-le : (input : List ℕ) → eventsFrameRefusal input ≤ 8
 unfolding countRefusal
 frame-le input = search (else-le, unless-le)
+
+policy-le : (input : List ℕ) → policyFrameRefusal input ≤ 2
+unfolding countRefusal
+policy-le input = search (else-le, unless-le)
 
 not-eleven :
     (n : ℕ) (b : Bool) → n ≤ 8 → (s : Summary) (events released : List ℕ) →
@@ -113,7 +111,7 @@ module _ (file : List ℕ) (s : Summary) (e : prepareOf file (lent 65536) ≡ gi
       let ran-is = run-ready file M granted (start p) ready events out room good in
       let n : length (ran p M (start p) (map eventOf events) .released) ≡ length events = as-many p events (r .enforced) in
       let same = enforced-one corrections _ _ (Permits p) (r .enforced) h in
-      let empty : drop (length events) out ≡ [] = drop-all out (length events) (rw lent-length (le-refl (length events))) in
+      let empty : drop (length events) out ≡ [] = drop-of-length-le out {i = length events} (rw lent-length (le-refl (length events))) in
       rw (ran-is, n, empty, append-nil, same)
 
 module _ (input : List ℕ) (framed : policyFrameRefusal input ≡ 0) where
@@ -135,6 +133,18 @@ module _ (input : List ℕ) (framed : policyFrameRefusal input ≡ 0) where
       printed input ≡ summaryLines s (eventsPart input) (map byteOf rs)
   printed-releases s e b good rs h = printed-exactly s e ∙ rw (b, good, run-released (policyPart input) s e (eventsPart input) good rs h)
 
+  -- There is such a stream.
+  pub printed-stream :
+      (s : Summary) → prepareOf (policyPart input) (lent 65536) ≡ gives s →
+      eventsFrameRefusal input ≡ 0 → all (eventGood (policyPart input)) (eventsPart input) ≡ true →
+      (rs : Stream) × ReleasedFor (policyOf (policyPart input)) (eventsPart input) rs
+      × (printed input ≡ summaryLines s (eventsPart input) (map byteOf rs))
+  printed-stream s e b good =
+      let events = eventsPart input in
+      let room : length events ≤ length (lent (length events)) = rw lent-length (le-refl (length events)) in
+      let r = releases (policyPart input) (lent 65536) s e events (lent (length events)) good room in
+      (r .released, r .enforced, printed-releases s e b good (r .released) (r .enforced))
+
   -- "refused as hopeless exactly if, from its start, some length has no permitted stream": of a policy that passes its own checks, `refused 11` is
   -- printed exactly if it is hopeless, whatever the events are.
   pub printed-hopeless :
@@ -150,6 +160,23 @@ module _ (input : List ℕ) (framed : policyFrameRefusal input ≡ 0) where
         λ d. absurd (not-both (Permits p) [] (g .0) d),
       ))
       (judged file (lent 65536) passed long)
+
+-- The program prints `refused 11` exactly if the policy's bytes are all there, pass their own checks, and are those of a hopeless policy.
+pub printed-eleven :
+    (input : List ℕ)
+    → (printed input ≡ refusedLine 11)
+    ↔ ((policyFrameRefusal input ≡ 0) × (refusalOf (policyPart input) ≡ 0) × Hopeless (Permits (policyOf (policyPart input))))
+unfolding printed enforcedText prepareOf marksRefusal
+printed-eleven input = (
+  λ t. there (policyFrameRefusal input) refl (refusalOf (policyPart input)) refl t,
+  λ h. printed-hopeless input (h .0) (h .1) .1 (h .2),
+)
+  where
+    there : (n : ℕ) → policyFrameRefusal input ≡ n → (m : ℕ) → refusalOf (policyPart input) ≡ m → printed input ≡ refusedLine 11 →
+        (policyFrameRefusal input ≡ 0) × (refusalOf (policyPart input) ≡ 0) × Hopeless (Permits (policyOf (policyPart input)))
+    there (suc n) d m e t = absurd (omega (arith, policy-le input, refused-one (suc n) 11 (sym (rw d) ∙ t)))
+    there zero d (suc m) e t = absurd (omega (arith, refusal-le (policyPart input), refused-one (suc m) 11 (sym (rw (d, e)) ∙ t)))
+    there zero d zero e t = (d, e, printed-hopeless input d e .0 t)
 
 -- What the code of `console::respond` wrote into the text: its first r bytes.
 module _ (input : List ℕ) {before after : List ℕ} {r : ℕ} (k : Replied before (printed input) r after) (framed : policyFrameRefusal input ≡ 0) where
