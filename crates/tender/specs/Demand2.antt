@@ -276,7 +276,7 @@ module _ (file marks : List ℕ) (s : Place) (b : ℕ) (good : eventGood file b 
       go (inr r) = (λ e. cc (r .run o out), λ e. cc (r .run o out))
 
 -- A marked case of 01, by its place in the list.
-marked : (i : ℕ) →
+pub marked : (i : ℕ) →
     getD (map (λ c. Cases.said (c .file) (c .asked)) Cases.cases) i (Cases.released [])
     ≡ getD (map (λ (c : Cases.Case). c .expected) Cases.cases) i (Cases.released [])
 marked i = ap (λ (l : List Cases.Said). getD l i (Cases.released [])) Cases.marked-cases
@@ -292,7 +292,7 @@ said-given file v n l = go (prepareOf file (Cases.lent (states (policyOf file)))
     go (refused n) e = let z : _≡_ {A = ℕ} 0 1 = cc in absurd (omega arith)
     go (gives s) e = (s, refl)
 
-said-released : (n : ℕ) (out rs : List ℕ) → n ≡ 0 → Cases.saidOfRun n out ≡ Cases.released rs → out ≡ rs
+pub said-released : (n : ℕ) (out rs : List ℕ) → n ≡ 0 → Cases.saidOfRun n out ≡ Cases.released rs → out ≡ rs
 said-released zero out rs z e = cc
 said-released (suc n) out rs z e = absurd (omega arith)
 

@@ -6,6 +6,7 @@ pub mod Demand2
 pub mod Demand3
 pub mod Halves
 pub mod Code
+pub mod Worthless
 pub mod Incident
 pub mod Program
 pub mod Prints
