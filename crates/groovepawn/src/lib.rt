@@ -1,9 +1,11 @@
 // The entries for a controller in C: each answer is one number, and a state is five numbers, the location and then the four clock values.
 // What each call promises stands in specs/.
 use enforcer::Answer;
+use enforcer::Output;
 use enforcer::State;
 use enforcer::input_half;
 use enforcer::marks_refusal;
+use enforcer::output_half;
 use enforcer::run;
 use join::Joined;
 use prepare::Prepared;
@@ -13,7 +15,7 @@ use ticks::Rounding;
 ghost use mathlib.Core.Path.{_≡_};
 ghost use lib.ListN.{length};
 ghost use Rattle.enforcer.specs.Code.{asPlace};
-ghost use Rattle.enforcer.specs.Promises.{answerSaid};
+ghost use Rattle.enforcer.specs.Promises.{answerSaid, OutputPromise};
 ghost use Rattle.groovepawn.specs.Words.{answerWord, stateIn, stateWords, oddRefusal};
 ghost use Rattle.groovepawn.specs.Calls.{PrepareCall, InputCall, OutputCall, RunCall, JoinCall, TicksCall};
 
@@ -64,6 +66,18 @@ fn answer_word(answer: Answer) -> u32
     }
 }
 
+// The state is held here while it is lent to the output half, and is handed back as the half left it.
+fn lend(given: State, file: &[u8], marks: &[u8], x: u8, y: u8) -> Output
+    ensures { λ r. ⌜ OutputPromise (now (file .entry)) (now (marks .entry)) given x y r ⌝ }
+{
+    let mut held = given;
+    let answer = output_half(&mut held, file, marks, x, y);
+    Output {
+        answer,
+        state: held,
+    }
+}
+
 #[no_mangle]
 pub extern "C" fn groovepawn_prepare(file: &[u8], marks: &mut [u8]) -> u64
     ensures { λ r. ⌜ PrepareCall (now (file .entry)) (now (marks .entry)) r (now (marks .exit)) ⌝ }
@@ -100,7 +114,7 @@ pub extern "C" fn groovepawn_output(
         return odd_refusal(file, marks, true) as u32;
     }
     let given = state_of(state);
-    let output = given.output(file, marks, x, y);
+    let output = lend(given, file, marks, x, y);
     let next = output.state;
     put_state(state, next);
     let answer = output.answer;

@@ -18,8 +18,8 @@ returns c = let n = ne-eqb _ 5 (c .before .if1 .taken) in record { said = rw n (
 state-of-requires : tie.Need-state-of-requires
 state-of-requires c κs = search needs
 
-output-requires : tie.Need-output-requires
-output-requires c κs = search needs
+lend-requires : tie.Need-lend-requires
+lend-requires c κs = search needs
 
 put-state-requires : tie.Need-put-state-requires
 put-state-requires c κs = search needs
@@ -38,8 +38,8 @@ returns-2 c =
     let s = o .before in
     let five = eq-eqb _ 5 (s .before .before .if1 .left) in
     record {
-      said = rw (five, ← s .state-of .ensures, ← o .output .ensures .said) (c .answer-word .ensures);
-      next = rw (five, ← s .state-of .ensures, ← o .output .ensures .said) (p .put-state .ensures);
+      said = rw (five, ← s .state-of .ensures, ← o .lend .ensures .said) (c .answer-word .ensures);
+      next = rw (five, ← s .state-of .ensures, ← o .lend .ensures .said) (p .put-state .ensures);
     }
 
 pub groovepawn-output-spec : {M : Type 1} → statement M
@@ -50,7 +50,7 @@ groovepawn-output-spec =
     cast-result
     returns
     state-of-requires
-    output-requires
+    lend-requires
     put-state-requires
     answer-word-requires
     same-length
