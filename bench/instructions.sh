@@ -1,11 +1,10 @@
 #!/usr/bin/env bash
-# Counts the instructions of one tick on both sides, with callgrind.
+# Counts the instructions of one tick on both sides, and of one call of each
+# half at the worst ticks, with callgrind.
 set -euo pipefail
 shopt -s inherit_errexit
 cd "$(dirname "$0")"
 
-few=4096
-many=16384
 streams=(
     "short, no edits"
     "short, many edits"
@@ -13,6 +12,10 @@ streams=(
     "long, many edits"
     "crowded, no edits"
     "crowded, many edits"
+)
+worst=(
+    "barred, both edited"
+    "nested, both edited"
 )
 
 sides=(plain)
@@ -28,35 +31,54 @@ cargo build --release --offline --quiet "${features[@]}"
 work=$(mktemp -d)
 trap 'rm -rf "$work"' EXIT
 
-# Instructions of the whole program: side, stream, ticks.
+# Instructions of the whole program: side, how many times, stream, and nothing
+# for ticks of a run or the half that is called.
 instructions() {
     valgrind --tool=callgrind --log-file="$work/log" --callgrind-out-file="$work/counts" \
-        target/release/bench instructions "$1" "$3" "$2"
+        target/release/bench instructions "$@"
     awk '$1 == "totals:" { print $2 }' "$work/counts"
 }
 
-# What is done before the first tick is the same for both numbers of ticks, so
-# it is not in the difference.
-per_tick() {
+# Side, few, many, stream, half. What is done before the first time is the
+# same for both numbers, so it is not in the difference.
+per_time() {
     local less more
-    less=$(instructions "$1" "$2" "$few")
-    more=$(instructions "$1" "$2" "$many")
-    awk -v more="$more" -v less="$less" -v ticks=$((many - few)) \
-        'BEGIN { printf "%.1f", (more - less) / ticks }'
+    less=$(instructions "$1" "$2" "${@:4}")
+    more=$(instructions "$1" "$3" "${@:4}")
+    awk -v more="$more" -v less="$less" -v times=$(($3 - $2)) \
+        'BEGIN { printf "%.1f", (more - less) / times }'
 }
 
-echo "instructions a tick"
-printf '%-20s' stream
-printf ' %10s' "${sides[@]}" ratio
-printf '\n'
-for stream in "${streams[@]}"; do
-    counts=()
+# A row of the table: few, many, stream, half.
+row() {
+    local counts=() side count ratio
     for side in "${sides[@]}"; do
-        count=$(per_tick "$side" "$stream")
+        count=$(per_time "$side" "$@")
         counts+=("$count")
     done
     ratio=$(awk -v a="${counts[0]}" -v b="${counts[-1]}" 'BEGIN { printf "%.2f", b / a }')
-    printf '%-20s' "$stream"
+    printf '%-32s' "${*:3}"
     printf ' %10s' "${counts[@]}" "$ratio"
     printf '\n'
+}
+
+heading() {
+    echo "$1"
+    printf '%-32s' stream
+    printf ' %10s' "${sides[@]}" ratio
+    printf '\n'
+}
+
+heading "instructions a tick of a run"
+for stream in "${streams[@]}"; do
+    row 4096 16384 "$stream"
+done
+for stream in "${worst[@]}"; do
+    row 256 1024 "$stream"
+done
+heading "instructions a call, the check of the file among them"
+for stream in "${worst[@]}"; do
+    for half in input output; do
+        row 64 256 "$stream" "$half"
+    done
 done

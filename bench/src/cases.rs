@@ -27,6 +27,9 @@ pub fn all() -> Vec<Case> {
         prepare("10,000 states", policies::ten_thousand()),
         prepare("65,536 states", policies::full()),
         prepare("none dies", policies::lasting()),
+        prepare("a third dies", policies::third_dies()),
+        prepare("most die", policies::most_die()),
+        prepare("all die", policies::all_die()),
         prepare("the longest file", policies::long()),
     ];
     let joins = [
@@ -96,15 +99,21 @@ mod tests {
         }
     }
 
+    /// But for the policy all of whose states die: it has its marks and the
+    /// refusal 11.
     #[test]
     fn nothing_measured_is_refused() {
         for mut case in all() {
+            let expected = match case.name.as_str() {
+                "prepare: all die" => 11,
+                _ => 0,
+            };
             let outcome = outcome_of(case.work.as_mut(), &Plain);
-            let refused = outcome
+            let as_expected = outcome
                 .answers
                 .iter()
-                .any(|&answer| refusal_in(answer) != 0);
-            assert!(!refused, "{}", case.name);
+                .all(|&answer| refusal_in(answer) == expected);
+            assert!(as_expected, "{}", case.name);
         }
     }
 

@@ -9,6 +9,8 @@ pub struct Shape {
     pub signals: u8,
     pub locations: u8,
     pub rules_per_location: usize,
+    /// Of a hundred rules about so many lead to the violation.
+    pub violations: u64,
     pub ceilings: &'static [u16],
 }
 
@@ -33,7 +35,7 @@ impl Shape {
     fn rule(&self, random: &mut Random, source: u8) -> Rule {
         let signals = (1 << self.signals) - 1;
         let clocks = self.ceilings.len() as u64;
-        let target = match random.percent(20) {
+        let target = match random.percent(self.violations) {
             true => VIOLATION,
             false => random.below(self.locations.into()) as u8,
         };

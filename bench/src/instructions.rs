@@ -1,7 +1,10 @@
-//! A number of ticks on one side only, for a tool that counts instructions.
+//! A number of ticks or calls on one side only, for a tool that counts
+//! instructions.
 
 use crate::engine::{found_in, refusal_in, Engine};
+use crate::ready::Ready;
 use crate::streams::Stream;
+use crate::work::{InputWork, OutputWork};
 
 /// This many events are always made, however many are run, so that all that
 /// is done before the first tick is the same for every number of ticks.
@@ -19,6 +22,30 @@ pub fn run(engine: &dyn Engine, stream: &Stream, ticks: usize) -> Result<(), Str
     }
 }
 
+/// As many moments are always made, however many are called at.
+pub const MOST_CALLS: usize = 256;
+
+/// One call of the input half at each of the first moments of the stream.
+pub fn input(engine: &dyn Engine, stream: &Stream, calls: usize) -> Result<(), String> {
+    let (ready, events) = moments(stream, calls)?;
+    InputWork::new(ready, &events).call_first(engine, calls);
+    Ok(())
+}
+
+/// The same for the output half.
+pub fn output(engine: &dyn Engine, stream: &Stream, calls: usize) -> Result<(), String> {
+    let (ready, events) = moments(stream, calls)?;
+    OutputWork::new(ready, &events).call_first(engine, calls);
+    Ok(())
+}
+
+fn moments(stream: &Stream, calls: usize) -> Result<(Ready, Vec<u8>), String> {
+    match calls <= MOST_CALLS {
+        true => Ok(stream.ready(MOST_CALLS)),
+        false => Err(format!("at most {MOST_CALLS} calls")),
+    }
+}
+
 #[cfg(test)]
 mod tests {
     use super::*;
@@ -31,5 +58,15 @@ mod tests {
             assert_eq!(run(&Plain, &STREAMS[0], ticks), Ok(()));
         }
         assert!(run(&Plain, &STREAMS[0], MOST_TICKS + 1).is_err());
+    }
+
+    #[test]
+    fn any_number_of_calls_up_to_the_most_can_be_made() {
+        for half in [input, output] {
+            for calls in [0, 1, MOST_CALLS] {
+                assert_eq!(half(&Plain, &STREAMS[0], calls), Ok(()));
+            }
+            assert!(half(&Plain, &STREAMS[0], MOST_CALLS + 1).is_err());
+        }
     }
 }

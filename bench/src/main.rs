@@ -1,4 +1,5 @@
-//! Measures the library against the plain program, or runs ticks on one side.
+//! Measures the library against the plain program, or runs ticks or calls on
+//! one side.
 
 use bench::engine::{Engine, Plain};
 use bench::streams::{Stream, STREAMS};
@@ -20,8 +21,14 @@ fn main() -> ExitCode {
 fn perform(words: &[&str]) -> Result<(), String> {
     match *words {
         [] => measure_all(),
-        ["instructions", side, ticks] => count(side, ticks, STREAMS[0].name),
-        ["instructions", side, ticks, stream] => count(side, ticks, stream),
+        ["instructions", side, ticks] => count(side, ticks, STREAMS[0].name, instructions::run),
+        ["instructions", side, ticks, stream] => count(side, ticks, stream, instructions::run),
+        ["instructions", side, calls, stream, "input"] => {
+            count(side, calls, stream, instructions::input)
+        }
+        ["instructions", side, calls, stream, "output"] => {
+            count(side, calls, stream, instructions::output)
+        }
         _ => Err(usage()),
     }
 }
@@ -29,7 +36,8 @@ fn perform(words: &[&str]) -> Result<(), String> {
 fn usage() -> String {
     let names: Vec<&str> = STREAMS.iter().map(|stream| stream.name).collect();
     format!(
-        "usage:\n  bench\n  bench instructions plain|library TICKS [STREAM]\nstreams: {}",
+        "usage:\n  bench\n  bench instructions plain|library TICKS [STREAM]\n  \
+         bench instructions plain|library CALLS STREAM input|output\nstreams: {}",
         names.join("; ")
     )
 }
@@ -62,8 +70,11 @@ fn measure_all() -> Result<(), String> {
     Ok(())
 }
 
-fn count(side: &str, ticks: &str, stream: &str) -> Result<(), String> {
-    let ticks = ticks.parse().map_err(|_| usage())?;
+/// What is done on one side so many times at a stream.
+type Counted = fn(&dyn Engine, &Stream, usize) -> Result<(), String>;
+
+fn count(side: &str, times: &str, stream: &str, counted: Counted) -> Result<(), String> {
+    let times = times.parse().map_err(|_| usage())?;
     let stream = Stream::named(stream).ok_or_else(usage)?;
     let engine = match (side, second_side()) {
         ("plain", _) => &Plain,
@@ -71,5 +82,5 @@ fn count(side: &str, ticks: &str, stream: &str) -> Result<(), String> {
         ("library", _) => return Err("build with `--features library`".to_string()),
         _ => return Err(usage()),
     };
-    instructions::run(engine, stream, ticks)
+    counted(engine, stream, times)
 }

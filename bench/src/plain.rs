@@ -14,6 +14,7 @@ mod prepare;
 #[path = "../../independent/src/refusal.rs"]
 mod refusal;
 mod rule;
+mod sets;
 mod state;
 
 #[cfg(test)]

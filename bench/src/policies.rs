@@ -8,6 +8,10 @@ use crate::random::Random;
 /// that an edit has the most values to choose from.
 const SIGNALS: u8 = 4;
 
+/// Of a hundred rules that many lead to the violation: few, or half of them.
+const FEW: u64 = 20;
+const HALF: u64 = 50;
+
 /// Two locations and six rules: a request (input bit 0) is answered (output
 /// bit 0) on the fourth tick at the latest, and two inputs exclude each other.
 pub fn short() -> Policy {
@@ -46,6 +50,7 @@ pub fn long() -> Policy {
         signals: SIGNALS,
         locations: 64,
         rules_per_location: 4,
+        violations: FEW,
         ceilings: &[3, 3, 7, 7],
     };
     shape.generate(23)
@@ -58,6 +63,7 @@ pub fn crowded() -> Policy {
         signals: SIGNALS,
         locations: 1,
         rules_per_location: 255,
+        violations: FEW,
         ceilings: &[31, 31],
     };
     let mut policy = shape.generate(1);
@@ -87,28 +93,98 @@ fn one_value(random: &mut Random) -> Condition {
     }
 }
 
+/// Where every rule costs a tick the most while it takes nothing: 255 rules
+/// agree with every event and fail at the last of four clocks, and only the
+/// event 15, 15 is permitted. By events, each of 256 would try all the rules.
+pub fn barred() -> Policy {
+    let last = (1, NO_UPPER_BOUND);
+    let barred = one_location(Condition::ANY, Condition::ANY, 0, [OPEN, OPEN, OPEN, last]);
+    let mut rules = vec![barred; 255];
+    let all = Condition::set(0b1111);
+    rules.push(one_location(all, all, 0, [OPEN; 4]));
+    from_one_location(rules)
+}
+
+/// Where every rule costs a tick the most and takes something: its bounds
+/// hold, it agrees with the event 0, 0 as read, and it is left just one event
+/// x, y. (It agrees with the submasks of x and of y, whose rules stand before
+/// it.) The rules left an event with x 0, or 1, 0, lead to location 1, which
+/// has no rules.
+pub fn nested() -> Policy {
+    let bound = (0, 2);
+    let within = |value: u8| Condition::clear(!value & 0b1111);
+    let rule = |event: u8| {
+        let (x, y) = (event >> 4, event & 15);
+        let target = u8::from(x == 0 || (x, y) == (1, 0));
+        one_location(within(x), within(y), target, [bound; 4])
+    };
+    from_one_location((0..=255).map(rule).collect())
+}
+
+/// A rule of location 0 that resets all four clocks.
+fn one_location(input: Condition, output: Condition, target: u8, bounds: [Bound; 4]) -> Rule {
+    Rule {
+        source: 0,
+        input,
+        output,
+        reset: 0b1111,
+        target,
+        bounds: bounds.to_vec(),
+    }
+}
+
+fn from_one_location(rules: Vec<Rule>) -> Policy {
+    Policy {
+        inputs: SIGNALS,
+        outputs: SIGNALS,
+        ceilings: vec![3; 4],
+        locations: 2,
+        rules,
+    }
+}
+
 /// 1,024 states.
 pub fn thousand() -> Policy {
-    prepared(16, &[7, 7], 18)
+    prepared(2, 16, FEW, &[7, 7], 18)
 }
 
 /// 10,000 states.
 pub fn ten_thousand() -> Policy {
-    prepared(25, &[19, 19], 24)
+    prepared(2, 25, FEW, &[19, 19], 24)
 }
 
 /// 65,536 states, as many as there can be.
 pub fn full() -> Policy {
-    prepared(64, &[31, 31], 33)
+    prepared(2, 64, FEW, &[31, 31], 33)
 }
 
-/// Two inputs and two outputs: with more, nearly all the time would go to the
-/// states that die, each of which has every event tried.
-fn prepared(locations: u8, ceilings: &'static [u16], seed: u64) -> Policy {
+/// 65,536 states, about a third of which die.
+pub fn third_dies() -> Policy {
+    prepared(SIGNALS, 64, FEW, &[31, 31], 38)
+}
+
+/// 65,536 states, most of which die.
+pub fn most_die() -> Policy {
+    prepared(SIGNALS, 64, HALF, &[31, 31], 38)
+}
+
+/// 65,536 states, all of which die.
+pub fn all_die() -> Policy {
+    prepared(SIGNALS, 64, HALF, &[31, 31], 1)
+}
+
+fn prepared(
+    signals: u8,
+    locations: u8,
+    violations: u64,
+    ceilings: &'static [u16],
+    seed: u64,
+) -> Policy {
     let shape = Shape {
-        signals: 2,
+        signals,
         locations,
         rules_per_location: 4,
+        violations,
         ceilings,
     };
     shape.generate(seed)
@@ -171,7 +247,7 @@ fn ring(locations: u8, conditions: &[Condition], bound: (u16, u16)) -> Policy {
 #[cfg(test)]
 mod tests {
     use super::*;
-    use crate::plain::{join, prepare, Prepared};
+    use crate::plain::{join, prepare, Prepared, Refusal};
 
     fn prepare_policy(policy: &Policy) -> Prepared {
         prepare(&policy.encode(), &mut [0; MOST_STATES]).expect("a live start")
@@ -181,8 +257,10 @@ mod tests {
     fn the_long_ones_have_256_rules() {
         assert_eq!(long().rules.len(), 256);
         assert_eq!(long().encode().len(), LONGEST_FILE);
-        assert_eq!(crowded().rules.len(), 256);
-        assert!(crowded().rules.iter().all(|rule| rule.source == 0));
+        for policy in [crowded(), barred(), nested()] {
+            assert_eq!(policy.rules.len(), 256);
+            assert!(policy.rules.iter().all(|rule| rule.source == 0));
+        }
     }
 
     #[test]
@@ -198,6 +276,36 @@ mod tests {
             assert_eq!(policy.rules.len(), 4 * usize::from(policy.locations));
             let share = prepared.live as f64 / states as f64;
             assert!((0.5..0.8).contains(&share), "{share} of {states}");
+        }
+    }
+
+    #[test]
+    fn a_third_dies_or_most_do() {
+        let counts = [(third_dies(), 43_157), (most_die(), 8_785)];
+        for (policy, live) in counts {
+            let prepared = prepare_policy(&policy);
+            assert_eq!((prepared.states, prepared.live), (MOST_STATES, live));
+        }
+    }
+
+    #[test]
+    fn where_all_die_no_mark_stays() {
+        let mut marks = [1; MOST_STATES];
+        let refused = prepare(&all_die().encode(), &mut marks);
+        assert_eq!(refused, Err(Refusal::StartNotLive));
+        assert_eq!(marks, [0; MOST_STATES]);
+    }
+
+    #[test]
+    fn each_nested_rule_takes_one_event() {
+        let rules = nested().rules;
+        let fires = |rule: &Rule, event: u8| {
+            let agrees = |condition: Condition, bits| bits & condition.care == condition.value;
+            agrees(rule.input, event >> 4) && agrees(rule.output, event & 15)
+        };
+        for event in 0..=255 {
+            let first = rules.iter().position(|rule| fires(rule, event));
+            assert_eq!(first, Some(event.into()));
         }
     }
 

@@ -1,5 +1,5 @@
-//! The runs that are measured: a policy, and a stream that needs many edits
-//! or none.
+//! The runs that are measured: a policy, and a stream that needs no edits,
+//! many, or two in each event.
 
 use crate::file::Policy;
 use crate::policies;
@@ -11,6 +11,8 @@ use crate::work::RunWork;
 pub enum Edits {
     None,
     Many,
+    /// The event 0, 0 each time, of which both halves are edited.
+    Both,
 }
 
 pub struct Stream {
@@ -19,13 +21,15 @@ pub struct Stream {
     pub edits: Edits,
 }
 
-pub const STREAMS: [Stream; 6] = [
+pub const STREAMS: [Stream; 8] = [
     stream("short, no edits", policies::short, Edits::None),
     stream("short, many edits", policies::short, Edits::Many),
     stream("long, no edits", policies::long, Edits::None),
     stream("long, many edits", policies::long, Edits::Many),
     stream("crowded, no edits", policies::crowded, Edits::None),
     stream("crowded, many edits", policies::crowded, Edits::Many),
+    stream("barred, both edited", policies::barred, Edits::Both),
+    stream("nested, both edited", policies::nested, Edits::Both),
 ];
 
 const fn stream(name: &'static str, policy: fn() -> Policy, edits: Edits) -> Stream {
@@ -51,10 +55,10 @@ impl Stream {
     pub fn ready(&self, ticks: usize) -> (Ready, Vec<u8>) {
         let policy = (self.policy)();
         let ready = Ready::new(&policy);
-        let wild = any_events(&policy, ticks);
         let events = match self.edits {
-            Edits::None => ready.corrected(&wild),
-            Edits::Many => wild,
+            Edits::None => ready.corrected(&any_events(&policy, ticks)),
+            Edits::Many => any_events(&policy, ticks),
+            Edits::Both => vec![0; ticks],
         };
         (ready, events)
     }
@@ -84,13 +88,23 @@ mod tests {
     }
 
     #[test]
-    fn streams_need_many_edits_or_none() {
+    fn streams_need_the_edits_they_are_named_for() {
         for stream in &STREAMS {
             let share = edited(stream, 4_096);
             match stream.edits {
                 Edits::None => assert_eq!(share, 0.0, "{}", stream.name),
                 Edits::Many => assert!(share > 0.2, "{}: {share}", stream.name),
+                Edits::Both => assert_eq!(share, 1.0, "{}", stream.name),
             }
+        }
+    }
+
+    #[test]
+    fn both_halves_are_edited() {
+        for stream in STREAMS.iter().filter(|stream| stream.edits == Edits::Both) {
+            let (ready, events) = stream.ready(1);
+            let released = ready.corrected(&events)[0];
+            assert!(released & 15 != 0 && released >> 4 != 0, "{}", stream.name);
         }
     }
 

@@ -2,6 +2,8 @@
 
 use super::policy::{Policy, Rules};
 use super::refusal::Refusal;
+use super::rule::Rule;
+use super::sets::{all_below, is_in, Sets};
 use super::state::State;
 
 /// How a run ended.
@@ -28,10 +30,8 @@ pub fn output(file: &[u8], marks: &[u8], state: &mut [u16], x: u8, y: u8) -> Res
     let moment = enforcer.moment(state)?;
     check_value(x, policy.input_values())?;
     check_value(y, policy.output_values())?;
-    let released = moment
-        .choose_output(x, y)
-        .ok_or(Refusal::NothingReachesLive)?;
-    moment.after(x, released).write(state);
+    let (released, next) = moment.output(x, y).ok_or(Refusal::NothingReachesLive)?;
+    next.write(state);
     Ok(released)
 }
 
@@ -135,7 +135,7 @@ impl<'a> Enforcer<'a> {
         let mut state = start;
         for (count, (event, out)) in events.iter().zip(released).enumerate() {
             let moment = self.at(state);
-            let Some((x, y)) = moment.correct(event & 15, event >> 4) else {
+            let Some((x, y, next)) = moment.correct(event & 15, event >> 4) else {
                 let end = RunEnd {
                     refusal: Some(Refusal::NothingReachesLive),
                     released: count,
@@ -143,7 +143,7 @@ impl<'a> Enforcer<'a> {
                 return (end, state);
             };
             *out = x | y << 4;
-            state = moment.after(x, y);
+            state = next;
         }
         let end = RunEnd {
             refusal: None,
@@ -165,57 +165,119 @@ impl Moment<'_> {
         self.state.step(self.enforcer.policy, self.own, x, y)
     }
 
-    /// Whether the event leads to a state marked 1.
-    fn reaches(&self, x: u8, y: u8) -> bool {
+    /// The state after the event, if it is marked 1.
+    fn arrival(&self, x: u8, y: u8) -> Option<State> {
         self.step(x, y)
+            .filter(|&next| self.enforcer.is_marked(next))
+    }
+
+    fn reaches(&self, x: u8, y: u8) -> bool {
+        self.arrival(x, y).is_some()
+    }
+
+    /// Whether the rule leads to a state marked 1.
+    fn leads(&self, rule: Rule) -> bool {
+        self.state
+            .by(self.enforcer.policy, rule)
             .is_some_and(|next| self.enforcer.is_marked(next))
     }
 
+    /// The rules whose bounds hold.
+    fn holding(&self) -> impl Iterator<Item = Rule<'_>> {
+        self.own.iter().filter(|rule| self.state.meets(*rule))
+    }
+
+    /// No event is taken yet.
+    fn room(&self) -> Sets {
+        let policy = self.enforcer.policy;
+        Sets::full(policy.input_values(), policy.output_values())
+    }
+
+    /// For each input the outputs that lead to a state marked 1.
+    fn allowed(&self) -> Sets {
+        let mut left = self.room();
+        let mut found = Sets::EMPTY;
+        for rule in self.holding() {
+            let taken = left.take(rule.input(), rule.output());
+            if !taken.is_empty() && self.leads(rule) {
+                found.add(taken);
+            }
+        }
+        found
+    }
+
+    /// The outputs that with x lead to a state marked 1.
+    fn row(&self, x: u8) -> u16 {
+        let mut left = all_below(self.enforcer.policy.output_values());
+        let mut found = 0;
+        for rule in self.own.iter() {
+            if !rule.input().agrees(x) || !self.state.meets(rule) {
+                continue;
+            }
+            let taken = left & rule.output().values();
+            if taken != 0 && self.leads(rule) {
+                found |= taken;
+            }
+            left ^= taken;
+        }
+        found
+    }
+
     fn input_stands(&self, x: u8) -> bool {
-        (0..self.enforcer.policy.output_values()).any(|y| self.reaches(x, y))
+        self.reaches(x, 0) || self.row(x) != 0
     }
 
     /// Whether any event leads to a state marked 1.
     pub fn goes_on(&self) -> bool {
-        (0..self.enforcer.policy.input_values()).any(|x| self.input_stands(x))
+        if self.reaches(0, 0) {
+            return true;
+        }
+        let mut left = self.room();
+        self.holding().any(|rule| {
+            let taken = left.take(rule.input(), rule.output());
+            !taken.is_empty() && self.leads(rule)
+        })
     }
 
     fn choose_input(&self, x: u8) -> Option<u8> {
+        if self.input_stands(x) {
+            return Some(x);
+        }
         let values = self.enforcer.policy.input_values();
-        nearest(x, values, |x| self.input_stands(x))
+        nearest(x, values, self.allowed().not_empty())
     }
 
-    /// The output among those that go with the input passed on.
-    fn choose_output(&self, x: u8, y: u8) -> Option<u8> {
+    /// The output among those that go with the input passed on, and the state
+    /// after it.
+    fn output(&self, x: u8, y: u8) -> Option<(u8, State)> {
+        if let Some(next) = self.arrival(x, y) {
+            return Some((y, next));
+        }
         let values = self.enforcer.policy.output_values();
-        nearest(y, values, |y| self.reaches(x, y))
+        let y = nearest(y, values, self.row(x))?;
+        Some((y, self.step(x, y).expect("a chosen event is permitted")))
     }
 
-    /// The input is fixed first, without seeing the output.
-    fn correct(&self, x: u8, y: u8) -> Option<(u8, u8)> {
+    /// The input is fixed first, without seeing the output. An event that
+    /// leads to a marked state as it is read is what both halves keep.
+    fn correct(&self, x: u8, y: u8) -> Option<(u8, u8, State)> {
+        if let Some(next) = self.arrival(x, y) {
+            return Some((x, y, next));
+        }
         let x = self.choose_input(x)?;
-        let y = self.choose_output(x, y)?;
-        Some((x, y))
-    }
-
-    /// The state after an event that was chosen here.
-    fn after(&self, x: u8, y: u8) -> State {
-        self.step(x, y).expect("a chosen event is permitted")
+        let (y, next) = self.output(x, y)?;
+        Some((x, y, next))
     }
 }
 
-/// What is wanted if it stands; otherwise the value that stands and differs
-/// from it in the fewest bits, the smallest of those. A value no nearer than
-/// the best so far is not asked about.
-fn nearest(wanted: u8, values: u8, stands: impl Fn(u8) -> bool) -> Option<u8> {
-    if stands(wanted) {
-        return Some(wanted);
-    }
+/// The value in the set that differs from the wanted one in the fewest bits,
+/// the smallest of those.
+fn nearest(wanted: u8, values: u8, set: u16) -> Option<u8> {
     let mut best = None;
     let mut least = u32::MAX;
     for value in 0..values {
         let distance = (value ^ wanted).count_ones();
-        if distance < least && stands(value) {
+        if distance < least && is_in(set, value) {
             best = Some(value);
             least = distance;
         }

@@ -27,6 +27,22 @@ impl Condition {
         bits & self.care == self.value
     }
 
+    /// The values below 16 that agree, as a set: for each of four bits those
+    /// in which it is 1, or those in which it is 0.
+    pub fn values(self) -> u16 {
+        let ones: [u16; 4] = [0xAAAA, 0xCCCC, 0xF0F0, 0xFF00];
+        let column = |(bit, ones): (usize, u16)| match (self.care >> bit & 1, self.value >> bit & 1)
+        {
+            (0, _) => u16::MAX,
+            (_, 1) => ones,
+            _ => !ones,
+        };
+        ones.into_iter()
+            .enumerate()
+            .map(column)
+            .fold(u16::MAX, |all, column| all & column)
+    }
+
     pub fn contradicts(self, other: Condition) -> bool {
         self.care & other.care & (self.value ^ other.value) != 0
     }
@@ -96,13 +112,14 @@ impl<'a> Rule<'a> {
         self.bounds
     }
 
+    /// Whether the bounds hold.
+    pub fn holds(self, clocks: &[u16; MAX_CLOCKS]) -> bool {
+        let mut pairs = self.bounds().zip(clocks);
+        pairs.all(|(bound, &clock)| bound.holds(clock))
+    }
+
     /// Whether the care bits agree and the bounds hold.
     pub fn admits(self, x: u8, y: u8, clocks: &[u16; MAX_CLOCKS]) -> bool {
-        self.input().agrees(x)
-            && self.output().agrees(y)
-            && self
-                .bounds()
-                .zip(clocks)
-                .all(|(bound, &clock)| bound.holds(clock))
+        self.input().agrees(x) && self.output().agrees(y) && self.holds(clocks)
     }
 }

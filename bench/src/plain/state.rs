@@ -69,18 +69,26 @@ impl State {
     pub fn step(self, policy: &Policy, own: Rules, x: u8, y: u8) -> Option<State> {
         own.iter()
             .find(|rule| rule.admits(x, y, &self.clocks))
-            .filter(|rule| rule.target() != VIOLATION)
-            .map(|rule| self.follow(policy, rule))
+            .and_then(|rule| self.by(policy, rule))
     }
 
-    fn follow(self, policy: &Policy, rule: Rule) -> State {
+    /// Whether the rule's bounds hold here.
+    pub fn meets(self, rule: Rule) -> bool {
+        rule.holds(&self.clocks)
+    }
+
+    /// The next state by one of its own rules; nothing for a violation.
+    pub fn by(self, policy: &Policy, rule: Rule) -> Option<State> {
+        if rule.target() == VIOLATION {
+            return None;
+        }
         let clocks = std::array::from_fn(|index| match rule.reset() >> index & 1 {
             1 => 0,
             _ => (self.clocks[index] + 1).min(policy.ceilings[index]),
         });
-        State {
+        Some(State {
             location: rule.target().into(),
             clocks,
-        }
+        })
     }
 }

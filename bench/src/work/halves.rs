@@ -39,6 +39,14 @@ impl InputWork {
             ready,
         }
     }
+
+    /// Calls at the first moments only.
+    pub fn call_first(&mut self, engine: &dyn Engine, count: usize) {
+        let Ready { file, marks } = &self.ready;
+        for (moment, answer) in self.moments[..count].iter().zip(&mut self.answers) {
+            *answer = engine.input(file, marks, &moment.state, moment.x);
+        }
+    }
 }
 
 impl Work for InputWork {
@@ -47,10 +55,7 @@ impl Work for InputWork {
     }
 
     fn pass(&mut self, engine: &dyn Engine) {
-        let Ready { file, marks } = &self.ready;
-        for (moment, answer) in self.moments.iter().zip(&mut self.answers) {
-            *answer = engine.input(file, marks, &moment.state, moment.x);
-        }
+        self.call_first(engine, self.moments.len());
     }
 
     fn spoil(&mut self) {
@@ -89,6 +94,16 @@ impl OutputWork {
             states: vec![START; events.len()],
         }
     }
+
+    /// Calls at the first moments only.
+    pub fn call_first(&mut self, engine: &dyn Engine, count: usize) {
+        let Ready { file, marks } = &self.ready;
+        let lent = self.answers.iter_mut().zip(&mut self.states);
+        for (moment, (answer, state)) in self.moments[..count].iter().zip(lent) {
+            *state = moment.state;
+            *answer = engine.output(file, marks, state, moment.x, moment.y);
+        }
+    }
 }
 
 impl Work for OutputWork {
@@ -97,12 +112,7 @@ impl Work for OutputWork {
     }
 
     fn pass(&mut self, engine: &dyn Engine) {
-        let Ready { file, marks } = &self.ready;
-        let lent = self.answers.iter_mut().zip(&mut self.states);
-        for (moment, (answer, state)) in self.moments.iter().zip(lent) {
-            *state = moment.state;
-            *answer = engine.output(file, marks, state, moment.x, moment.y);
-        }
+        self.call_first(engine, self.moments.len());
     }
 
     fn spoil(&mut self) {

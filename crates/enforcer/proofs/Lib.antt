@@ -2,3 +2,4 @@ pub mod ChooseLaws
 pub mod Laws
 pub mod RuleLaws
 pub mod RunLaws
+pub mod WayLaws

@@ -1,6 +1,6 @@
 -- What the chooser's and the tick's own types stand for, and what a chosen output does.
 use mathlib.Core.Path.{_≡_, refl, sym, ap, _∙_}
-use mathlib.Core.Bool.{Bool, true, false, false≢true}
+use mathlib.Core.Bool.{true, false, false≢true}
 use mathlib.Core.List.{List}
 use mathlib.Core.Option.{Option, none, some, bind}
 use Prim.Native.Nat.{ℕ}
@@ -9,16 +9,9 @@ use Rattle.policy.specs.Rules.{Policy, Place, stopped, step}
 use Rattle.enforcer.specs.Tick as Spec
 use Rattle.enforcer.specs.Code.{stateFrom, eventXY}
 use Rattle.enforcer.specs.declared.state.State.{State}
-use Rattle.enforcer.specs.declared.choose.Half.{Half}
-use Rattle.enforcer.specs.declared.choose.Half.the-variants as Half
 use Rattle.enforcer.specs.declared.choose.Choice.{Choice}
 use Rattle.enforcer.specs.declared.choose.Choice.the-variants as Choice
 use Rattle.enforcer.specs.declared.tick.Ticked.{Ticked}
-
--- An input may stand if some output goes with it, an output if with its input it reaches a marked state.
-unfoldable pub stands : Policy → List ℕ → Place → Half → ℕ → Bool
-stands p marks s Half.Input = Spec.mayStand p marks s
-stands p marks s (Half.Output x) = Spec.reaches p marks s x
 
 abbrev pub choiceSaid : Choice → Option ℕ
 choiceSaid (Choice.Value z) = some z

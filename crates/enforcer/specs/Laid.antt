@@ -169,7 +169,7 @@ module _ {f : List ℕ} {l : Layout} (k : Laid f l) where
     own-fits = omega (arith, own-ends (l .clocks) f (l .«rules_start») (l .rules) a own-from, laid-section, laid-limits)
 
     -- And they read as the location's own rules.
-    own-rules : rulesFrom (l .clocks) (part f (l .«rules_start» + o .start) (o .count * ruleSize (l .clocks))) 0 (o .count) ≡ own a (rulesOf f)
+    pub own-rules : rulesFrom (l .clocks) (part f (l .«rules_start» + o .start) (o .count * ruleSize (l .clocks))) 0 (o .count) ≡ own a (rulesOf f)
     own-rules = own-reads (l .clocks) f (l .«rules_start») (l .rules) a own-from ∙ ap (own a) (sym laid-from)
 
     -- All of them are the location's.

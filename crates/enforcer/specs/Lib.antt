@@ -8,4 +8,11 @@ pub mod Laid
 pub mod States
 pub mod Refusals
 pub mod Chosen
+pub mod Arrived
 pub mod Promises
+pub mod Sets
+pub mod Outs
+pub mod Ways
+pub mod Changed
+pub mod Pass
+pub mod Choice

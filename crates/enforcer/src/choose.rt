@@ -1,27 +1,36 @@
-// The nearest value that may stand: one chooser for both halves.
-use crate::reach::may_stand;
-use crate::reach::reaches;
+// The nearest value in a set: one chooser for both halves.
+use crate::pass::allowed;
+use crate::pass::may_stand;
+use crate::pass::row;
+use crate::reach::values;
 use crate::state::State;
 use policy::Layout;
 use policy::Own;
 ghost use mathlib.Core.Path.{_≡_};
-ghost use Prim.Native.Nat.{_≤_, _<_};
+ghost use Prim.Native.Nat.{ℕ, _≤_, _<_};
+ghost use lib.Dec.{eqb, ltb};
+ghost use lib.ListN.{getD};
 ghost use Rattle.streams.specs.Choose.{nearest};
 ghost use Rattle.streams.specs.Corrections.{distance};
+ghost use Rattle.policy.specs.Rules.{inputValues};
 ghost use Rattle.policy.specs.File.{policyOf};
+ghost use Rattle.enforcer.specs.Tick.{inputChoice, outputChoice};
 ghost use Rattle.enforcer.specs.Code.{place};
 ghost use Rattle.enforcer.specs.Ready.{Ready};
-ghost use Rattle.enforcer.specs.Chosen.{stands, choiceSaid};
-
-// The input, or the output that goes with an input.
-pub enum Half {
-    Input,
-    Output(u8),
-}
+ghost use Rattle.enforcer.specs.Sets.{has};
+ghost use Rattle.enforcer.specs.Chosen.{choiceSaid};
 
 pub enum Choice {
     Value(u8),
     Nothing,
+}
+
+// The value is in the set.
+fn is_in(set: u16, value: u8) -> bool
+    requires { ⌜ value < 16 ⌝ }
+    ensures { λ r. ⌜ r ≡ has set value ⌝ }
+{
+    (set >> value) % 2 == 1
 }
 
 // In how many bits two values differ.
@@ -31,42 +40,11 @@ fn distance(wanted: u8, value: u8) -> u32
     u8::count_ones(wanted ^ value) as u32
 }
 
-// The value may stand in this half.
-fn stands(
-    file: &[u8],
-    layout: Layout,
-    own: Own,
-    marks: &[u8],
-    state: State,
-    half: Half,
-    value: u8,
-) -> bool
-    requires { ⌜ Ready (now file) layout own (now marks) state ⌝ }
-    ensures { λ r. ⌜ r ≡ stands (policyOf (now (file .entry))) (now (marks .entry)) (place (layout .clocks) state) half value ⌝ }
+// Of the values below n in the set, the one nearest to the wanted one.
+fn nearest(set: u16, wanted: u8, n: usize) -> Choice
+    requires { ⌜ n ≤ 16 ⌝ }
+    ensures { λ r. ⌜ choiceSaid r ≡ nearest (has set) wanted n ⌝ }
 {
-    match half {
-        Half::Input => may_stand(file, layout, own, marks, state, value),
-        Half::Output(x) => reaches(file, layout, own, marks, state, x, value),
-    }
-}
-
-// Of the values below n that may stand, the one nearest to the wanted one; a value that is no nearer than the best so far is not asked about.
-pub(crate) fn nearest(
-    file: &[u8],
-    layout: Layout,
-    own: Own,
-    marks: &[u8],
-    state: State,
-    half: Half,
-    wanted: u8,
-    n: usize,
-) -> Choice
-    requires { ⌜ Ready (now file) layout own (now marks) state × (wanted < n) × (n ≤ 16) ⌝ }
-    ensures { λ r. ⌜ choiceSaid r ≡ nearest (stands (policyOf (now (file .entry))) (now (marks .entry)) (place (layout .clocks) state) half) wanted n ⌝ }
-{
-    if stands(file, layout, own, marks, state, half, wanted) {
-        return Choice::Value(wanted);
-    }
     let mut best = 0u8;
     let mut far = 9u32;
     let mut z = 0;
@@ -74,7 +52,7 @@ pub(crate) fn nearest(
         let value = z as u8;
         let away = distance(wanted, value);
         if away < far {
-            if stands(file, layout, own, marks, state, half, value) {
+            if is_in(set, value) {
                 best = value;
                 far = away;
             }
@@ -86,4 +64,63 @@ pub(crate) fn nearest(
     } else {
         Choice::Nothing
     }
+}
+
+// 1 for a set that is not empty, else 0.
+fn some(set: u16) -> u16
+    ensures { λ r. ⌜ (r < 2) × (eqb r 1 ≡ ltb 0 set) ⌝ }
+{
+    if set == 0 { 0 } else { 1 }
+}
+
+// The inputs whose set is not empty.
+fn standing(sets: [u16; 16]) -> u16
+    ensures { λ r. ⌜ ((x : ℕ) → has r x ≡ ltb 0 (getD sets x 0)) ⌝ }
+{
+    let mut all = 0u16;
+    let mut x = 16;
+    while 0 < x {
+        x -= 1;
+        all = all * 2 + some(sets[x]);
+    }
+    all
+}
+
+// The input as read is asked about alone; if it may not stand, one pass over the rules gives all that may.
+pub(crate) fn choose_input(
+    file: &[u8],
+    layout: Layout,
+    own: Own,
+    marks: &[u8],
+    state: State,
+    x: u8,
+) -> Choice
+    requires { ⌜ Ready (now file) layout own (now marks) state × (x < inputValues (policyOf (now file))) ⌝ }
+    ensures { λ r. ⌜ choiceSaid r ≡ inputChoice (policyOf (now (file .entry))) (now (marks .entry)) (place (layout .clocks) state) x ⌝ }
+{
+    if may_stand(file, layout, own, marks, state, x) {
+        return Choice::Value(x);
+    }
+    let sets = allowed(file, layout, own, marks, state);
+    nearest(standing(sets), x, values(layout.inputs))
+}
+
+// The outputs that go with x, from which one is chosen.
+pub(crate) fn choose_output(
+    file: &[u8],
+    layout: Layout,
+    own: Own,
+    marks: &[u8],
+    state: State,
+    x: u8,
+    y: u8,
+) -> Choice
+    requires { ⌜ Ready (now file) layout own (now marks) state ⌝ }
+    ensures { λ r. ⌜ choiceSaid r ≡ outputChoice (policyOf (now (file .entry))) (now (marks .entry)) (place (layout .clocks) state) x y ⌝ }
+{
+    nearest(
+        row(file, layout, own, marks, state, x),
+        y,
+        values(layout.outputs),
+    )
 }

@@ -1,9 +1,9 @@
 // The input half, and the output half by value.
 use crate::choose::Choice;
+use crate::choose::choose_input;
 use crate::reach::own_of;
 use crate::reach::values;
 use crate::state::State;
-use crate::tick::choose_input;
 use crate::tick::output_tick;
 use policy::Checked;
 use policy::Layout;

@@ -16,7 +16,12 @@ pub enum Found {
 }
 
 // The bounds from `at` on hold for the clock values.
-fn bounds_hold(rules: &[u8], at: usize, clocks: usize, values: [u16; State::CLOCKS]) -> bool
+pub(crate) fn bounds_hold(
+    rules: &[u8],
+    at: usize,
+    clocks: usize,
+    values: [u16; State::CLOCKS],
+) -> bool
     requires { ⌜ (at < 2 ^ 32) × (clocks ≤ 4) × (at + 4 * clocks ≤ length (now rules)) ⌝ }
     ensures { λ r. ⌜ r ≡ hold (boundsFrom (now (rules .entry)) at clocks) (take clocks values) ⌝ }
 {

@@ -19,7 +19,7 @@ pub struct Step {
 }
 
 // Each clock goes to 0 if the mask names it, else up by one and no further than its ceiling. An unused clock stays at its ceiling 0.
-fn advanced(
+pub(crate) fn advanced(
     mask: usize,
     ceilings: [u16; State::CLOCKS],
     values: [u16; State::CLOCKS],

@@ -9,12 +9,13 @@ ghost use Prim.Native.Nat.{_≤_, _^_};
 ghost use Rattle.policy.specs.Rules.{stopped, step};
 ghost use Rattle.policy.specs.File.{policyOf, rulesOf};
 ghost use Rattle.policy.specs.Own.{ownOf};
-ghost use Rattle.enforcer.specs.Tick.{reaches, mayStand};
+ghost use Rattle.enforcer.specs.Tick.{reaches};
 ghost use Rattle.enforcer.specs.Code.{eventXY, place, stepFrom};
+ghost use Rattle.enforcer.specs.Arrived.{arrival};
 ghost use Rattle.enforcer.specs.Ready.{Laid, Ready};
 
 // How many values so many signals have, one bit a signal.
-pub fn values(signals: usize) -> usize
+pub(crate) fn values(signals: usize) -> usize
     requires { ⌜ signals ≤ 4 ⌝ }
     ensures { λ r. ⌜ r ≡ 2 ^ signals ⌝ }
 {
@@ -48,6 +49,36 @@ pub(crate) fn step_of(file: &[u8], layout: Layout, own: Own, state: State, x: u8
     state.step(&file[from..to], own.count, ceilings, clocks, x, y)
 }
 
+// What the event x, y does; a next state that is not marked counts as none.
+pub(crate) fn arrival(
+    file: &[u8],
+    layout: Layout,
+    own: Own,
+    marks: &[u8],
+    state: State,
+    x: u8,
+    y: u8,
+) -> Step
+    requires { ⌜ Ready (now file) layout own (now marks) state ⌝ }
+    ensures { λ r. ⌜ r ≡ stepFrom state (arrival (policyOf (now (file .entry))) (now (marks .entry)) (place (layout .clocks) state) x y) ⌝ }
+{
+    let step = step_of(file, layout, own, state, x, y);
+    if !step.permitted {
+        return step;
+    }
+    let next = step.state;
+    let ceilings = layout.ceilings;
+    let number = next.number(ceilings, State::CLOCKS);
+    if marks[number] == 1 {
+        step
+    } else {
+        Step {
+            permitted: false,
+            state,
+        }
+    }
+}
+
 // The event x, y takes the state to a marked one.
 pub(crate) fn reaches(
     file: &[u8],
@@ -61,28 +92,6 @@ pub(crate) fn reaches(
     requires { ⌜ Ready (now file) layout own (now marks) state ⌝ }
     ensures { λ r. ⌜ r ≡ reaches (policyOf (now (file .entry))) (now (marks .entry)) (place (layout .clocks) state) x y ⌝ }
 {
-    let step = step_of(file, layout, own, state, x, y);
-    if !step.permitted {
-        return false;
-    }
-    let next = step.state;
-    let ceilings = layout.ceilings;
-    let number = next.number(ceilings, State::CLOCKS);
-    marks[number] == 1
-}
-
-// Some y takes the state with x to a marked one.
-pub fn may_stand(file: &[u8], layout: Layout, own: Own, marks: &[u8], state: State, x: u8) -> bool
-    requires { ⌜ Ready (now file) layout own (now marks) state ⌝ }
-    ensures { λ r. ⌜ r ≡ mayStand (policyOf (now (file .entry))) (now (marks .entry)) (place (layout .clocks) state) x ⌝ }
-{
-    let outputs = values(layout.outputs);
-    let mut y = 0;
-    while y < outputs {
-        if reaches(file, layout, own, marks, state, x, y as u8) {
-            return true;
-        }
-        y += 1;
-    }
-    false
+    let step = arrival(file, layout, own, marks, state, x, y);
+    step.permitted
 }

@@ -93,7 +93,7 @@ pub start-in : (p : Policy) → Sound p → In p (start p)
 start-in p k = record { location = k .start; clocks = length-replicate {A = ℕ} (length (p .ceilings)) 0 }
 
 -- Clocks that stop are at their ceilings or below.
-advance-stopped : (mask : ℕ) (cs vs : List ℕ) (i : ℕ) → getD (advance stopped mask cs vs) i 0 ≤ getD cs i 0
+pub advance-stopped : (mask : ℕ) (cs vs : List ℕ) (i : ℕ) → getD (advance stopped mask cs vs) i 0 ≤ getD cs i 0
 unfolding advance
 advance-stopped mask [] vs i = omega arith
 advance-stopped mask (c ∷ cs) [] i = omega arith

@@ -4,28 +4,20 @@ use mathlib.Core.Logic.{⊎-elim}
 use Prim.Native.Nat.{_-_, _≤_}
 use native.Mathlib.Omega.{arith}
 use borrow.Author.Needs.{needs}
-use Rattle.streams.specs.Choose.{nearest-kept}
-use Rattle.policy.specs.File.{policyOf}
-use Rattle.enforcer.specs.Code.{place}
-use Rattle.enforcer.specs.Chosen.{stands}
 use Rattle.enforcer.proofs.ChooseLaws.{Best, best-starts, best-stays, best-passes, best-moves, best-found, best-unfound}
+use Rattle.enforcer.specs.Sets.{has}
 use Rattle.enforcer.proofs.choose.nearest.Statement.{statement}
 use Rattle.enforcer.proofs.choose.nearest.Tie as tie
 
 abbrev Inv-loop : tie.InvT-loop
-Inv-loop file layout own marks state half wanted n best₀ far₀ z₀ best far z =
-    (z ≤ n) × Best (stands (policyOf file) marks (place (layout .clocks) state) half) wanted z best far
+Inv-loop set wanted n best₀ far₀ z₀ best far z = (z ≤ n) × Best (has set) wanted z best far
 
 abbrev μ-loop : tie.MeasureT-loop
-μ-loop file layout own marks state half wanted n best₀ far₀ z₀ best far z = n - z
+μ-loop set wanted n best₀ far₀ z₀ best far z = n - z
 
-stands-requires : tie.Need-stands-requires Inv-loop μ-loop
-stands-requires c κs = search needs
-
-returns : tie.Need-returns Inv-loop μ-loop
-returns c =
-    let s = c .before .before .before .before in
-    sym (nearest-kept _ _ _ (s .pre .1) (sym (c .before .stands .ensures) ∙ c .if1 .taken))
+-- After the loop every value is passed.
+passed : (c : tie.After-loop Inv-loop μ-loop) → c .before .before .args .n ≡ c .before .loop .z
+passed c = omega arith
 
 loop-holds : tie.Need-loop-holds Inv-loop μ-loop
 loop-holds c = (omega arith, best-starts _ _)
@@ -36,8 +28,8 @@ cast-value c = search needs
 distance-requires : tie.Need-distance-requires Inv-loop μ-loop
 distance-requires c κs = search needs
 
-stands-requires-2 : tie.Need-stands-requires-2 Inv-loop μ-loop
-stands-requires-2 c κs = search needs
+is-in-requires : tie.Need-is-in-requires Inv-loop μ-loop
+is-in-requires c κs = search needs
 
 add-z : tie.Need-add-z Inv-loop μ-loop
 add-z c = search needs
@@ -52,18 +44,14 @@ loop-again c =
       omega arith,
       ⊎-elim (λ w. rw (w .3, w .4) (best-moves _ _ b d (w .0 .taken) (sym (w .1 .ensures) ∙ w .2 .taken)))
           (⊎-elim (λ w. rw (w .3, w .4) (best-passes _ _ b (sym (w .1 .ensures) ∙ w .2 .left))) (λ w. rw (w .1, w .2) (best-stays _ _ b d (w .0 .left))))
-          (c .if2 .came),
+          (c .if1 .came),
     )
 
--- After the loop every value is passed.
-passed : (c : tie.After-loop Inv-loop μ-loop) → c .before .before .before .before .before .before .args .n ≡ c .before .loop .z
-passed c = omega arith
+returns : tie.Need-returns Inv-loop μ-loop
+returns c = rw (passed (c .before)) (sym (best-found _ _ (c .before .before .loop .inv .1) (c .if3 .taken)))
 
 returns-2 : tie.Need-returns-2 Inv-loop μ-loop
-returns-2 c = rw (passed (c .before)) (sym (best-found _ _ (c .before .before .loop .inv .1) (c .if4 .taken)))
-
-returns-3 : tie.Need-returns-3 Inv-loop μ-loop
-returns-3 c = rw (passed (c .before)) (sym (best-unfound _ _ (c .before .before .loop .inv .1) (c .if4 .left)))
+returns-2 c = rw (passed (c .before)) (sym (best-unfound _ _ (c .before .before .loop .inv .1) (c .if3 .left)))
 
 pub nearest-spec : {M : Type 1} → statement M
 nearest-spec =
@@ -71,14 +59,12 @@ nearest-spec =
     (tie.spec
     Inv-loop
     μ-loop
-    stands-requires
-    returns
     loop-holds
     cast-value
     distance-requires
-    stands-requires-2
+    is-in-requires
     add-z
     loop-less
     loop-again
-    returns-2
-    returns-3)
+    returns
+    returns-2)

@@ -1,38 +1,26 @@
 -- `enforcer::tick::output_tick` meets its contract: the chosen output's event takes the state on.
-use mathlib.Core.Path.{_≡_, sym, ap, _∙_}
+use mathlib.Core.Path.{sym, ap, _∙_}
 use mathlib.Core.Option.{bind}
 use borrow.Author.Needs.{needs}
-use denote.Ref.{now}
-use Rattle.policy.specs.Rules.{outputValues}
-use Rattle.policy.specs.File.{policyOf}
-use Rattle.enforcer.specs.Tick.{outputChoice, outputTick}
-use Rattle.enforcer.specs.Code.{place}
-use Rattle.enforcer.specs.Chosen.{stands, choiceSaid, output-chosen}
-use Rattle.enforcer.specs.Laid.{laid-limits, laid-outputs}
+use Rattle.enforcer.specs.Tick.{outputTick}
+use Rattle.enforcer.specs.Chosen.{choiceSaid, output-chosen}
+use Rattle.enforcer.specs.Arrived.{output-as-read}
 use Rattle.enforcer.proofs.tick.output_tick.Statement.{statement}
 use Rattle.enforcer.proofs.tick.output_tick.Tie as tie
 
-values-requires : tie.Need-values-requires
-values-requires c κs = laid-limits (c .before .before .pre .0 .standing .laid) .1
+arrival-requires : tie.Need-arrival-requires
+arrival-requires c κs = search needs
 
--- The values asked about are the policy's.
-all : (c : tie.After-values) → c .values .result ≡ outputValues (policyOf (now (c .before .before .before .args .file)))
-all c = c .values .ensures ∙ laid-outputs (c .before .before .before .pre .0 .standing .laid) .0
+released-requires : tie.Need-released-requires
+released-requires c κs = search needs
 
-nearest-requires : tie.Need-nearest-requires
-nearest-requires c κs =
-    let a = c .before .before .before .pre in (
-      a .0,
-      rw (all c) (a .1),
-      rw (c .values .ensures) (laid-outputs (a .0 .standing .laid) .1),
-    )
+returns : tie.Need-returns
+returns c =
+    let b = c .before .before in
+    c .released .ensures ∙ output-as-read _ _ _ _ _ _ (b .arrival .ensures) (c .before .if1 .taken) (b .before .before .before .pre .1)
 
--- What the chooser answered is the output half's choice.
-choice : (c : tie.After-nearest) →
-    let a = c .before .before .before .before .args in
-    choiceSaid (c .nearest .result) ≡ outputChoice (policyOf (now (a .file))) (now (a .marks)) (place (a .layout .clocks) (a .state)) (a .x) (a .y)
-unfolding outputChoice stands
-choice c = rw (all (c .before)) at (c .nearest .ensures)
+choose-output-requires : tie.Need-choose-output-requires
+choose-output-requires c κs = search needs
 
 enum-told : tie.Need-enum-told
 enum-told c = search needs
@@ -46,27 +34,33 @@ enum-known-z c = search needs
 step-of-requires : tie.Need-step-of-requires
 step-of-requires c κs = search needs
 
-returns : tie.Need-returns
-unfolding outputTick bind
-returns c =
-    let n = c .before .before .before in
-    rw (sym (choice n) ∙ ap choiceSaid (c .before .enum-told .given .1)) (c .stuck .ensures)
+released-requires-2 : tie.Need-released-requires-2
+released-requires-2 c κs = search needs
 
 returns-2 : tie.Need-returns-2
+unfolding outputTick bind
 returns-2 c =
+    let n = c .before .before .before in
+    rw (sym (n .choose-output .ensures) ∙ ap choiceSaid (c .before .enum-told .given .1)) (c .stuck .ensures)
+
+returns-3 : tie.Need-returns-3
+returns-3 c =
     let k = c .before .before .before in
-    let r = output-chosen _ _ _ _ _ (sym (choice (k .before .before)) ∙ ap choiceSaid (k .z .given .1)) in
-    rw (r .2, c .before .step-of .ensures, r .1)
+    let r = output-chosen _ _ _ _ _ (sym (k .before .before .choose-output .ensures) ∙ ap choiceSaid (k .z .given .1)) in
+    rw (r .2, c .released2 .ensures, c .before .step-of .ensures, r .1)
 
 pub output-tick-spec : {M : Type 1} → statement M
 output-tick-spec =
     tie.close
     (tie.spec
-    values-requires
-    nearest-requires
+    arrival-requires
+    released-requires
+    returns
+    choose-output-requires
     enum-told
     stuck-requires
     enum-known-z
     step-of-requires
-    returns
-    returns-2)
+    released-requires-2
+    returns-2
+    returns-3)

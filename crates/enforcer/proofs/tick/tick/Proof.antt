@@ -4,11 +4,24 @@ use mathlib.Core.Option.{bind}
 use borrow.Author.Needs.{needs}
 use Rattle.enforcer.specs.Tick.{tick}
 use Rattle.enforcer.specs.Chosen.{choiceSaid}
+use Rattle.enforcer.specs.Arrived.{tick-as-read}
 use Rattle.enforcer.proofs.tick.tick.Statement.{statement}
 use Rattle.enforcer.proofs.tick.tick.Tie as tie
 
 own-of-requires : tie.Need-own-of-requires
 own-of-requires c κs = search needs
+
+arrival-requires : tie.Need-arrival-requires
+arrival-requires c κs = search needs
+
+released-requires : tie.Need-released-requires
+released-requires c κs = search needs
+
+returns : tie.Need-returns
+returns c =
+    let b = c .before .before in
+    let s = b .before .before .before .before in
+    c .released .ensures ∙ tick-as-read _ _ _ _ _ _ (b .arrival .ensures) (c .before .if1 .taken) (s .pre .2) (s .pre .1)
 
 choose-input-requires : tie.Need-choose-input-requires
 choose-input-requires c κs = search needs
@@ -25,15 +38,15 @@ enum-known-z c = search needs
 output-tick-requires : tie.Need-output-tick-requires
 output-tick-requires c κs = search needs
 
-returns : tie.Need-returns
-unfolding tick bind
-returns c =
-    let n = c .before .before .before in
-    rw (sym (n .choose-input .ensures) ∙ ap choiceSaid (c .before .enum-told .given .1)) (c .stuck .ensures)
-
 returns-2 : tie.Need-returns-2
 unfolding tick bind
 returns-2 c =
+    let n = c .before .before .before in
+    rw (sym (n .choose-input .ensures) ∙ ap choiceSaid (c .before .enum-told .given .1)) (c .stuck .ensures)
+
+returns-3 : tie.Need-returns-3
+unfolding tick bind
+returns-3 c =
     let k = c .before .before in
     rw (sym (k .before .before .choose-input .ensures) ∙ ap choiceSaid (k .z .given .1)) (c .output-tick .ensures)
 
@@ -42,10 +55,13 @@ tick-spec =
     tie.close
     (tie.spec
     own-of-requires
+    arrival-requires
+    released-requires
+    returns
     choose-input-requires
     enum-told
     stuck-requires
     enum-known-z
     output-tick-requires
-    returns
-    returns-2)
+    returns-2
+    returns-3)

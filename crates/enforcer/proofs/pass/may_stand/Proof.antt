@@ -1,0 +1,28 @@
+-- `enforcer::pass::may_stand` meets its contract: an event that reaches is an output that stands, and else the row says it.
+use mathlib.Core.Path.{sym, _∙_}
+use lib.Pow.{pow-pos}
+use borrow.Author.Needs.{needs}
+use Rattle.streams.specs.Choose.{any-has}
+use Rattle.enforcer.specs.Tick.{mayStand}
+use Rattle.enforcer.specs.Laid.{laid-well}
+use Rattle.enforcer.specs.Ways.{row-stands}
+use Rattle.enforcer.proofs.pass.may_stand.Statement.{statement}
+use Rattle.enforcer.proofs.pass.may_stand.Tie as tie
+
+reaches-requires : tie.Need-reaches-requires
+reaches-requires c κs = search needs
+
+returns : tie.Need-returns
+unfolding mayStand
+returns c = sym (any-has _ _ 0 (pow-pos _) (sym (c .before .reaches .ensures) ∙ c .if1 .taken))
+
+row-requires : tie.Need-row-requires
+row-requires c κs = search needs
+
+returns-2 : tie.Need-returns-2
+returns-2 c =
+    let s = c .before .before .before .before .before in
+    rw (c .row .ensures) (sym (row-stands _ (laid-well (s .pre .standing .laid)) _ _ _))
+
+pub may-stand-spec : {M : Type 1} → statement M
+may-stand-spec = tie.close (tie.spec reaches-requires returns row-requires returns-2)

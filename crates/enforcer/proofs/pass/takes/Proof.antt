@@ -1,0 +1,95 @@
+-- `enforcer::pass::takes` meets its contract by its tests.
+use mathlib.Core.Path.{_≡_, sym, _∙_}
+use mathlib.Core.Bool.{true}
+use Prim.Native.Nat.{_+_}
+use native.Mathlib.Omega.{arith}
+use lib.Dec.{eqb}
+use lib.Bits.{bitAnd}
+use borrow.Author.Needs.{needs}
+use borrow.Author.Tests.{eq-eqb, ne-eqb, not-true, not-false}
+use denote.Ref.{now}
+use Rattle.policy.specs.File.{byteAt, ruleFrom}
+use Rattle.enforcer.specs.Laid.{laid-limits}
+use Rattle.enforcer.proofs.WayLaws.{rule-holds, takes-care, takes-bounds, takes-both}
+use Rattle.enforcer.proofs.pass.takes.Statement.{statement}
+use Rattle.enforcer.proofs.pass.takes.Tie as tie
+
+-- The care bits agree with x.
+cares : (e : tie.Else1) →
+    let a = e .before .before .before .before .args in
+    eqb (bitAnd (a .x) (byteAt (now (a .file)) (a .at + 1))) (byteAt (now (a .file)) (a .at + 2)) ≡ true
+cares e = let b = e .before in rw (← b .before .byte-within .ensures .0, ← b .byte-within2 .ensures .0) (eq-eqb _ _ (e .if1 .left))
+
+add-byte-within : tie.Need-add-byte-within
+add-byte-within c = search needs
+
+byte-within-requires : tie.Need-byte-within-requires
+byte-within-requires c κs = search needs
+
+add-byte-within-2 : tie.Need-add-byte-within-2
+add-byte-within-2 c = search needs
+
+byte-within-requires-2 : tie.Need-byte-within-requires-2
+byte-within-requires-2 c κs = search needs
+
+returns : tie.Need-returns
+unfolding ruleFrom
+returns c =
+    let b = c .before in
+    sym (takes-care _ _ _ _ (rw (← b .before .byte-within .ensures .0, ← b .byte-within2 .ensures .0) (ne-eqb _ _ (c .if1 .taken))))
+
+add-bounds-hold : tie.Need-add-bounds-hold
+add-bounds-hold c = search needs
+
+bounds-hold-requires : tie.Need-bounds-hold-requires
+bounds-hold-requires c κs =
+    let s = c .before .before .before .before .before in
+    omega (arith, laid-limits (s .pre .0), s .pre .1 .ends, s .pre .1 .short)
+
+returns-2 : tie.Need-returns-2
+returns-2 c =
+    let s = c .before .before .before .before .before .before .before in
+    sym (takes-bounds _ _ _ _ (rule-holds (s .args .state) (s .pre .1) _ (sym (c .before .bounds-hold .ensures) ∙ not-true _ (c .if2 .taken))))
+
+add-byte-within-3 : tie.Need-add-byte-within-3
+add-byte-within-3 c = search needs
+
+byte-within-requires-3 : tie.Need-byte-within-requires-3
+byte-within-requires-3 c κs = search needs
+
+add-byte-within-4 : tie.Need-add-byte-within-4
+add-byte-within-4 c = search needs
+
+byte-within-requires-4 : tie.Need-byte-within-requires-4
+byte-within-requires-4 c κs = search needs
+
+outs-requires : tie.Need-outs-requires
+outs-requires c κs = search needs
+
+returns-3 : tie.Need-returns-3
+unfolding ruleFrom
+returns-3 c =
+    let e = c .before .before .before in
+    let s = e .before .before .before .before .before .before .before in
+    sym (takes-both _ _ _ _ (rule-holds (s .args .state) (s .pre .1) _ (sym (e .before .bounds-hold .ensures) ∙ not-false _ (e .if2 .left)))
+    (cares (e .before .before .before))
+    ∙ rw (← c .before .before .byte-within3 .ensures .0, ← c .before .byte-within4 .ensures .0, ← c .outs .ensures))
+
+pub takes-spec : {M : Type 1} → statement M
+takes-spec =
+    tie.close
+    (tie.spec
+    add-byte-within
+    byte-within-requires
+    add-byte-within-2
+    byte-within-requires-2
+    returns
+    add-bounds-hold
+    bounds-hold-requires
+    returns-2
+    add-byte-within-3
+    byte-within-requires-3
+    add-byte-within-4
+    byte-within-requires-4
+    outs-requires
+    returns-3)

@@ -1,0 +1,261 @@
+-- One pass over a location's own rules, as the code makes it: what each rule takes, and what is known before and after it.
+use mathlib.Core.Path.{_≡_, refl, sym, ap, ap₂, _∙_, subst}
+use mathlib.Core.Bool.{Bool, true, false, cond, _&&_, and-eq-true-iff, or-true}
+use mathlib.Core.List.{List, [], _∷_}
+use Prim.Native.Nat.{ℕ, zero, suc, _+_, _-_, _*_, _≤_, _<_}
+use native.Mathlib.Nat.{suc-mul, mul-le-mul-right}
+use native.Mathlib.Omega.{arith}
+use lib.Dec.{eqb, ltb}
+use lib.Bits.{bitAnd, bitOr, bitXor, or-zero-r, xor-zero-r}
+use lib.ListN.{length, getD, take, drop, replicate}
+use borrow.Author.Tests.{lt-ltb, le-ltb, ltb-true, ltb-false, eqb-true}
+use Rattle.streams.specs.Choose.{any, any-from, any-none, any-has, any-fails}
+use Rattle.policy.specs.Rules.{Rule, Policy, Place, inputValues, outputValues}
+use Rattle.policy.specs.File.{ruleSize, ruleFrom, rulesFrom, rulesOf, clockCount, policyOf}
+use Rattle.policy.specs.Sound.{WellFormed, Each, each-none, each-more, Formed}
+use Rattle.policy.specs.Checked.{frame, well-sound}
+use Rattle.policy.specs.Parts.{rules-part}
+use Rattle.policy.specs.Own.{below, level, own, ownOf}
+use Rattle.policy.specs.declared.Layout.{Layout}
+use Rattle.policy.specs.declared.own.Own.{Own}
+use Rattle.enforcer.specs.Tick.{mayStand}
+use Rattle.enforcer.specs.Ready.{Laid}
+use Rattle.enforcer.specs.Laid.{laid-well, laid-clocks, own-fits, own-rules}
+use Rattle.enforcer.specs.Sets.{cond-same, has, has-or, has-some, has-not-empty, xor-twice, allBelow}
+use Rattle.enforcer.specs.Outs.{outs}
+use Rattle.enforcer.specs.Ways.{room, holds, takes, leads, gathered, allowed, row, gathered-keeps, gathered-own, allowed-any}
+use Rattle.enforcer.specs.Changed.{Changed, changed-not, Took}
+
+-- No number below n passes if none does.
+none-any : (n : ℕ) → any (λ x. ltb 0 0) n ≡ false
+none-any n = any-fails _ n (λ z h. refl)
+
+zeros : (n x : ℕ) → _≡_ {A = ℕ} (getD (replicate n 0) x 0) 0
+zeros zero x = refl
+zeros (suc n) zero = refl
+zeros (suc n) (suc x) = zeros n x
+
+module _ (s : Place) (p : Policy) (marks : List ℕ) where
+  -- What the rule r takes of the first n sets, and whether it takes something and leads to a marked place.
+  pub record Went (r : Rule) (n : ℕ) (left rest : List ℕ) (found : Bool) : Type 0 where
+    pub changed : Changed (λ x. bitXor (getD left x 0) (takes s r x (getD left x 0))) n left rest
+    pub says : found ≡ (any (λ x. ltb 0 (takes s r x (getD left x 0))) n && leads s p marks r)
+
+  -- A rule whose bounds do not hold takes nothing.
+  pub went-not : {r : Rule} {n : ℕ} {left : List ℕ} → holds s r ≡ false → Went r n left left false
+  unfolding takes
+  went-not {r} {n} {left} e =
+      record { changed = record { at = λ z. rw (e, xor-zero-r) (sym (cond-same (ltb z n) (getD left z 0))) }; says = rw (e, none-any n) }
+
+  pub went-took : {r : Rule} {n : ℕ} {left rest : List ℕ} {some found : Bool} → holds s r ≡ true →
+      Took (r .inCare) (r .inValue) (outs (r .outCare) (r .outValue)) n left rest some → found ≡ (some && leads s p marks r) → Went r n left rest found
+  unfolding takes
+  went-took {r} {n} {left} {rest} e k f =
+      record { changed = record { at = λ z. rw e (k .changed .at z) }; says = rw (e, ← k .any-taken) f }
+
+  pub went-as : {r : Rule} {n m : ℕ} {left rest : List ℕ} {found t : Bool} → n ≡ m → found ≡ t → Went r n left rest found → Went r m left rest t
+  went-as {r} {n} {left = left} {rest = rest} {t = t} e d w = subst (λ (k : ℕ). Went r k left rest t) e (subst (λ (b : Bool). Went r n left rest b) d w)
+
+  -- What is known with the rules rs still to come.
+  pub record Gathering (rs : List Rule) (left found : List ℕ) : Type 0 where
+    pub within : (x : ℕ) → x < inputValues p → allowed p marks s x ≡ gathered s p marks rs x (getD left x 0) (getD found x 0)
+    pub past : (x : ℕ) → inputValues p ≤ x → getD found x 0 ≡ 0
+
+  -- Before the first rule.
+  pub gathering-start : WellFormed p → (rs : List Rule) → rs ≡ own (s .location) (p .rules) → (left : List ℕ) →
+      Changed (λ x. allBelow (outputValues p)) (inputValues p) (replicate 16 0) left → Gathering rs left (replicate 16 0)
+  unfolding allowed
+  gathering-start k rs e left c =
+      record {
+        within = λ x h. sym (gathered-own s p marks x (room p x) k) ∙ rw (e, c .at x, zeros 16 x) (refl);
+        past = λ x h. zeros 16 x;
+      }
+
+  -- One rule more.
+  module _ {r : Rule} {rs : List Rule} {left rest found more : List ℕ} {t : Bool} (g : Gathering (r ∷ rs) left found)
+      (w : Went r (inputValues p) left rest t) where
+    pub gathering-more :
+        Changed (λ x. cond t (bitOr (getD found x 0) (bitXor (getD left x 0) (getD rest x 0))) (getD found x 0)) (inputValues p) found more →
+        Gathering rs rest more
+    unfolding gathered
+    gathering-more c = record { within = within; past = λ x h. c .at x ∙ rw (le-ltb x (inputValues p) h) (g .past x h) }
+      where
+        left-now : (x : ℕ) → x < inputValues p → getD rest x 0 ≡ bitXor (getD left x 0) (takes s r x (getD left x 0))
+        left-now x h = w .changed .at x ∙ rw (lt-ltb x (inputValues p) h)
+
+        found-now : (x : ℕ) → x < inputValues p → getD more x 0 ≡ cond t (bitOr (getD found x 0) (takes s r x (getD left x 0))) (getD found x 0)
+        found-now x h = c .at x ∙ rw (lt-ltb x (inputValues p) h, left-now x h, xor-twice)
+
+        -- What takes nothing finds nothing.
+        same : (x : ℕ) → x < inputValues p → (a : Bool) → any (λ z. ltb 0 (takes s r z (getD left z 0))) (inputValues p) ≡ a → (b : Bool) →
+            cond b (bitOr (getD found x 0) (takes s r x (getD left x 0))) (getD found x 0)
+            ≡ cond (a && b) (bitOr (getD found x 0) (takes s r x (getD left x 0))) (getD found x 0)
+        same x h true e b = refl
+        same x h false e false = refl
+        same x h false e true =
+            let n : takes s r x (getD left x 0) ≤ 0 = ltb-false _ _ (any-none _ (inputValues p) e x h) in
+            let z : takes s r x (getD left x 0) ≡ 0 = omega arith in
+            rw (z, or-zero-r)
+
+        within : (x : ℕ) → x < inputValues p → allowed p marks s x ≡ gathered s p marks rs x (getD rest x 0) (getD more x 0)
+        within x h =
+            g .within x h
+            ∙ ap₂ (gathered s p marks rs x) (sym (left-now x h)) (same x h _ refl (leads s p marks r) ∙ rw (← w .says) (sym (found-now x h)))
+
+  -- A rule that takes nothing, or leads to no marked place, finds nothing.
+  pub gathering-on : {r : Rule} {rs : List Rule} {left rest found : List ℕ} →
+      Gathering (r ∷ rs) left found → Went r (inputValues p) left rest false → Gathering rs rest found
+  gathering-on {found = found} g w = gathering-more g w (changed-not false (λ x. 0) (inputValues p) found refl)
+
+  -- What a rule that leads on takes is allowed.
+  takes-found : {r : Rule} {rs : List Rule} {left found : List ℕ} → Gathering (r ∷ rs) left found → leads s p marks r ≡ true →
+      (x : ℕ) → x < inputValues p → 0 < takes s r x (getD left x 0) → 0 < allowed p marks s x
+  unfolding gathered
+  takes-found {r} {rs} {left} {found} g q x h n =
+      let b = has-some (takes s r x (getD left x 0)) (λ z. omega arith) in
+      let e = rw q at (g .within x h) in
+      let o : has (bitOr (getD found x 0) (takes s r x (getD left x 0))) (b .0) ≡ true =
+      has-or (getD found x 0) (takes s r x (getD left x 0)) (b .0) ∙ rw (b .1) (or-true (has (getD found x 0) (b .0))) in
+      let f = ap (λ (z : ℕ). has z (b .0)) e ∙ gathered-keeps s p marks rs x _ _ (b .0) o in
+      let d = has-not-empty (allowed p marks s x) (b .0) f in
+      omega arith
+
+  -- A rule that takes something and leads on: some event leads to a marked place.
+  pub gathering-found : WellFormed p → {r : Rule} {rs : List Rule} {left rest found : List ℕ} →
+      Gathering (r ∷ rs) left found → Went r (inputValues p) left rest true → any (mayStand p marks s) (inputValues p) ≡ true
+  gathering-found k {r} {left = left} g w =
+      let q = and-eq-true-iff (any (λ x. ltb 0 (takes s r x (getD left x 0))) (inputValues p)) _ .0 (sym (w .says)) in
+      let a = any-from _ (inputValues p) (q .0) in
+      allowed-any p k marks s ∙ any-has _ (inputValues p) (a .0) (a .1) (lt-ltb 0 _ (takes-found g (q .1) (a .0) (a .1) (ltb-true _ _ (a .2))))
+
+  -- After the last rule.
+  pub gathering-done : {found left : List ℕ} → Gathering [] left found → (x : ℕ) → getD found x 0 ≡ allowed p marks s x
+  unfolding gathered allowed takes
+  gathering-done {found} {left} g x = go (ltb x (inputValues p)) refl
+    where
+      go : (t : Bool) → ltb x (inputValues p) ≡ t → getD found x 0 ≡ allowed p marks s x
+      go true e = sym (g .within x (ltb-true _ _ e))
+      go false e = g .past x (ltb-false _ _ e) ∙ sym (rw e (empty (p .rules)))
+        where
+          takes-none : (r : Rule) → takes s r x 0 ≡ 0
+          takes-none r = cases (holds s r) (eqb (bitAnd x (r .inCare)) (r .inValue))
+            where
+              cases : (a b : Bool) → cond a (cond b (bitAnd 0 (outs (r .outCare) (r .outValue))) 0) 0 ≡ 0
+              cases true true = refl
+              cases true false = refl
+              cases false b = refl
+
+          empty : (rs : List Rule) → gathered s p marks rs x 0 0 ≡ 0
+          empty [] = refl
+          empty (r ∷ rs) = rw (takes-none r) (ap (gathered s p marks rs x 0) (cond-same (leads s p marks r) 0) ∙ empty rs)
+
+  -- Nothing was found: no event leads to a marked place.
+  pub gathering-nothing : WellFormed p → {left : List ℕ} → Gathering [] left (replicate 16 0) → any (mayStand p marks s) (inputValues p) ≡ false
+  gathering-nothing k g =
+      allowed-any p k marks s
+      ∙ any-fails _ (inputValues p) (λ x h. ap (ltb 0) (sym (gathering-done g x) ∙ zeros 16 x))
+
+-- One row: x alone.
+module _ (s : Place) (p : Policy) (marks : List ℕ) (x : ℕ) where
+  -- What is known with the rules rs still to come.
+  pub record Rowing (rs : List Rule) (left found : ℕ) : Type 0 where
+    pub is : row p marks s x ≡ gathered s p marks rs x left found
+
+  pub rowing-start : WellFormed p → (rs : List Rule) → rs ≡ own (s .location) (p .rules) → (left : ℕ) → left ≡ allBelow (outputValues p) → Rowing rs left 0
+  unfolding row
+  rowing-start k rs e left c = record { is = sym (gathered-own s p marks x (allBelow (outputValues p)) k) ∙ rw (e, c) }
+
+  module _ {r : Rule} {rs : List Rule} {left found took kept : ℕ} (g : Rowing (r ∷ rs) left found) (t : took ≡ takes s r x left)
+      (e : kept ≡ cond (leads s p marks r) took 0) where
+    pub rowing-more : Rowing rs (bitXor left took) (bitOr found kept)
+    unfolding gathered
+    rowing-more = record { is = g .is ∙ rw (e, t) (ap (gathered s p marks rs x (bitXor left (takes s r x left))) (go (leads s p marks r))) }
+      where
+        go : (b : Bool) → cond b (bitOr found (takes s r x left)) found ≡ bitOr found (cond b (takes s r x left) 0)
+        go true = refl
+        go false = sym (or-zero-r found)
+
+  pub rowing-done : {left found : ℕ} → Rowing [] left found → found ≡ row p marks s x
+  unfolding gathered
+  rowing-done g = sym (g .is)
+
+-- The location's own rules, where they stand in the file.
+pub record Ours (clocks locations a : ℕ) (r : Rule) : Type 0 where
+  pub source : r .source ≡ a
+  pub formed : Formed clocks locations r
+
+each-drop : {P : Rule → Type 0} (n : ℕ) {rs : List Rule} → Each P rs → Each P (drop n rs)
+each-drop zero h = h
+each-drop (suc n) each-none = each-none
+each-drop (suc n) (each-more p h) = each-drop n h
+
+module _ (clocks locations a : ℕ) where
+  each-level : {rs : List Rule} → Each (Formed clocks locations) rs → Each (Ours clocks locations a) (take (level a rs) rs)
+  unfolding level
+  each-level each-none = each-none
+  each-level (each-more {r = r} {rs = rs} f h) = go (eqb (r .source) a) refl (each-level h)
+    where
+      go : (t : Bool) → eqb (r .source) a ≡ t → Each (Ours clocks locations a) (take (level a rs) rs) →
+          Each (Ours clocks locations a) (take (cond t (suc (level a rs)) 0) (r ∷ rs))
+      go true e k = each-more (record { source = eqb-true _ _ e; formed = f }) k
+      go false e k = each-none
+
+  each-own : {rs : List Rule} → Each (Formed clocks locations) rs → Each (Ours clocks locations a) (own a rs)
+  unfolding own
+  each-own {rs} h = each-level (each-drop (below a rs) h)
+
+-- n rules from `at` on are the location's, and lie within the file.
+pub record Ahead (f : List ℕ) (l : Layout) (a at n : ℕ) : Type 0 where
+  pub each : Each (Ours (l .clocks) (l .locations) a) (rulesFrom (l .clocks) f at n)
+  pub ends : at + n * ruleSize (l .clocks) ≤ length f
+
+-- The rule at `at` is the location's, and lies within the file.
+pub record RuleAt (f : List ℕ) (l : Layout) (a at : ℕ) : Type 0 where
+  pub ours : Ours (l .clocks) (l .locations) a (ruleFrom (l .clocks) f at)
+  pub ends : at + ruleSize (l .clocks) ≤ length f
+  pub short : length f < 65536
+
+module _ {f : List ℕ} {l : Layout} (k : Laid f l) where
+  pub laid-short : length f < 65536
+  laid-short = let g = frame f (k .passes) in omega (arith, mul-le-mul-right (ruleSize (clockCount f)) (g .rules))
+
+  module _ (a : ℕ) {o : Own} (e : o ≡ ownOf (l .clocks) a (rulesOf f)) where
+    pub own-here : rulesFrom (l .clocks) f (l .«rules_start» + o .start) (o .count) ≡ own a (policyOf f .rules)
+    unfolding policyOf
+    own-here = sym (rules-part f (l .clocks) (l .«rules_start» + o .start) (o .count)) ∙ own-rules k a e
+
+    pub own-ahead : Ahead f l a (l .«rules_start» + o .start) (o .count)
+    unfolding policyOf
+    own-ahead =
+        record {
+          each = rw (own-here, k .locations, laid-clocks k) (each-own _ _ a (well-sound (policyOf f) (laid-well k) .rules));
+          ends = own-fits k a e .0;
+        }
+
+  module _ {a at n : ℕ} (h : Ahead f l a at n) (m : 0 < n) where
+    left : n ≡ suc (n - 1)
+    left = omega arith
+
+    pub ahead-first : rulesFrom (l .clocks) f at n ≡ ruleFrom (l .clocks) f at ∷ rulesFrom (l .clocks) f (at + ruleSize (l .clocks)) (n - 1)
+    unfolding rulesFrom
+    ahead-first = ap (rulesFrom (l .clocks) f at) left
+
+    room-left : at + ruleSize (l .clocks) + (n - 1) * ruleSize (l .clocks) ≤ length f
+    room-left = omega (arith, h .ends, ap (λ (m : ℕ). m * ruleSize (l .clocks)) left ∙ suc-mul (n - 1) (ruleSize (l .clocks)))
+
+    split : Ours (l .clocks) (l .locations) a (ruleFrom (l .clocks) f at)
+        × Each (Ours (l .clocks) (l .locations) a) (rulesFrom (l .clocks) f (at + ruleSize (l .clocks)) (n - 1))
+    split = go (rw ahead-first at (h .each))
+      where
+        go : {r : Rule} {rs : List Rule} → Each (Ours (l .clocks) (l .locations) a) (r ∷ rs) → Ours (l .clocks) (l .locations) a r × Each (Ours (l .clocks) (l .locations) a) rs
+        go (each-more p q) = (p, q)
+
+    pub ahead-rule : RuleAt f l a at
+    ahead-rule = record { ours = split .0; ends = omega (arith, room-left); short = laid-short }
+
+    pub ahead-rest : Ahead f l a (at + ruleSize (l .clocks)) (n - 1)
+    ahead-rest = record { each = split .1; ends = room-left }
+
+pub none-ahead : (clocks : ℕ) (f : List ℕ) (at n : ℕ) → n ≡ 0 → rulesFrom clocks f at n ≡ []
+unfolding rulesFrom
+none-ahead clocks f at n e = rw e
