@@ -23,7 +23,7 @@
  *    2  a count is outside its limits
  *    3  a tag is not A to Z or is repeated
  *    4  a ceiling is 0 or above 1,001
- *    5  a location byte is not 0
+ *    5  a location byte is above 1
  *    6  a rule's first seven bytes break the rules of the file
  *    7  a rule's bounds break them
  *    8  bytes are left over

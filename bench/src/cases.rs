@@ -26,6 +26,7 @@ pub fn all() -> Vec<Case> {
         prepare("1,024 states", policies::thousand()),
         prepare("10,000 states", policies::ten_thousand()),
         prepare("65,536 states", policies::full()),
+        prepare("most must be left", policies::leaving()),
         prepare("none dies", policies::lasting()),
         prepare("a third dies", policies::third_dies()),
         prepare("most die", policies::most_die()),

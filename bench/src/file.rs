@@ -59,7 +59,8 @@ pub struct Policy {
     pub inputs: u8,
     pub outputs: u8,
     pub ceilings: Vec<u16>,
-    pub locations: u8,
+    /// One byte each: 1 if it must be left, 0 if it may rest.
+    pub locations: Vec<u8>,
     pub rules: Vec<Rule>,
 }
 
@@ -72,8 +73,8 @@ impl Policy {
         for ceiling in &self.ceilings {
             file.extend(ceiling.to_be_bytes());
         }
-        file.push(self.locations);
-        file.extend(vec![0; self.locations.into()]);
+        file.push(self.locations.len() as u8);
+        file.extend(&self.locations);
         file.extend((self.rules.len() as u16).to_be_bytes());
         for rule in &self.rules {
             put_rule(&mut file, rule);

@@ -27,7 +27,7 @@ impl Shape {
             inputs: self.signals,
             outputs: self.signals,
             ceilings: self.ceilings.to_vec(),
-            locations: self.locations,
+            locations: vec![0; self.locations.into()],
             rules,
         }
     }

@@ -37,7 +37,7 @@ pub fn short() -> Policy {
         inputs: SIGNALS,
         outputs: SIGNALS,
         ceilings: vec![3],
-        locations: 2,
+        locations: vec![0; 2],
         rules,
     }
 }
@@ -138,7 +138,7 @@ fn from_one_location(rules: Vec<Rule>) -> Policy {
         inputs: SIGNALS,
         outputs: SIGNALS,
         ceilings: vec![3; 4],
-        locations: 2,
+        locations: vec![0; 2],
         rules,
     }
 }
@@ -190,6 +190,22 @@ fn prepared(
     shape.generate(seed)
 }
 
+/// 65,536 states. Of the first 48 locations only each fourth may rest; the last
+/// 16 must all be left, and lead only to each other.
+pub fn leaving() -> Policy {
+    let (locations, trap) = (64, 48);
+    let mut policy = prepared(2, locations, FEW, &[31, 31], 33);
+    for (number, byte) in policy.locations.iter_mut().enumerate() {
+        *byte = u8::from(number >= trap.into() || number % 4 != 0);
+    }
+    for rule in &mut policy.rules {
+        if rule.source >= trap && rule.target != VIOLATION {
+            rule.target = trap + rule.target % (locations - trap);
+        }
+    }
+    policy
+}
+
 /// 65,536 states, none of which dies: 64 locations in a ring with four rules
 /// each, of which the last takes every event.
 pub fn lasting() -> Policy {
@@ -239,7 +255,7 @@ fn ring(locations: u8, conditions: &[Condition], bound: (u16, u16)) -> Policy {
         inputs: SIGNALS,
         outputs: SIGNALS,
         ceilings: vec![3, 7],
-        locations,
+        locations: vec![0; locations.into()],
         rules: (0..locations).flat_map(rules_at).collect(),
     }
 }
@@ -273,7 +289,7 @@ mod tests {
         for (policy, states) in sizes {
             let prepared = prepare_policy(&policy);
             assert_eq!(prepared.states, states);
-            assert_eq!(policy.rules.len(), 4 * usize::from(policy.locations));
+            assert_eq!(policy.rules.len(), 4 * policy.locations.len());
             let share = prepared.live as f64 / states as f64;
             assert!((0.5..0.8).contains(&share), "{share} of {states}");
         }
@@ -307,6 +323,22 @@ mod tests {
             let first = rules.iter().position(|rule| fires(rule, event));
             assert_eq!(first, Some(event.into()));
         }
+    }
+
+    #[test]
+    fn some_states_die_because_they_must_be_left() {
+        let policy = leaving();
+        let left = policy.locations.iter().filter(|&&byte| byte == 1);
+        assert_eq!((left.count(), policy.locations.len()), (52, 64));
+        let prepared = prepare_policy(&policy);
+        let all_rest = prepare_policy(&Policy {
+            locations: vec![0; 64],
+            ..policy
+        });
+        assert_eq!(prepared.states, 65_536);
+        assert!(prepared.live > 25_000, "{}", prepared.live);
+        let died = all_rest.live - prepared.live;
+        assert!(died > 9_000, "{died}");
     }
 
     #[test]

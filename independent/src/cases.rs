@@ -187,7 +187,7 @@ fn join_at_limit(random: &mut Random) -> Call {
         let mut policy = policies::unit(b"A", b"");
         policy.rules = vec![policy.rules[0].clone(); rules];
         policy.ceilings = ceilings.to_vec();
-        policy.locations = locations;
+        policy.must_leave = vec![false; locations];
         policy
     };
     let (mut a, mut b) = match random.below(9) {
@@ -212,6 +212,9 @@ fn join_at_limit(random: &mut Random) -> Call {
             (a, b)
         }
     };
+    for part in [&mut a, &mut b] {
+        part.must_leave = policies::some_must_leave(random, part.locations());
+    }
     if random.percent(50) {
         std::mem::swap(&mut a, &mut b);
     }

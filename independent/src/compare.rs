@@ -66,9 +66,13 @@ impl fmt::Display for Tally {
             "events forwarded {}, edited {}",
             self.forwarded, self.edited
         )?;
-        writeln!(out, "laws as tried (of these hopeless)")?;
-        for (law, tried, hopeless) in &self.laws.laws {
-            writeln!(out, "  {law} {tried} ({hopeless})")?;
+        writeln!(
+            out,
+            "laws as tried: hopeless, all may rest, some must be left"
+        )?;
+        for count in &self.laws.laws {
+            let (hopeless, resting, leaving) = (count.hopeless, count.resting, count.leaving);
+            writeln!(out, "  {} {hopeless} {resting} {leaving}", count.law)?;
         }
         Ok(())
     }
@@ -140,6 +144,7 @@ mod tests {
     use super::*;
     use crate::moment::STATE_LENGTH;
     use crate::parse;
+    use crate::policy::Policy;
 
     /// Calls the model, and spoils one thing before or after. A comparison
     /// that does not notice is worth nothing.
@@ -153,6 +158,8 @@ mod tests {
         RefuseAlways,
         ForwardEverything,
         LastRuleWins,
+        EveryLocationRests,
+        LocationOneIsRefused,
         InventLiveCount,
         MarkPastTheStates,
         WriteMarksOnlyOnSuccess,
@@ -162,15 +169,18 @@ mod tests {
         EventsCheckedBeforeState,
         JoinOutWrittenOnRefusal,
         JoinKeepsOrderOfB,
+        JoinRestsWhereOneRests,
         RoundUpOneTooMany,
         WideLocationCut,
         Stray,
     }
 
-    const FAULTS: [Fault; 15] = [
+    const FAULTS: [Fault; 18] = [
         Fault::RefuseAlways,
         Fault::ForwardEverything,
         Fault::LastRuleWins,
+        Fault::EveryLocationRests,
+        Fault::LocationOneIsRefused,
         Fault::InventLiveCount,
         Fault::MarkPastTheStates,
         Fault::WriteMarksOnlyOnSuccess,
@@ -180,6 +190,7 @@ mod tests {
         Fault::EventsCheckedBeforeState,
         Fault::JoinOutWrittenOnRefusal,
         Fault::JoinKeepsOrderOfB,
+        Fault::JoinRestsWhereOneRests,
         Fault::RoundUpOneTooMany,
         Fault::WideLocationCut,
         Fault::Stray,
@@ -190,16 +201,19 @@ mod tests {
             self.fault == fault
         }
 
-        /// The same policy with the rules of each location turned round.
+        /// The file as a spoilt reader sees it.
         fn file(&self, file: &[u8]) -> Vec<u8> {
-            match parse::check(file) {
-                Ok(mut policy) if self.has(Fault::LastRuleWins) => {
-                    policy.rules.reverse();
-                    policy.rules.sort_by_key(|rule| rule.source);
-                    policy.encode()
-                }
-                _ => file.to_vec(),
+            let Ok(mut policy) = parse::check(file) else {
+                return file.to_vec();
+            };
+            if self.has(Fault::LastRuleWins) {
+                policy.rules.reverse();
+                policy.rules.sort_by_key(|rule| rule.source);
             }
+            if self.has(Fault::EveryLocationRests) {
+                policy.must_leave.fill(false);
+            }
+            policy.encode()
         }
 
         fn marks(&self, marks: &[u8]) -> Vec<u8> {
@@ -222,6 +236,10 @@ mod tests {
         fn prepare(&mut self, file: &[u8], marks: &mut [u8]) -> u64 {
             if self.has(Fault::RefuseAlways) {
                 return 11;
+            }
+            let leaves = |policy: Policy| policy.must_leave.contains(&true);
+            if self.has(Fault::LocationOneIsRefused) && parse::check(file).is_ok_and(leaves) {
+                return 5;
             }
             let before = marks.to_vec();
             let answer = Model.prepare(&self.file(file), marks);
@@ -290,6 +308,9 @@ mod tests {
                 return Model.join(b, a, out);
             }
             let answer = Model.join(a, b, out);
+            if self.has(Fault::JoinRestsWhereOneRests) && answer as u8 == 0 {
+                rest_where_one_rests(a, b, out);
+            }
             if self.has(Fault::JoinOutWrittenOnRefusal) && answer as u8 == 14 && !out.is_empty() {
                 out[0] = a[0];
             }
@@ -305,6 +326,21 @@ mod tests {
 
         fn strayed(&mut self) -> bool {
             self.has(Fault::Stray)
+        }
+    }
+
+    /// Makes the location bytes of a join 1 only where both parts have 1.
+    fn rest_where_one_rests(a: &[u8], b: &[u8], out: &mut [u8]) {
+        let part = |file| parse::check(file).expect("it was joined");
+        let (a, b) = (part(a), part(b));
+        let clocks = a.ceilings.len() + b.ceilings.len();
+        let first = 4 + a.inputs.len() + a.outputs.len() + 2 * clocks;
+        for (number, byte) in out[first..first + a.locations() * b.locations()]
+            .iter_mut()
+            .enumerate()
+        {
+            let (of_a, of_b) = (number / b.locations(), number % b.locations());
+            *byte = u8::from(a.must_leave[of_a] && b.must_leave[of_b]);
         }
     }
 

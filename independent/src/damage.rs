@@ -25,7 +25,7 @@ impl Layout {
             outputs,
             clocks,
             locations,
-            rules: locations + 1 + policy.locations,
+            rules: locations + 1 + policy.locations(),
             rule_length: policy.rule_length(),
         }
     }
@@ -208,8 +208,9 @@ fn high_ceilings(random: &mut Random, policy: &Policy, layout: &Layout, file: &m
 }
 
 fn bad_location(random: &mut Random, policy: &Policy, layout: &Layout, file: &mut Vec<u8>) {
-    let location = random.between(0, policy.locations - 1);
-    file[layout.locations + 1 + location] = random.between(1, 255) as u8;
+    let location = random.between(0, policy.locations() - 1);
+    let any = random.between(2, 255) as u8;
+    file[layout.locations + 1 + location] = random.pick(&[2, 255, any]);
 }
 
 /// Makes one of the first seven bytes of a rule wrong, as near to right as
@@ -223,14 +224,14 @@ fn bad_rule(random: &mut Random, policy: &Policy, layout: &Layout, file: &mut Ve
     let rule = &policy.rules[index];
     let stray = 1 << random.below(8);
     match random.below(9) {
-        0 => file[place] = random.pick(&[policy.locations as u8, 64, 255]),
+        0 => file[place] = random.pick(&[policy.locations() as u8, 64, 255]),
         1 => file[place] = rule.source.wrapping_sub(1),
         2 => file[place + 1] = rule.input.care | stray & !policy.input_mask(),
         3 => file[place + 2] = rule.input.value | stray & !rule.input.care,
         4 => file[place + 3] = rule.output.care | stray & !policy.output_mask(),
         5 => file[place + 4] = rule.output.value | stray & !rule.output.care,
         6 => file[place + 5] = rule.reset | stray & !policy.clock_mask(),
-        7 => file[place + 6] = random.pick(&[policy.locations as u8, 64, 254]),
+        7 => file[place + 6] = random.pick(&[policy.locations() as u8, 64, 254]),
         _ => file[place + random.between(0, 6)] = random.byte(),
     }
 }

@@ -77,7 +77,7 @@ pub struct RuleBook<'a> {
 
 impl<'a> RuleBook<'a> {
     pub fn new(policy: &'a Policy) -> RuleBook<'a> {
-        let mut by_location = vec![Vec::new(); policy.locations];
+        let mut by_location = vec![Vec::new(); policy.locations()];
         for rule in &policy.rules {
             let events = EventSet::meeting(policy, rule.input, rule.output);
             by_location[usize::from(rule.source)].push((rule, events));
@@ -111,17 +111,15 @@ impl<'a> RuleBook<'a> {
         moment.after(deciding)
     }
 
-    /// Whether no event of the stream meets a violation, from the start and
-    /// with clocks that never stop.
+    /// Where a stream leads from the start, with clocks that never stop;
+    /// nothing if an event of it meets a violation.
+    pub fn follow_all(&self, stream: &[u8]) -> Option<Moment> {
+        let follow = |moment: Moment, event: &u8| self.follow(&moment, event & 15, event >> 4);
+        stream.iter().try_fold(Moment::START, follow)
+    }
+
     pub fn permits(&self, stream: &[u8]) -> bool {
-        let mut moment = Moment::START;
-        for event in stream {
-            match self.follow(&moment, event & 15, event >> 4) {
-                Some(next) => moment = next,
-                None => return false,
-            }
-        }
-        true
+        self.follow_all(stream).is_some()
     }
 }
 

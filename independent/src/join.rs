@@ -27,10 +27,10 @@ fn product(a: &Policy, b: &Policy) -> Option<Policy> {
         inputs: a.inputs.clone(),
         outputs: a.outputs.clone(),
         ceilings: [a.ceilings.as_slice(), &b.ceilings].concat(),
-        locations: a.locations * b.locations,
+        must_leave: joined_locations(a, b),
         rules: Vec::new(),
     };
-    let fits = joined.locations <= MAX_LOCATIONS
+    let fits = joined.locations() <= MAX_LOCATIONS
         && joined.ceilings.len() <= MAX_CLOCKS
         && joined.states() <= MAX_STATES;
     if !fits {
@@ -40,12 +40,18 @@ fn product(a: &Policy, b: &Policy) -> Option<Policy> {
     (rules.len() <= MAX_RULES).then_some(Policy { rules, ..joined })
 }
 
+/// The pairs in number order: one must be left if either part must.
+fn joined_locations(a: &Policy, b: &Policy) -> Vec<bool> {
+    let pairs_of = |&left_a: &bool| b.must_leave.iter().map(move |&left_b| left_a || left_b);
+    a.must_leave.iter().flat_map(pairs_of).collect()
+}
+
 /// Sources stand in order in both files, so this is the number order of the
 /// pairs of locations, and within one pair the rules of A before those of B.
 fn joined_rules(a: &Policy, b: &Policy) -> Vec<Rule> {
     let mut rules = Vec::new();
-    for location_a in 0..a.locations {
-        for location_b in 0..b.locations {
+    for location_a in 0..a.locations() {
+        for location_b in 0..b.locations() {
             for rule_a in rules_of(a, location_a) {
                 for rule_b in rules_of(b, location_b) {
                     rules.extend(joined_rule(a, b, rule_a, rule_b));
@@ -63,7 +69,7 @@ fn rules_of(policy: &Policy, location: usize) -> impl Iterator<Item = &Rule> {
 
 /// Nothing if the care bits contradict.
 fn joined_rule(a: &Policy, b: &Policy, rule_a: &Rule, rule_b: &Rule) -> Option<Rule> {
-    let pair = |from_a: u8, from_b: u8| from_a * b.locations as u8 + from_b;
+    let pair = |from_a: u8, from_b: u8| from_a * b.locations() as u8 + from_b;
     let violation = rule_a.target == VIOLATION || rule_b.target == VIOLATION;
     let clocks_a = a.ceilings.len();
     let mut bounds = rule_a.bounds;
@@ -97,11 +103,12 @@ mod tests {
     use crate::policies::{self, Family};
     use crate::random::Random;
 
-    /// A stream is permitted by the join exactly when by both.
+    /// A stream is permitted by the join exactly when by both, and rests there
+    /// exactly when it rests in both.
     #[test]
-    fn a_join_permits_what_both_permit() {
+    fn a_join_permits_what_both_permit_and_rests_where_both_rest() {
         let mut random = Random::new(51);
-        let (mut yes, mut no) = (0, 0);
+        let (mut yes, mut no, mut apart) = (0, 0, 0);
         for _ in 0..600 {
             let sisters = policies::sisters(&mut random, Family::Small, 2);
             let (a, b) = (&sisters[0], &sisters[1]);
@@ -115,11 +122,21 @@ mod tests {
                 let stream: Vec<u8> = (0..length)
                     .map(|_| random.byte() & a.event_mask())
                     .collect();
-                let by_both = books.0.permits(&stream) && books.1.permits(&stream);
-                assert_eq!(books.2.permits(&stream), by_both);
-                *(if by_both { &mut yes } else { &mut no }) += 1;
+                let ends = (books.0.follow_all(&stream), books.1.follow_all(&stream));
+                let end = books.2.follow_all(&stream);
+                let (Some(in_a), Some(in_b)) = ends else {
+                    assert_eq!(end, None);
+                    no += 1;
+                    continue;
+                };
+                let rests = (a.rests_in(in_a.location), b.rests_in(in_b.location));
+                let end = end.expect("both permit the stream");
+                assert_eq!(joined.rests_in(end.location), rests.0 && rests.1);
+                yes += 1;
+                apart += usize::from(rests.0 != rests.1);
             }
         }
         assert!(yes > 300 && no > 300, "yes {yes}, no {no}");
+        assert!(apart > 100, "one part rests and the other not: {apart}");
     }
 }

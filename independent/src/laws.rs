@@ -32,24 +32,38 @@ pub enum Behaviour {
     },
 }
 
-/// The laws by name, with how often each was tried on a pair of files that
-/// were both there, and how often these were hopeless.
+/// One law, and how often it was tried on a pair of files that were both
+/// there.
+#[derive(Debug)]
+pub struct LawCount {
+    pub law: &'static str,
+    pub hopeless: usize,
+    /// Not hopeless, and all locations of the policies may rest.
+    pub resting: usize,
+    /// Not hopeless, and some location must be left.
+    pub leaving: usize,
+}
+
 #[derive(Default)]
 pub struct LawTally {
-    pub laws: Vec<(&'static str, usize, usize)>,
+    pub laws: Vec<LawCount>,
 }
 
 impl LawTally {
-    fn count(&mut self, law: &'static str, hopeless: bool) {
-        let place = match self.laws.iter().position(|entry| entry.0 == law) {
+    fn of(&mut self, law: &'static str) -> &mut LawCount {
+        let place = match self.laws.iter().position(|count| count.law == law) {
             Some(place) => place,
             None => {
-                self.laws.push((law, 0, 0));
+                self.laws.push(LawCount {
+                    law,
+                    hopeless: 0,
+                    resting: 0,
+                    leaving: 0,
+                });
                 self.laws.len() - 1
             }
         };
-        self.laws[place].1 += 1;
-        self.laws[place].2 += usize::from(hopeless);
+        &mut self.laws[place]
     }
 }
 
@@ -108,6 +122,17 @@ struct Examination<'a> {
 }
 
 impl Examination<'_> {
+    fn count(&mut self, law: &'static str, hopeless: bool) {
+        let mut locations = self.case.parts.iter().flat_map(|part| &part.must_leave);
+        let leaving = locations.any(|&left| left);
+        let count = self.tally.of(law);
+        *(match (hopeless, leaving) {
+            (true, _) => &mut count.hopeless,
+            (false, false) => &mut count.resting,
+            (false, true) => &mut count.leaving,
+        }) += 1;
+    }
+
     fn all(&mut self) -> Result<(), String> {
         let case = self.case;
         let [a, b, c] = [&case.files[0], &case.files[1], &case.files[2]];
@@ -180,7 +205,7 @@ impl Examination<'_> {
         if !alike {
             return Err(format!("{law}: {first:?} against {second:?}"));
         }
-        self.tally.count(law, first == Behaviour::Hopeless);
+        self.count(law, first == Behaviour::Hopeless);
         Ok(())
     }
 
@@ -239,15 +264,15 @@ impl Examination<'_> {
                 ));
             }
         }
-        self.tally.count("permitted", false);
+        self.count("permitted", false);
         if self.run(file, &marks, stream)? != first {
             return Err(format!("unchanged: {} is changed", hex(stream)));
         }
-        self.tally.count("unchanged", false);
+        self.count("unchanged", false);
         if self.by_halves(file, &marks)? != first {
             return Err("halves: they differ from the run".to_string());
         }
-        self.tally.count("halves", false);
+        self.count("halves", false);
         Ok(())
     }
 
@@ -282,11 +307,8 @@ mod tests {
             }
         }
         assert_eq!(tally.laws.len(), 8, "{:?}", tally.laws);
-        for (law, tried, hopeless) in tally.laws {
-            assert!(
-                tried - hopeless > 200,
-                "{law}: {tried}, {hopeless} hopeless"
-            );
+        for count in tally.laws {
+            assert!(count.resting > 100 && count.leaving > 200, "{count:?}");
         }
     }
 }

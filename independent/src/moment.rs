@@ -117,7 +117,7 @@ impl Numbering {
             Some(&ceiling) => u64::from(clocks[index]) <= ceiling,
             None => clocks[index] == 0,
         };
-        if usize::from(location) >= policy.locations || !(0..MAX_CLOCKS).all(in_range) {
+        if usize::from(location) >= policy.locations() || !(0..MAX_CLOCKS).all(in_range) {
             return Err(Refusal::BadState);
         }
         Ok(Moment {
@@ -136,7 +136,7 @@ mod tests {
             inputs: vec![],
             outputs: vec![],
             ceilings: vec![2, 4],
-            locations: 3,
+            must_leave: vec![false; 3],
             rules: vec![],
         }
     }

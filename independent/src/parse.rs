@@ -61,12 +61,12 @@ pub fn check(file: &[u8]) -> Result<Policy, Refusal> {
     let inputs = read_tags(&mut cursor, &[])?;
     let outputs = read_tags(&mut cursor, &inputs)?;
     let ceilings = read_ceilings(&mut cursor)?;
-    let locations = read_locations(&mut cursor)?;
+    let must_leave = read_locations(&mut cursor)?;
     let mut policy = Policy {
         inputs,
         outputs,
         ceilings,
-        locations,
+        must_leave,
         rules: Vec::new(),
     };
     read_rules(&mut cursor, &mut policy)?;
@@ -105,12 +105,15 @@ fn read_ceilings(cursor: &mut Cursor) -> Result<Vec<u16>, Refusal> {
     Ok(ceilings)
 }
 
-fn read_locations(cursor: &mut Cursor) -> Result<usize, Refusal> {
+/// A byte of 1 says that the location must be left, 0 that it may rest.
+fn read_locations(cursor: &mut Cursor) -> Result<Vec<bool>, Refusal> {
     let section = cursor.section(1, MAX_LOCATIONS, 1)?;
-    if section.rest.iter().any(|&byte| byte != 0) {
-        return Err(Refusal::BadLocationByte);
-    }
-    Ok(section.rest.len())
+    let must_be_left = |&byte: &u8| match byte {
+        0 => Ok(false),
+        1 => Ok(true),
+        _ => Err(Refusal::BadLocationByte),
+    };
+    section.rest.iter().map(must_be_left).collect()
 }
 
 fn read_rules(cursor: &mut Cursor, policy: &mut Policy) -> Result<(), Refusal> {
@@ -131,11 +134,11 @@ fn read_head(section: &mut Cursor, policy: &Policy, least_source: u8) -> Result<
     let output = read_condition(section)?;
     let reset = section.byte()?;
     let target = section.byte()?;
-    let in_order = source >= least_source && usize::from(source) < policy.locations;
+    let in_order = source >= least_source && usize::from(source) < policy.locations();
     let conditions =
         condition_fits(input, policy.input_mask()) && condition_fits(output, policy.output_mask());
     let resets = reset & !policy.clock_mask() == 0;
-    let arrives = target == VIOLATION || usize::from(target) < policy.locations;
+    let arrives = target == VIOLATION || usize::from(target) < policy.locations();
     if !(in_order && conditions && resets && arrives) {
         return Err(Refusal::BadRule);
     }
@@ -212,7 +215,7 @@ mod tests {
             inputs: b"ABCD".to_vec(),
             outputs: b"EFGH".to_vec(),
             ceilings: vec![1; MAX_CLOCKS],
-            locations: MAX_LOCATIONS,
+            must_leave: vec![true; MAX_LOCATIONS],
             rules: vec![rule; MAX_RULES],
         };
         let file = longest.encode();

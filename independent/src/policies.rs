@@ -156,9 +156,25 @@ pub fn unit(inputs: &[u8], outputs: &[u8]) -> Policy {
         inputs: inputs.to_vec(),
         outputs: outputs.to_vec(),
         ceilings: vec![],
-        locations: 1,
+        must_leave: vec![false],
         rules: vec![rules::open(0, 0)],
     }
+}
+
+/// Which of so many locations must be left. In many policies all may rest;
+/// where all must be left nothing is live.
+pub fn some_must_leave(random: &mut Random, locations: usize) -> Vec<bool> {
+    let one = random.between(0, locations - 1);
+    let kind = random.below(100);
+    let must_be_left = |location: usize| match kind {
+        0..=44 => false,
+        45..=54 => location == one,
+        55..=66 => location != one,
+        67..=68 => true,
+        69..=79 => random.percent(30),
+        _ => random.percent(60),
+    };
+    (0..locations).map(must_be_left).collect()
 }
 
 fn some_locations(random: &mut Random, most_states: usize) -> usize {
@@ -217,7 +233,7 @@ fn with_rules(
         inputs,
         outputs,
         ceilings,
-        locations,
+        must_leave: some_must_leave(random, locations),
         rules: Vec::new(),
     };
     policy.rules = rules::rules_for(random, &policy);
@@ -246,6 +262,15 @@ mod tests {
         }
     }
 
+    /// Whether some state goes on for ever and yet is not live.
+    fn lives_more_if_all_rest(policy: &Policy, live: usize) -> bool {
+        let resting = Policy {
+            must_leave: vec![false; policy.locations()],
+            ..policy.clone()
+        };
+        Graph::new(&resting).liveness().count() > live
+    }
+
     /// Random policies are of use only if they are of all kinds.
     #[test]
     fn random_policies_are_of_all_shapes_and_verdicts() {
@@ -254,17 +279,20 @@ mod tests {
         let mut outputs = [0; 5];
         let mut clocks = [0; 5];
         let (mut whole, mut partial, mut hopeless, mut deep) = (0, 0, 0, 0);
+        let (mut all_rest, mut restless) = (0, 0);
         let (mut most_rules, mut most_locations, mut highest) = (0, 0, 0);
-        for _ in 0..2_000 {
+        for _ in 0..3_000 {
             let policy = any(&mut random);
             inputs[policy.inputs.len()] += 1;
             outputs[policy.outputs.len()] += 1;
             clocks[policy.ceilings.len()] += 1;
             most_rules = most_rules.max(policy.rules.len());
-            most_locations = most_locations.max(policy.locations);
+            most_locations = most_locations.max(policy.locations());
             highest = highest.max(policy.ceilings.iter().copied().max().unwrap_or(0));
             let liveness = Graph::new(&policy).liveness();
             deep += usize::from(liveness.rounds > 3);
+            all_rest += usize::from(!policy.must_leave.contains(&true));
+            restless += usize::from(lives_more_if_all_rest(&policy, liveness.count()));
             match (liveness.live[0], liveness.live.iter().all(|&live| live)) {
                 (_, true) => whole += 1,
                 (true, false) => partial += 1,
@@ -277,6 +305,8 @@ mod tests {
         for count in [whole, partial, hopeless, deep] {
             assert!(count > 150, "{whole} {partial} {hopeless} {deep}");
         }
+        assert!((1_200..1_800).contains(&all_rest), "{all_rest}");
+        assert!(restless > 300, "{restless}");
         assert_eq!((most_rules, most_locations), (MAX_RULES, MAX_LOCATIONS));
         assert_eq!(highest, MAX_CEILING);
     }

@@ -63,7 +63,9 @@ pub struct Policy {
     pub inputs: Vec<u8>,
     pub outputs: Vec<u8>,
     pub ceilings: Vec<u16>,
-    pub locations: usize,
+    /// For each location, whether it must be left; in the others a stream may
+    /// rest.
+    pub must_leave: Vec<bool>,
     pub rules: Vec<Rule>,
 }
 
@@ -73,11 +75,19 @@ pub fn lowest_bits(count: usize) -> u8 {
 }
 
 impl Policy {
+    pub fn locations(&self) -> usize {
+        self.must_leave.len()
+    }
+
+    pub fn rests_in(&self, location: u8) -> bool {
+        !self.must_leave[usize::from(location)]
+    }
+
     /// Locations times the product of (ceiling + 1). At most
     /// 64 x 1,002^4, which 64 bits hold.
     pub fn states(&self) -> u64 {
         let per_location: u64 = self.ceilings.iter().map(|&c| u64::from(c) + 1).product();
-        self.locations as u64 * per_location
+        self.locations() as u64 * per_location
     }
 
     pub fn input_mask(&self) -> u8 {
@@ -110,7 +120,8 @@ impl Policy {
         for &ceiling in &self.ceilings {
             put_number(&mut file, ceiling);
         }
-        put_counted(&mut file, &vec![0; self.locations]);
+        let location_bytes: Vec<u8> = self.must_leave.iter().map(|&left| left.into()).collect();
+        put_counted(&mut file, &location_bytes);
         put_number(&mut file, self.rules.len() as u16);
         for rule in &self.rules {
             self.put_rule(&mut file, rule);
@@ -166,7 +177,7 @@ mod tests {
             inputs: vec![],
             outputs: vec![],
             ceilings: vec![1_001; 4],
-            locations: 64,
+            must_leave: vec![false; 64],
             rules: vec![],
         };
         assert_eq!(policy.states(), 64_513_538_049_024);

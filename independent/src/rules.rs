@@ -48,7 +48,7 @@ impl RuleMaker<'_> {
         let style = self.style();
         let crowded = self.random.percent(3);
         let mut rules = Vec::new();
-        for location in 0..self.policy.locations {
+        for location in 0..self.policy.locations() {
             let style = if one_style { style } else { self.style() };
             rules.extend(if crowded {
                 self.crowd(location)
@@ -82,7 +82,7 @@ impl RuleMaker<'_> {
 
     /// So many rules that all the locations together have nearly 256 of them.
     fn crowd(&mut self, location: usize) -> Vec<Rule> {
-        let share = MAX_RULES.div_ceil(self.policy.locations);
+        let share = MAX_RULES.div_ceil(self.policy.locations());
         (0..share).map(|_| self.scattered_rule(location)).collect()
     }
 
@@ -180,7 +180,7 @@ impl RuleMaker<'_> {
 
     fn chain(&mut self, location: usize) -> Vec<Rule> {
         let further = location + 1;
-        if further == self.policy.locations {
+        if further == self.policy.locations() {
             return vec![];
         }
         let mut rules = vec![Rule {
@@ -198,11 +198,11 @@ impl RuleMaker<'_> {
     }
 
     fn some_location(&mut self) -> usize {
-        self.random.between(0, self.policy.locations - 1)
+        self.random.between(0, self.policy.locations() - 1)
     }
 
     fn next_location(&self, location: usize) -> usize {
-        (location + 1) % self.policy.locations
+        (location + 1) % self.policy.locations()
     }
 
     fn near_location(&mut self, location: usize) -> usize {

@@ -45,7 +45,7 @@ impl Subject {
     /// which tries every event against every rule.
     pub fn prepare_steps(&self) -> usize {
         let events = 1 << (self.policy.inputs.len() + self.policy.outputs.len());
-        let per_location = 1 + self.policy.rules.len() / self.policy.locations;
+        let per_location = 1 + self.policy.rules.len() / self.policy.locations();
         (self.liveness.rounds + 1) * self.states() * events * per_location
     }
 }
@@ -189,7 +189,7 @@ fn out_of_range(random: &mut Random, subject: &Subject) -> Vec<u16> {
     let mut state = subject.state(random.between(0, subject.states() - 1));
     let place = random.between(0, STATE_LENGTH - 1);
     let first_wrong = match place {
-        0 => subject.policy.locations as u16,
+        0 => subject.policy.locations() as u16,
         clock => subject.policy.ceilings.get(clock - 1).map_or(1, |c| c + 1),
     };
     // 256 and more also catch a location cut down to one byte.

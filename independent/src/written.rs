@@ -4,6 +4,7 @@
 mod files;
 mod halves;
 mod joins;
+mod leaving;
 mod runs;
 mod times;
 
@@ -28,6 +29,7 @@ pub fn all() -> Vec<Written> {
         halves::all(),
         runs::all(),
         joins::all(),
+        leaving::all(),
         times::all(),
     ]
     .into_iter()

@@ -13,7 +13,9 @@ impl<'a> Policy<'a> {
         let outputs = rest.section(0..=MAX_SIGNALS, 1)?;
         check_tags(outputs, inputs)?;
         let (clocks, ceilings) = check_ceilings(rest.section(0..=MAX_CLOCKS, 2)?)?;
-        let locations = check_locations(rest.section(1..=MAX_LOCATIONS, 1)?)?;
+        let must_leave = rest.section(1..=MAX_LOCATIONS, 1)?;
+        check_locations(must_leave)?;
+        let locations = must_leave.len();
         let rules = rest.long_section(0..=MAX_RULES, rule_length(clocks))?;
         let policy = Policy {
             inputs,
@@ -21,6 +23,7 @@ impl<'a> Policy<'a> {
             clocks,
             ceilings,
             locations,
+            must_leave,
             rules: Rules::new(rules, clocks),
             states: count_states(locations, &ceilings),
         };
@@ -97,11 +100,11 @@ fn check_ceilings(section: &[u8]) -> Result<(usize, [u16; MAX_CLOCKS]), Refusal>
     Ok((pairs.len(), ceilings))
 }
 
-fn check_locations(section: &[u8]) -> Result<usize, Refusal> {
-    if section.iter().any(|&byte| byte != 0) {
-        return Err(Refusal::BadLocationByte);
+fn check_locations(bytes: &[u8]) -> Result<(), Refusal> {
+    match bytes.iter().any(|&byte| byte > 1) {
+        true => Err(Refusal::BadLocationByte),
+        false => Ok(()),
     }
-    Ok(section.len())
 }
 
 /// At most 64 x 1,002^4, which fits.

@@ -71,7 +71,11 @@ fn write_counts(writer: &mut Writer, a: &Policy, b: &Policy, rules: usize) {
     }
     let locations = a.locations * b.locations;
     writer.put(&[locations as u8]);
-    writer.put(&[0; MAX_LOCATIONS][..locations]);
+    for left_a in a.must_leave {
+        for left_b in b.must_leave {
+            writer.put(&[left_a | left_b]);
+        }
+    }
     writer.put(&(rules as u16).to_be_bytes());
 }
 

@@ -22,6 +22,8 @@ pub struct Policy<'a> {
     /// The ceiling of an unused clock is 0, so that it never leaves 0.
     pub ceilings: [u16; MAX_CLOCKS],
     pub locations: usize,
+    /// One byte for each location: 1 if it must be left, 0 if it may rest.
+    pub must_leave: &'a [u8],
     pub rules: Rules<'a>,
     pub states: usize,
 }

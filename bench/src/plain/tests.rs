@@ -47,6 +47,27 @@ fn tables_of_the_samples() {
     assert_eq!(prepared(N), Err(Refusal::StartNotLive));
 }
 
+/// A begins what B must be able to finish, and what can be finished only
+/// where the fourth rule stands.
+fn transfer(rules: &str) -> String {
+    format!(
+        "01 41 01 42 00 02 00 01 {rules}
+        00 01 01 00 00 00 01  00 00 00 00 00 00 00  01 00 00 01 00 00 01"
+    )
+}
+
+#[test]
+fn what_is_begun_must_be_able_to_finish() {
+    let finished = format!("{}  01 00 00 00 00 00 00", transfer("00 04"));
+    assert_eq!(prepared(&finished), Ok((0, 2, 2)));
+    assert_eq!(released(&finished, &[0x01, 0x10]), Ok(vec![0x01, 0x10]));
+    let unfinished = transfer("00 03");
+    assert_eq!(prepared(&unfinished), Ok((1, 2, 1)));
+    assert_eq!(released(&unfinished, &[0x01, 0x10]), Ok(vec![0x00, 0x10]));
+    let byte_two = transfer("00 03").replacen("00 01 00 03", "00 02 00 03", 1);
+    assert_eq!(prepared(&byte_two), Err(Refusal::BadLocationByte));
+}
+
 #[test]
 fn refusal_11_leaves_the_marks() {
     let mut marks = [9; 2];

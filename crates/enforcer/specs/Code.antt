@@ -50,7 +50,7 @@ foundSaid Found.Nothing = none
 
 -- A policy of which only the clocks and the rules are asked.
 abbrev pub bare : List ℕ → List Rule → Policy
-bare cs rs = record { inputs = []; outputs = []; ceilings = cs; locations = 0; rules = rs }
+bare cs rs = record { inputs = []; outputs = []; ceilings = cs; locations = 0; left = []; rules = rs }
 
 -- The state after a step, or a violation and the state before it.
 abbrev pub stepFrom : State → Option Place → Step

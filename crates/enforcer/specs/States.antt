@@ -16,7 +16,6 @@ use Rattle.policy.specs.File.{ceilingsOf, policyOf}
 use Rattle.policy.specs.Check.{refusalOf, all}
 use Rattle.policy.specs.Sound.{Inside}
 use Rattle.policy.specs.Numbered.{numberOf-below}
-use Rattle.policy.specs.ReadBack.{all-zeros}
 use Rattle.policy.specs.Layout.{checkedOf, checked-says}
 use Rattle.policy.specs.declared.Layout.{Layout}
 use Rattle.policy.specs.declared.Checked.{Checked}
@@ -54,6 +53,11 @@ good-inside p s e =
     let k = and-eq-true-iff (ltb (s .location) (p .locations)) _ .0 e in
     let c = clocks-inside (p .ceilings) (s .clocks) (k .1) in
     record { location = ltb-true _ _ (k .0); clocks = c .0; stopped = c .1 }
+
+all-zeros : (n : ℕ) → all (eqb 0) (replicate n 0) ≡ true
+unfolding all
+all-zeros zero = refl
+all-zeros (suc n) = all-zeros n
 
 -- Clock values within their ceilings, and zeros after them, are in range.
 clocks-good :

@@ -15,7 +15,7 @@ use Rattle.enforcer.specs.Entries.{marksRefusal}
 use Rattle.enforcer.specs.States.{marks-granted}
 use Rattle.enforcer.specs.Refusals.{marks-le}
 use Rattle.prepare.specs.Table.{marksOf, liveCount}
-use Rattle.prepare.specs.Marks.{total-le}
+use Rattle.resting.specs.Marks.{total-le}
 use Rattle.prepare.specs.Live.{marks-length, marks-bits}
 use Rattle.prepare.specs.Entry.{Summary, prepareOf}
 use Rattle.join.specs.Entry.{joinRefusal, joinedFile, joinOf}

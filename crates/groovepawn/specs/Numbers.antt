@@ -5,8 +5,8 @@ use Prim.Native.Nat.{ℕ}
 use native.Mathlib.Omega.{arith}
 use lib.ListN.{length, getD, set}
 use lib.Seq.{ext-getD}
-use Rattle.prepare.specs.Table.{tab}
-use Rattle.prepare.specs.Marks.{length-tab, getD-tab}
+use Rattle.resting.specs.Table.{tab}
+use Rattle.resting.specs.Marks.{length-tab, getD-tab}
 use Rattle.groovepawn.specs.Words.{stateWords, stateIn}
 
 -- A list is its elements, one after the other.

@@ -1,28 +1,30 @@
 -- What the proofs above the rule writers cite: the layout of a checked file, the bytes before the rules, and each answer of the join.
 use mathlib.Core.Path.{_≡_, refl, ap, ap₂, sym, _∙_}
-use mathlib.Core.Bool.{Bool, true, false, _&&_, and-eq-true-iff}
+use mathlib.Core.Bool.{Bool, true, false, cond, _&&_, and-eq-true-iff}
 use mathlib.Core.List.{List, [], _∷_, _++_, append-assoc}
-use Prim.Native.Nat.{ℕ, zero, suc, _+_, _-_, _*_, _/_, _≤_, _<_}
-use native.Mathlib.Nat.{mul-div-cancel}
+use Prim.Native.Nat.{ℕ, zero, suc, _+_, _-_, _*_, _/_, _%_, _≤_, _<_}
+use native.Mathlib.Nat.{mul-div-cancel, div-lt-iff-lt-mul, mod-lt}
 use native.Mathlib.Numerals.{add-one}
 use native.Mathlib.Omega.{arith}
 use lib.Dec.{leb, eqb}
-use lib.ListN.{length, getD, take, drop, drop-of-length-le, length-append, length-replicate}
+use lib.ListN.{length, getD, take, drop, drop-of-length-le, length-append}
 use lib.Seq.{drop-cons}
 use borrow.Author.Tests.{leb-true, le-leb, lt-leb}
 use Rattle.streams.specs.Answer.{first-refused}
+use Rattle.policy.specs.Rules.{rests}
 use Rattle.policy.specs.File.{byteAt, part, ruleSize, inputCount, outputsAt, outputCount, clocksAt, clockCount, locationCount, ruleCount, rulesStart, rulesEnd, inputTags, outputTags, ceilingsOf, ruleSection, policyOf}
 use Rattle.policy.specs.Check.{refusalOf}
 use Rattle.policy.specs.Bytes.{pairsBytes, countsBytes, bytesOf}
 use Rattle.policy.specs.Sound.{each-weak}
 use Rattle.policy.specs.Checked.{Framed, passed, frame, checked-file, well-sound, well-rising, inputs-length, outputs-length, section-length, pairs-length}
 use Rattle.policy.specs.ReadBack.{rules-length}
+use Rattle.join.specs.Left.{left-length}
 use Rattle.join.specs.Joins.{join-sound, join-clocks}
 use Rattle.policy.specs.Number.{states}
 use Rattle.policy.specs.Layout.{layoutOf, CheckPromise, checked-says}
 use Rattle.policy.specs.declared.Checked.{Checked}
 use Rattle.policy.specs.declared.Layout.{Layout}
-use Rattle.join.specs.Join.{join}
+use Rattle.join.specs.Join.{leftAt, join}
 use Rattle.join.specs.Entry.{sameTags, sameSignals, joinFits, joinedFile, writtenOver, joinRefusal, joinOf, joinedOut}
 use Rattle.join.specs.Again.{sameTags-is}
 use Rattle.join.specs.declared.Joined.the-variants.{Length, Refused}
@@ -114,6 +116,10 @@ places-joined : (f g : List ℕ) → join (policyOf f) (policyOf g) .locations �
 unfolding policyOf join
 places-joined f g = refl
 
+places-read : (f : List ℕ) → policyOf f .locations ≡ locationCount f
+unfolding policyOf
+places-read f = refl
+
 states-read : (f : List ℕ) → states (policyOf f) ≡ layoutOf f .states
 unfolding policyOf
 states-read f = rw (pairs-length f (clocksAt f + 1) (clockCount f))
@@ -141,6 +147,25 @@ module _ {f g : List ℕ} {x y : Layout} (r : Ready f x g y) where
 
   pub joinable : Joinable x y
   joinable = record { clocks = few .1; locations = few .0; start = sizes (r .first) .start; other = sizes (r .second) .start }
+
+  -- The pair with the number m: a location of A and one of B, as the layouts say where their bytes stand.
+  pub first-place : (m : ℕ) → m < x .locations * y .locations →
+      (x .locations ≡ locationCount f) × (x .«rules_start» ≡ rulesStart f) × (m / y .locations < x .locations)
+  first-place m h =
+      let some : 0 < y .locations = sizes (r .second) .start in
+      (ap (λ (l : Layout). l .locations) (r .first .is), ap (λ (l : Layout). l .«rules_start») (r .first .is), div-lt-iff-lt-mul some .1 h)
+
+  pub second-place : (m : ℕ) → m < x .locations * y .locations →
+      (y .locations ≡ locationCount g) × (y .«rules_start» ≡ rulesStart g) × (m % y .locations < y .locations)
+  second-place m h =
+      (ap (λ (l : Layout). l .locations) (r .second .is), ap (λ (l : Layout). l .«rules_start») (r .second .is), mod-lt m (sizes (r .second) .start))
+
+  pub left-by : (m : ℕ) {t u v : Bool} → t ≡ rests (policyOf f) (m / y .locations) → u ≡ rests (policyOf g) (m % y .locations) → (t && u) ≡ v →
+      leftAt (policyOf f) (policyOf g) m ≡ cond v 0 1
+  unfolding leftAt rests
+  left-by m e h k =
+      let n : policyOf g .locations ≡ y .locations = places-read g ∙ sym (ap (λ (l : Layout). l .locations) (r .second .is)) in
+      rw (n, ← e, ← h, k)
 
   pub rules-joined : rowsBytes x y (rulesIn x (ruleSection f)) (rulesIn y (ruleSection g)) (x .locations * y .locations) ≡ joinedRules f g
   unfolding policyOf join
@@ -218,7 +243,7 @@ module _ {f g : List ℕ} {x y : Layout} (r : Ready f x g y) where
       (append-assoc (inputCount f ∷ inputTags f) (outputCount f ∷ outputTags f) _)
 
   pub counts-long : (n : ℕ) → length (countsFrom f x g y n) ≡ countsLength x y
-  counts-long n = simp (length-append, bytes-length, length-replicate) (omega arith)
+  counts-long n = simp (length-append, bytes-length, left-length) (omega arith)
 
 -- 13, by the layouts.
 regroup : (l k r s : Bool) → (l && (k && (r && s))) ≡ ((l && (k && s)) && r)

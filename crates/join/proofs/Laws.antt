@@ -4,7 +4,7 @@ use mathlib.Core.List.{List, [], _∷_, _++_, append-assoc, append-nil}
 use Prim.Native.Nat.{ℕ, suc, _+_, _-_, _≤_, _<_}
 use native.Mathlib.Omega.{arith}
 use lib.Bits.{bitOr}
-use lib.ListN.{length, take, drop, set, replicate, length-append, length-drop, drop-of-length-le}
+use lib.ListN.{length, take, drop, set, length-append, length-drop, drop-of-length-le}
 use lib.Seq.{set-out, sets, length-sets, sets-eq, take-all, take-append-seam, drop-append-seam, drop-drop}
 use Rattle.policy.specs.File.{byteAt}
 use Rattle.join.specs.Lay.{Laid, bytesFrom, eitherFrom}
@@ -110,9 +110,3 @@ either-turn f p g q n i h v w =
 pub either-end : (f : List ℕ) (p : ℕ) (g : List ℕ) (q n i : ℕ) → n ≤ i → eitherFrom f p g q (n - i) ≡ []
 unfolding eitherFrom
 either-end f p g q n i h = let e : n - i ≡ 0 = omega arith in rw e
-
-pub zeros-turn : (n i : ℕ) → i < n → replicate {A = ℕ} (n - i) 0 ≡ (0 ∷ []) ++ replicate {A = ℕ} (n - (i + 1)) 0
-zeros-turn n i h = let e : n - i ≡ suc (n - (i + 1)) = omega arith in rw e
-
-pub zeros-end : (n i : ℕ) → n ≤ i → replicate {A = ℕ} (n - i) 0 ≡ []
-zeros-end n i h = let e : n - i ≡ 0 = omega arith in rw e

@@ -12,12 +12,13 @@ use lib.ListN.{length, length-append}
 use borrow.Author.Tests.{leb-true, eqb-true, le-leb, lt-ltb, eq-eqb}
 use Rattle.policy.specs.Rules.{Bound, Rule, Policy}
 use Rattle.policy.specs.Number.{states}
-use Rattle.policy.specs.Check.{all, ceilingGood, maskGood, headGood, boundGood, boundsGood, ruleRefusal, rulesRefusal}
+use Rattle.policy.specs.Check.{ceilingGood, maskGood, headGood, boundGood, boundsGood, ruleRefusal, rulesRefusal}
 use Rattle.policy.specs.Sound.{WellFormed, Each, each-none, each-more}
 use Rattle.policy.specs.Stopped.{AllLawful, lawful-none, lawful-more}
-use Rattle.policy.specs.Checked.{Ordered, ordered-none, ordered-more, Rising, rising-none, rising-more, Ruled, well-ruled}
+use Rattle.policy.specs.Checked.{all-append, Ordered, ordered-none, ordered-more, Rising, rising-none, rising-more, Ruled, well-ruled}
 use Rattle.join.specs.Join.{of, both, rows, join}
 use Rattle.join.specs.Entry.{sameTags, sameSignals, joinFits}
+use Rattle.join.specs.Left.{left-length, left-good}
 use Rattle.join.specs.Joins.{Joins, each-any, each-rows, both-formed}
 use Rattle.join.specs.Decide.{cell-at}
 
@@ -60,13 +61,6 @@ joins-of a b s f =
     }
 
 -- "Clocks of A come first, then those of B", in the ceilings and in each rule's bounds, so each bound meets its own ceiling.
-ceilings-append : (cs ds : List ℕ) → all ceilingGood cs ≡ true → all ceilingGood ds ≡ true → all ceilingGood (cs ++ ds) ≡ true
-unfolding all
-ceilings-append [] ds g h = h
-ceilings-append (c ∷ cs) ds g h =
-    let t = and-eq-true-iff (ceilingGood c) (all ceilingGood cs) .0 g in
-    and-eq-true-iff (ceilingGood c) _ .1 (t .0, ceilings-append cs ds (t .1) h)
-
 ordered-append : {bs es : List Bound} → Ordered bs → Ordered es → Ordered (bs ++ es)
 ordered-append ordered-none k = k
 ordered-append (ordered-more l h) k = ordered-more l (ordered-append h k)
@@ -169,9 +163,11 @@ join-well a b g h s f =
       clocks = t .1;
       inputTags = g .inputTags;
       outputTags = g .outputTags;
-      ceilings = ceilings-append (a .ceilings) (b .ceilings) (g .ceilings) (h .ceilings);
+      ceilings = all-append ceilingGood (a .ceilings) (b .ceilings) (g .ceilings) (h .ceilings);
       start = mul-le-mul (g .start) (h .start);
       locations = t .0;
+      bytes = left-length a b (a .locations * b .locations);
+      left = left-good a b (a .locations * b .locations);
       ruleCount = t .2;
       rules = joined-rules a b g h (joins-of a b s f);
       states = t .3;

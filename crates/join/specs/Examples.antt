@@ -1,16 +1,17 @@
--- Two joins, compared with what another program made of the document's text; and the premises of the laws, met by them.
+-- Two joins, compared with what another program made of the document's text, their location bytes with what is read off it by hand; and the premises of the laws, met by them.
 use mathlib.Core.Path.{_≡_, refl}
 use mathlib.Core.Bool.{true}
 use mathlib.Core.List.{List, [], _∷_}
 use Prim.Native.Nat.{ℕ, _<_}
 use native.Mathlib.Omega.{arith}
-use Rattle.policy.specs.Rules.{Bound, Rule, Policy}
+use lib.ListN.{length}
+use Rattle.policy.specs.Rules.{Bound, Rule, Policy, rests}
 use Rattle.policy.specs.Number.{statesOf}
-use Rattle.policy.specs.Check.{all, among, tagsGood, ceilingGood, maskGood, headGood, boundGood, boundsGood, ruleRefusal, rulesRefusal}
+use Rattle.policy.specs.Check.{all, among, tagsGood, ceilingGood, locationGood, maskGood, headGood, boundGood, boundsGood, ruleRefusal, rulesRefusal}
 use Rattle.policy.specs.Sound.{WellFormed}
 use Rattle.policy.specs.Checked.{well-sound}
 use Rattle.join.specs.Masks.{alike}
-use Rattle.join.specs.Join.{of, agree, target, both, pair, each, cell, rows, join}
+use Rattle.join.specs.Join.{of, agree, target, both, pair, each, cell, rows, leftAt, leftBelow, join}
 use Rattle.join.specs.Entry.{sameTags, sameSignals, joinFits}
 use Rattle.join.specs.Laws.{Equal, associates}
 use Rattle.join.specs.Again.{fitting, joins-of, join-well}
@@ -24,13 +25,14 @@ row s ic iv oc ov r t bs =
     record { source = s; inCare = ic; inValue = iv; outCare = oc; outValue = ov; reset = r; target = t; bounds = bs }
 
 -- The signals of sample D: R in, C out.
-abbrev over : List ℕ → ℕ → List Rule → Policy
-over cs l rs = record { inputs = 82 ∷ []; outputs = 67 ∷ []; ceilings = cs; locations = l; rules = rs }
+abbrev over : List ℕ → List ℕ → List Rule → Policy
+over cs bs rs = record { inputs = 82 ∷ []; outputs = 67 ∷ []; ceilings = cs; locations = length bs; left = bs; rules = rs }
 
--- Sample D; a policy with a rule that is a violation; and one with three locations, the last without a rule.
+-- Sample D; a policy with a rule that is a violation and a location that must be left; and one with three locations, the last without a rule and the
+-- first to be left.
 abbrev d : Policy
 d =
-    over (3 ∷ []) 2
+    over (3 ∷ []) (0 ∷ 0 ∷ [])
     (row 0 1 1 0 0 1 1 (bound 0 65535 ∷ [])
     ∷ row 0 0 0 0 0 1 0 (bound 0 65535 ∷ [])
     ∷ row 1 0 0 1 1 1 0 (bound 0 65535 ∷ [])
@@ -39,7 +41,7 @@ d =
 
 abbrev v : Policy
 v =
-    over (5 ∷ []) 2
+    over (5 ∷ []) (0 ∷ 1 ∷ [])
     (row 0 1 0 0 0 1 1 (bound 2 4 ∷ [])
     ∷ row 0 0 0 1 1 0 255 (bound 0 65535 ∷ [])
     ∷ row 1 1 1 1 0 0 0 (bound 0 3 ∷ [])
@@ -47,14 +49,14 @@ v =
 
 abbrev u : Policy
 u =
-    over [] 3
+    over [] (1 ∷ 0 ∷ 0 ∷ [])
     (row 0 1 1 0 0 0 1 []
     ∷ row 0 0 0 0 0 0 0 []
     ∷ row 1 0 0 1 1 0 2 []
     ∷ [])
 
 dv : join d v ≡
-    over (3 ∷ 5 ∷ []) 4
+    over (3 ∷ 5 ∷ []) (0 ∷ 1 ∷ 0 ∷ 1 ∷ [])
     (row 0 1 1 1 1 1 255 (bound 0 65535 ∷ bound 0 65535 ∷ [])
     ∷ row 0 1 0 0 0 3 1 (bound 0 65535 ∷ bound 2 4 ∷ [])
     ∷ row 0 0 0 1 1 1 255 (bound 0 65535 ∷ bound 0 65535 ∷ [])
@@ -65,11 +67,11 @@ dv : join d v ≡
     ∷ row 2 1 0 1 0 2 3 (bound 0 2 ∷ bound 2 4 ∷ [])
     ∷ row 3 1 1 1 0 0 2 (bound 0 2 ∷ bound 0 3 ∷ [])
     ∷ [])
-unfolding join rows cell each pair both agree target of alike
+unfolding join rows cell each pair both agree target of alike leftBelow leftAt rests
 dv = refl
 
 vu : join v u ≡
-    over (5 ∷ []) 6
+    over (5 ∷ []) (1 ∷ 0 ∷ 0 ∷ 1 ∷ 1 ∷ 1 ∷ [])
     (row 0 1 0 0 0 1 3 (bound 2 4 ∷ [])
     ∷ row 0 1 1 1 1 0 255 (bound 0 65535 ∷ [])
     ∷ row 0 0 0 1 1 0 255 (bound 0 65535 ∷ [])
@@ -78,15 +80,15 @@ vu : join v u ≡
     ∷ row 3 1 1 1 0 0 1 (bound 0 3 ∷ [])
     ∷ row 3 1 1 1 0 0 0 (bound 0 3 ∷ [])
     ∷ [])
-unfolding join rows cell each pair both agree target of alike
+unfolding join rows cell each pair both agree target of alike leftBelow leftAt rests
 vu = refl
 
 -- The laws' premises hold of them, and of a join of joins.
-well : (cs : List ℕ) (l : ℕ) (rs : List Rule) → 0 < l → all ceilingGood cs ≡ true → rulesRefusal 1 1 cs l 0 rs ≡ 0 → joinFits (over cs l rs) ≡ true →
-    WellFormed (over cs l rs)
+well : (cs bs : List ℕ) (rs : List Rule) → 0 < length bs → all ceilingGood cs ≡ true → all locationGood bs ≡ true →
+    rulesRefusal 1 1 cs (length bs) 0 rs ≡ 0 → joinFits (over cs bs rs) ≡ true → WellFormed (over cs bs rs)
 unfolding all among tagsGood
-well cs l rs z c r f =
-    let t = fitting (over cs l rs) f in
+well cs bs rs z c l r f =
+    let t = fitting (over cs bs rs) f in
     record {
       inputs = omega arith;
       outputs = omega arith;
@@ -96,6 +98,8 @@ well cs l rs z c r f =
       ceilings = c;
       start = z;
       locations = t .0;
+      bytes = refl;
+      left = l;
       ruleCount = t .2;
       rules = r;
       states = t .3;
@@ -103,11 +107,11 @@ well cs l rs z c r f =
 
 d-well : WellFormed d
 unfolding all maskGood headGood boundGood boundsGood ruleRefusal rulesRefusal statesOf joinFits
-d-well = well _ _ _ (omega arith) refl refl refl
+d-well = well _ _ _ (omega arith) refl refl refl refl
 
 v-well : WellFormed v
 unfolding all maskGood headGood boundGood boundsGood ruleRefusal rulesRefusal statesOf joinFits
-v-well = well _ _ _ (omega arith) refl refl refl
+v-well = well _ _ _ (omega arith) refl refl refl refl
 
 dv-well : WellFormed (join d v)
 unfolding statesOf sameTags sameSignals joinFits join rows cell each pair both agree target of alike

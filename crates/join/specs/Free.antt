@@ -10,7 +10,7 @@ use lib.Bits.{and-zero-r}
 use lib.ListN.{length}
 use borrow.Author.Tests.{lt-ltb}
 use Rattle.streams.specs.Stream.{Event, Stream}
-use Rattle.policy.specs.Rules.{Rule, Policy, start, hold, fires, decides, unlimited, advance, taken, step, steps, Fits, Runs, Permits}
+use Rattle.policy.specs.Rules.{Rule, Policy, start, hold, fires, decides, unlimited, advance, taken, step, steps, Fits, rests, Runs, Rests, Permits}
 use Rattle.policy.specs.Check.{all, maskGood, headGood, boundsGood, ruleRefusal, rulesRefusal}
 use Rattle.policy.specs.Number.{statesOf}
 use Rattle.policy.specs.Sound.{WellFormed, each-none, each-more, Formed, Sound}
@@ -21,9 +21,9 @@ abbrev pub always : Rule
 always = record { source = 0; inCare = 0; inValue = 0; outCare = 0; outValue = 0; reset = 0; target = 0; bounds = [] }
 
 module _ (ins outs : List ℕ) where
-  -- One location, no clocks, one rule.
+  -- One location that may rest, no clocks, one rule.
   abbrev pub free : Policy
-  free = record { inputs = ins; outputs = outs; ceilings = []; locations = 1; rules = always ∷ [] }
+  free = record { inputs = ins; outputs = outs; ceilings = []; locations = 1; left = 0 ∷ []; rules = always ∷ [] }
 
   -- Its bytes, with i the number of inputs and o of outputs: i, the input tags, o, the output tags, then `00 01 00 00 01 00 00 00 00 00 00 00`: no
   -- clock, one location and its 0, one rule, and that rule's seven bytes.
@@ -49,9 +49,14 @@ module _ (ins outs : List ℕ) where
   free-steps [] = refl
   free-steps (e ∷ es) = rw (free-step e) (free-steps es)
 
-  pub free-permits : (w : Stream) → Fits free w → Permits free w
+  -- It permits every stream of events within the signals, and rests after each.
+  pub free-permits : (w : Stream) → Fits free w → Permits free .permits w
   unfolding Runs
   free-permits w f = (f, (start free, free-steps w))
+
+  pub free-rests : (w : Stream) → Permits free .rests w
+  unfolding Rests rests
+  free-rests w = (start free, free-steps w, refl)
 
 -- Over the signals of a checked policy its file is not refused.
 pub free-well : (p : Policy) → WellFormed p → WellFormed (free (p .inputs) (p .outputs))
@@ -66,6 +71,8 @@ free-well p w =
       ceilings = refl;
       start = omega arith;
       locations = omega arith;
+      bytes = refl;
+      left = refl;
       ruleCount = omega arith;
       rules = rw (lt-ltb 0 (2 ^ length (p .inputs)) (pow-pos _), lt-ltb 0 (2 ^ length (p .outputs)) (pow-pos _));
       states = omega arith;

@@ -5,20 +5,21 @@ use mathlib.Core.Logic.{_↔_}
 use Prim.Native.Nat.{ℕ, _*_, _≤_}
 use native.Mathlib.Nat.{mul-comm, mul-assoc, mul-one, mul-le-mul-right}
 use native.Mathlib.Omega.{arith}
-use Rattle.streams.specs.Stream.{Event, Stream, GoesOn, Hopeless}
+use Rattle.streams.specs.Stream.{Event, Stream, Language, GoesOn, Hopeless}
 use Rattle.streams.specs.Order.{Order}
 use Rattle.streams.specs.Enforced.{Enforced}
-use Rattle.streams.specs.Laws.{_⊆_, goes-on, ends, enforced-same, passes}
+use Rattle.streams.specs.Laws.{_⊆_, ⊆-refl, ⊆-trans, ∩-first, ∩-second, ∩-into, goes-on, ends, enforced-same, passes}
 use Rattle.policy.specs.Rules.{Policy, Runs, Permits}
 use Rattle.policy.specs.Sound.{Sound}
 use Rattle.join.specs.Join.{join}
 use Rattle.join.specs.Joins.{Joins, join-sound}
-use Rattle.join.specs.Steps.{fits-same, permits-both, permits-join}
-use Rattle.join.specs.Free.{free, free-sound, free-permits}
+use Rattle.join.specs.Steps.{fits-same, within-both, both-within}
+use Rattle.join.specs.Free.{free, free-sound, free-permits, free-rests}
 
 -- Demand 3, "hopeless together, or the same released stream for every event stream": nobody can tell the two policies apart by streams.
 pub record Equal (p q : Policy) : Type 1 where
-  pub permits : (w : Stream) → Permits p w ↔ Permits q w
+  pub permits : (w : Stream) → Permits p .permits w ↔ Permits q .permits w
+  pub rests : (w : Stream) → Permits p .rests w ↔ Permits q .rests w
   pub goes : (w : Stream) → GoesOn (Permits p) w ↔ GoesOn (Permits q) w
   pub hopeless : Hopeless (Permits p) ↔ Hopeless (Permits q)
   pub releases : (o : Order) (n m : ℕ) (w : Stream) (es rs : List Event) →
@@ -27,7 +28,8 @@ pub record Equal (p q : Policy) : Type 1 where
 pub equal : (p q : Policy) → Permits p ⊆ Permits q → Permits q ⊆ Permits p → Equal p q
 equal p q f g =
     record {
-      permits = λ w. (f w, g w);
+      permits = λ w. (f .permits w, g .permits w);
+      rests = λ w. (f .rests w, g .rests w);
       goes = λ w. (goes-on (Permits p) (Permits q) f w, goes-on (Permits q) (Permits p) g w);
       hopeless = (ends (Permits q) (Permits p) g [], ends (Permits p) (Permits q) f []);
       releases = λ o n m w es rs.
@@ -38,20 +40,29 @@ module _ (a b : Policy) (g : Sound a) (h : Sound b) (j : Joins a b) where
   pub joins-swap : Joins b a
   joins-swap = record { inputs = sym (j .inputs); outputs = sym (j .outputs); locations = rw (mul-comm (b .locations) (a .locations)) (j .locations) }
 
-  half-swap : Permits (join a b) ⊆ Permits (join b a)
-  half-swap w p = let r = permits-both a b g h j w p in permits-join b a h g joins-swap w (r .1) (r .0)
+  to-first : Permits (join a b) ⊆ Permits a
+  to-first = ⊆-trans (within-both a b g h j) (∩-first (Permits a) (Permits b))
+
+  to-second : Permits (join a b) ⊆ Permits b
+  to-second = ⊆-trans (within-both a b g h j) (∩-second (Permits a) (Permits b))
+
+  -- What both permit, the join permits.
+  into : {L : Language} → L ⊆ Permits a → L ⊆ Permits b → L ⊆ Permits (join a b)
+  into f k = ⊆-trans (∩-into f k) (both-within a b g h j)
 
   -- What the join releases passes the enforcer of A, and of B, without an edit.
   pub passes-first : (o : Order) (n m : ℕ) (w : Stream) (es rs : List Event) →
       Enforced o (Permits (join a b)) n m w es rs → Enforced o (Permits a) n m w rs rs
-  passes-first o n m w es rs = passes o n m (Permits (join a b)) (Permits a) (λ v p. permits-both a b g h j v p .0)
+  passes-first o n m w es rs = passes o n m (Permits (join a b)) (Permits a) to-first
 
   pub passes-second : (o : Order) (n m : ℕ) (w : Stream) (es rs : List Event) →
       Enforced o (Permits (join a b)) n m w es rs → Enforced o (Permits b) n m w rs rs
-  passes-second o n m w es rs = passes o n m (Permits (join a b)) (Permits b) (λ v p. permits-both a b g h j v p .1)
+  passes-second o n m w es rs = passes o n m (Permits (join a b)) (Permits b) to-second
 
 pub commutes : (a b : Policy) → Sound a → Sound b → Joins a b → Equal (join a b) (join b a)
-commutes a b g h j = equal (join a b) (join b a) (half-swap a b g h j) (half-swap b a h g (joins-swap a b g h j))
+commutes a b g h j =
+    let i = joins-swap a b g h j in
+    equal (join a b) (join b a) (into b a h g i (to-second a b g h j) (to-first a b g h j)) (into a b g h j (to-second b a h g i) (to-first b a h g i))
 
 module _ (a b c : Policy) (g : Sound a) (h : Sound b) (k : Sound c) (j : Joins a b) (i : Joins (join a b) c) where
   -- Where the left grouping is made, the parts of the right one can be.
@@ -76,28 +87,36 @@ module _ (a b c : Policy) (g : Sound a) (h : Sound b) (k : Sound c) (j : Joins a
 
   pub associates : Equal (join (join a b) c) (join a (join b c))
   associates =
+      let ab = join-sound a b g h in
+      let bc = join-sound b c h k in
+      let l = to-first (join a b) c ab k i in
+      let r = to-second a (join b c) g bc joins-whole in
       equal (join (join a b) c) (join a (join b c))
-      (λ w p.
-      let r = permits-both (join a b) c (join-sound a b g h) k i w p in
-      let q = permits-both a b g h j w (r .0) in
-      permits-join a (join b c) g (join-sound b c h k) joins-whole w (q .0) (permits-join b c h k joins-right w (q .1) (r .1)))
-      (λ w p.
-      let r = permits-both a (join b c) g (join-sound b c h k) joins-whole w p in
-      let q = permits-both b c h k joins-right w (r .1) in
-      permits-join (join a b) c (join-sound a b g h) k i w (permits-join a b g h j w (r .0) (q .0)) (q .1))
+      (into a (join b c) g bc joins-whole (⊆-trans l (to-first a b g h j))
+      (into b c h k joins-right (⊆-trans l (to-second a b g h j)) (to-second (join a b) c ab k i)))
+      (into (join a b) c ab k i (into a b g h j (to-first a (join b c) g bc joins-whole) (⊆-trans r (to-first b c h k joins-right)))
+      (⊆-trans r (to-second b c h k joins-right)))
 
 pub idempotent : (a : Policy) → Sound a → Joins a a → Equal (join a a) a
-idempotent a g j = equal (join a a) a (λ w p. permits-both a a g g j w p .0) (λ w p. permits-join a a g g j w p p)
+idempotent a g j = equal (join a a) a (to-first a a g g j) (into a a g g j (⊆-refl (Permits a)) (⊆-refl (Permits a)))
 
 pub joins-free : (a : Policy) → a .locations ≤ 64 → Joins a (free (a .inputs) (a .outputs))
 joins-free a l = record { inputs = refl; outputs = refl; locations = rw (mul-one (a .locations)) l }
 
+-- It permits whatever a permits.
+pub all-free : (a : Policy) → Permits a ⊆ Permits (free (a .inputs) (a .outputs))
+unfolding Runs
+all-free a =
+    let u = free (a .inputs) (a .outputs) in
+    record {
+      permits = λ w p. free-permits (a .inputs) (a .outputs) w (fits-same a u refl refl (p .0));
+      rests = λ w p. free-rests (a .inputs) (a .outputs) w;
+    }
+
 -- Demand 3: "A with the policy that permits all".
 pub unit : (a : Policy) → Sound a → a .locations ≤ 64 → Equal (join a (free (a .inputs) (a .outputs))) a
-unfolding Runs
 unit a g l =
     let u = free (a .inputs) (a .outputs) in
     let h = free-sound (a .inputs) (a .outputs) in
     let j = joins-free a l in
-    equal (join a u) a (λ w p. permits-both a u g h j w p .0)
-    (λ w p. permits-join a u g h j w p (free-permits (a .inputs) (a .outputs) w (fits-same a u refl refl (p .0))))
+    equal (join a u) a (to-first a u g h j) (into a u g h j (⊆-refl (Permits a)) (all-free a))

@@ -5,7 +5,7 @@ use mathlib.Core.List.{List, [], _∷_, _++_}
 use Prim.Native.Nat.{ℕ, zero, suc, _+_, _*_, _≤_, _<_}
 use lib.Bits.{bitOr}
 use lib.Dec.{leb}
-use lib.ListN.{length, replicate}
+use lib.ListN.{length}
 use lib.Seq.{sets}
 use Rattle.policy.specs.Rules.{Rule}
 use Rattle.policy.specs.File.{byteAt, ruleSize, ruleFrom, rulesFrom, policyOf}
@@ -16,7 +16,7 @@ use Rattle.policy.specs.Sound.{Each, Formed}
 use Rattle.policy.specs.Checked.{Rising}
 use Rattle.policy.specs.declared.Layout.{Layout}
 use Rattle.join.specs.Masks.{alike}
-use Rattle.join.specs.Join.{both, pair, each, cell, rows, join}
+use Rattle.join.specs.Join.{both, pair, each, cell, rows, leftBelow, join}
 use Rattle.join.specs.Entry.{sameSignals}
 
 -- n bytes from a position on. Past the end stands 0.
@@ -121,13 +121,16 @@ clocksFor x = 2 + x .inputs + x .outputs
 abbrev pub clocksPart : List ℕ → ℕ → ℕ → List ℕ → ℕ → ℕ → List ℕ
 clocksPart f p k g q j = (k + j) ∷ bytesFrom f (p + 1) (2 * k) ++ bytesFrom g (q + 1) (2 * j)
 
-abbrev pub placesPart : ℕ → ℕ → List ℕ
-placesPart locations rules = locations ∷ replicate locations 0 ++ pairBytes rules
+abbrev pub leftPart : List ℕ → Layout → List ℕ → Layout → List ℕ
+leftPart f x g y = leftBelow (policyOf f) (policyOf g) (x .locations * y .locations)
+
+abbrev pub placesPart : List ℕ → Layout → List ℕ → Layout → ℕ → List ℕ
+placesPart f x g y rules = (x .locations * y .locations) ∷ leftPart f x g y ++ pairBytes rules
 
 abbrev pub countsFrom : List ℕ → Layout → List ℕ → Layout → ℕ → List ℕ
 countsFrom f x g y rules =
     bytesFrom f 0 (clocksFor x)
-    ++ (clocksPart f (clocksFor x) (x .clocks) g (clocksFor y) (y .clocks) ++ placesPart (x .locations * y .locations) rules)
+    ++ (clocksPart f (clocksFor x) (x .clocks) g (clocksFor y) (y .clocks) ++ placesPart f x g y rules)
 
 abbrev pub countsLength : Layout → Layout → ℕ
 countsLength x y = 6 + x .inputs + x .outputs + 2 * (x .clocks + y .clocks) + x .locations * y .locations

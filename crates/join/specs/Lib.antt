@@ -1,5 +1,6 @@
 pub mod Masks
 pub mod Join
+pub mod Left
 pub mod Joins
 pub mod Decide
 pub mod Steps

@@ -7,7 +7,8 @@ use Prim.Native.Nat.{ℕ, _≤_}
 use lib.ListN.{length, take}
 use lib.Seq.{take-at}
 use borrow.Author.Tests.{leb-true}
-use Rattle.streams.specs.Stream.{Stream}
+use Rattle.streams.specs.Stream.{_∩_}
+use Rattle.streams.specs.Laws.{_⊆_}
 use Rattle.streams.specs.Answer.{unless, none-refused, none-unless}
 use Rattle.policy.specs.Rules.{Permits}
 use Rattle.policy.specs.File.{policyOf}
@@ -17,7 +18,7 @@ use Rattle.policy.specs.Checked.{checked-file, well-sound}
 use Rattle.policy.specs.ReadBack.{read-back, written-passes}
 use Rattle.join.specs.Join.{join}
 use Rattle.join.specs.Joins.{Joins}
-use Rattle.join.specs.Steps.{permits-both, permits-join}
+use Rattle.join.specs.Steps.{within-both, both-within}
 use Rattle.join.specs.Entry.{sameSignals, joinFits, joinedFile, joinRefusal, joinedOut}
 use Rattle.join.specs.Again.{joins-of, join-well}
 
@@ -67,10 +68,10 @@ module _ (a b out : List ℕ) (e : joinRefusal a b out ≡ 0) where
   joined-written = rw e (take-at (joinedFile a b out) _ _ refl)
 
   -- It permits what both permit.
-  pub joined-permits : (w : Stream) → Permits (policyOf (joinedFile a b out)) w ↔ (Permits (policyOf a) w × Permits (policyOf b) w)
-  joined-permits w =
+  pub joined-both : (Permits (policyOf (joinedFile a b out)) ⊆ Permits (policyOf a) ∩ Permits (policyOf b)) × (Permits (policyOf a) ∩ Permits (policyOf b) ⊆ Permits (policyOf (joinedFile a b out)))
+  joined-both =
       let p = policyOf a in
       let q = policyOf b in
       let f = well-sound p (checked-file a (unrefused .first)) in
       let g = well-sound q (checked-file b (unrefused .second)) in
-      rw joined-policy (permits-both p q f g joined-joins w, λ h. permits-join p q f g joined-joins w (h .0) (h .1))
+      rw joined-policy (within-both p q f g joined-joins, both-within p q f g joined-joins)

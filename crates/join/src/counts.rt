@@ -2,17 +2,18 @@
 use crate::lay::copy;
 use crate::lay::put;
 use crate::lay::put_pair;
-use crate::lay::put_zeros;
 use policy::Layout;
 use policy::limits::CLOCKS;
 use policy::limits::LOCATIONS;
 use policy::limits::STATES;
+use policy::may_rest;
 ghost use mathlib.Core.Path.{_≡_};
 ghost use Prim.Native.Nat.{_+_, _*_, _≤_, _<_, _^_};
 ghost use lib.ListN.{length};
 ghost use Rattle.policy.specs.File.{policyOf};
 ghost use Rattle.join.specs.Entry.{sameTags, sameSignals};
-ghost use Rattle.join.specs.Lay.{Laid, LayoutOf, limits, clocksFor, clocksPart, placesPart, countsFrom, countsLength};
+ghost use Rattle.join.specs.Join.{leftAt};
+ghost use Rattle.join.specs.Lay.{Laid, LayoutOf, Ready, limits, clocksPart, leftPart, placesPart, countsFrom, countsLength};
 
 // The same tags in the same order.
 fn same_tags(a: &[u8], b: &[u8]) -> bool
@@ -89,13 +90,46 @@ fn lay_clocks(
     copy(b, q + 1, 2 * seconds, out, others)
 }
 
-// The locations, and how many rules there are.
-fn lay_places(locations: usize, rules: usize, out: &mut [u8], at: usize) -> usize
-    requires { ⌜ (locations ≤ 64) × (rules ≤ 256) × (at < 2 ^ 17) ⌝ }
-    ensures { λ r. ⌜ Laid (placesPart locations rules) (now (out .entry)) at (now (out .exit)) r ⌝ }
+// The byte of one location: it must be left if either part must.
+fn left_at(a: &[u8], x: Layout, b: &[u8], y: Layout, location: usize) -> usize
+    requires { ⌜ Ready (now a) x (now b) y × (location < x .locations * y .locations) ⌝ }
+    ensures { λ r. ⌜ (r ≡ leftAt (policyOf (now (a .entry))) (policyOf (now (b .entry))) location) × (r < 256) ⌝ }
 {
-    let zeros = put(locations, out, at);
-    let count = put_zeros(locations, out, zeros);
+    let first = may_rest(a, x, location / y.locations);
+    let second = may_rest(b, y, location % y.locations);
+    if first & second { 0 } else { 1 }
+}
+
+// The bytes of all locations, in number order.
+fn lay_left(a: &[u8], x: Layout, b: &[u8], y: Layout, out: &mut [u8], at: usize) -> usize
+    requires { ⌜ Ready (now a) x (now b) y × (at < 2 ^ 18) ⌝ }
+    ensures { λ r. ⌜ Laid (leftPart (now (a .entry)) x (now (b .entry)) y) (now (out .entry)) at (now (out .exit)) r ⌝ }
+{
+    let locations = x.locations * y.locations;
+    let mut next = at;
+    let mut location = 0;
+    while location < locations {
+        next = put(left_at(a, x, b, y, location), out, next);
+        location += 1;
+    }
+    next
+}
+
+// The locations, and how many rules there are.
+fn lay_places(
+    a: &[u8],
+    x: Layout,
+    b: &[u8],
+    y: Layout,
+    rules: usize,
+    out: &mut [u8],
+    at: usize,
+) -> usize
+    requires { ⌜ Ready (now a) x (now b) y × (rules ≤ 256) × (at < 2 ^ 17) ⌝ }
+    ensures { λ r. ⌜ Laid (placesPart (now (a .entry)) x (now (b .entry)) y rules) (now (out .entry)) at (now (out .exit)) r ⌝ }
+{
+    let left = put(x.locations * y.locations, out, at);
+    let count = lay_left(a, x, b, y, out, left);
     put_pair(rules, out, count)
 }
 
@@ -108,15 +142,12 @@ pub(crate) fn lay_counts(
     rules: usize,
     out: &mut [u8],
 ) -> usize
-    requires { ⌜ (x .inputs ≤ 4) × (x .outputs ≤ 4) ⌝ }
-    requires { ⌜ (clocksFor x + 1 + 2 * x .clocks ≤ length (now a)) × (clocksFor y + 1 + 2 * y .clocks ≤ length (now b)) ⌝ }
-    requires { ⌜ (x .clocks + y .clocks ≤ 4) × (x .locations * y .locations ≤ 64) × (rules ≤ 256) ⌝ }
+    requires { ⌜ Ready (now a) x (now b) y × (rules ≤ 256) ⌝ }
     ensures { λ r. ⌜ Laid (countsFrom (now (a .entry)) x (now (b .entry)) y rules) (now (out .entry)) 0 (now (out .exit)) r ⌝ }
 {
     let p = 2 + x.inputs + x.outputs;
     let q = 2 + y.inputs + y.outputs;
-    let locations = x.locations * y.locations;
     let clocks = copy(a, 0, p, out, 0);
     let places = lay_clocks(a, p, x.clocks, b, q, y.clocks, out, clocks);
-    lay_places(locations, rules, out, places)
+    lay_places(a, x, b, y, rules, out, places)
 }

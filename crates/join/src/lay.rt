@@ -2,7 +2,7 @@
 use policy::bytes::byte_within;
 ghost use mathlib.Core.List.{[], _∷_};
 ghost use Prim.Native.Nat.{_+_, _≤_, _<_, _^_};
-ghost use lib.ListN.{length, replicate};
+ghost use lib.ListN.{length};
 ghost use Rattle.policy.specs.Bytes.{pairBytes};
 ghost use Rattle.join.specs.Lay.{Laid, bytesFrom, eitherFrom};
 
@@ -56,20 +56,6 @@ pub(crate) fn put_either(
     let mut i = 0;
     while i < n {
         next = put(byte_within(a, p + i) | byte_within(b, q + i), out, next);
-        i += 1;
-    }
-    next
-}
-
-// n zeros.
-pub(crate) fn put_zeros(n: usize, out: &mut [u8], at: usize) -> usize
-    requires { ⌜ (n < 2 ^ 16) × (at < 2 ^ 31) ⌝ }
-    ensures { λ r. ⌜ Laid (replicate n 0) (now (out .entry)) at (now (out .exit)) r ⌝ }
-{
-    let mut next = at;
-    let mut i = 0;
-    while i < n {
-        next = put(0, out, next);
         i += 1;
     }
     next

@@ -1,7 +1,7 @@
 -- The file of a policy: its sections in order, each after its count.
 use mathlib.Core.List.{List, [], _∷_, _++_}
 use Prim.Native.Nat.{ℕ, _/_, _%_}
-use lib.ListN.{length, replicate}
+use lib.ListN.{length}
 use Rattle.policy.specs.Rules.{Bound, Rule, Policy}
 
 -- A two-byte number, "the high byte first".
@@ -28,7 +28,7 @@ rulesBytes (r ∷ rs) = ruleBytes r ++ rulesBytes rs
 unfoldable pub countsBytes : Policy → List ℕ
 countsBytes p =
     (length (p .inputs) ∷ p .inputs) ++ ((length (p .outputs) ∷ p .outputs)
-    ++ ((length (p .ceilings) ∷ pairsBytes (p .ceilings)) ++ ((p .locations ∷ replicate (p .locations) 0) ++ pairBytes (length (p .rules)))))
+    ++ ((length (p .ceilings) ∷ pairsBytes (p .ceilings)) ++ ((p .locations ∷ p .left) ++ pairBytes (length (p .rules)))))
 
 unfoldable pub bytesOf : Policy → List ℕ
 bytesOf p = countsBytes p ++ rulesBytes (p .rules)

@@ -40,6 +40,10 @@ tagsGood before (t ∷ ts) = isCapital t && (not (among t before) && tagsGood (b
 abbrev pub ceilingGood : ℕ → Bool
 ceilingGood c = leb 1 c && leb c 1001
 
+-- 5: "a byte above 1".
+abbrev pub locationGood : ℕ → Bool
+locationGood b = leb b 1
+
 -- 6: "A value has no bit outside its care mask; care and reset masks have no bit beyond their section. Sources never fall from one rule to the next. A
 -- source is a location. A target is a location or 255, the violation."
 unfoldable pub maskGood : ℕ → ℕ → ℕ → Bool
@@ -88,7 +92,7 @@ module _ (f : List ℕ) where
   unfoldable pub locationsRefusal : ℕ
   locationsRefusal =
       sectionRefusal f (File.locationsAt f) 1 (File.locationCount f) 1 64 1
-      orElse unless (all (eqb 0) (File.locationBytes f)) 5
+      orElse unless (all locationGood (File.locationBytes f)) 5
 
   unfoldable pub rulesSectionRefusal : ℕ
   rulesSectionRefusal =

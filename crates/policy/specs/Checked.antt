@@ -1,12 +1,12 @@
 -- What a file that is not refused makes sure of: where its sections stand, and what holds of its policy.
 use mathlib.Core.Path.{_≡_, refl, ap}
 use mathlib.Core.Bool.{Bool, true, false, _&&_, _||_, and-eq-true-iff, false≢true}
-use mathlib.Core.List.{List, [], _∷_}
+use mathlib.Core.List.{List, [], _∷_, _++_}
 use mathlib.Core.Logic.{_⊎_, ⊎-map}
 use Prim.Native.Nat.{ℕ, zero, suc, _+_, _*_, _^_, _≤_, _<_}
 use native.Mathlib.Nat.{mul-le-mul}
 use native.Mathlib.Omega.{arith}
-use lib.Dec.{leb, ltb, eqb}
+use lib.Dec.{leb, ltb}
 use lib.Bits.{bitAnd}
 use lib.ListN.{length, getD, length-take, length-drop}
 use borrow.Author.Tests.{leb-true, ltb-true, eqb-true}
@@ -15,7 +15,7 @@ use Rattle.policy.specs.Rules.{Bound, Rule, Policy}
 use Rattle.policy.specs.Stopped.{Lawful, AllLawful, lawful-none, lawful-more, Checked, checked-none, checked-more}
 use Rattle.policy.specs.Number.{statesOf}
 use Rattle.policy.specs.File.{part, pairsFrom, boundsFrom, rulesFrom, ruleSize, inputCount, outputsAt, outputCount, clocksAt, clockCount, locationsAt, locationCount, rulesAt, ruleCount, rulesStart, rulesEnd, inputTags, outputTags, ceilingsOf, locationBytes, ruleSection, rulesOf, policyOf}
-use Rattle.policy.specs.Check.{all, sectionRefusal, tagsGood, ceilingGood, maskGood, headGood, boundGood, boundsGood, ruleRefusal, rulesRefusal, inputsRefusal, outputsRefusal, clocksRefusal, locationsRefusal, rulesSectionRefusal, refusalOf}
+use Rattle.policy.specs.Check.{all, sectionRefusal, tagsGood, ceilingGood, locationGood, maskGood, headGood, boundGood, boundsGood, ruleRefusal, rulesRefusal, inputsRefusal, outputsRefusal, clocksRefusal, locationsRefusal, rulesSectionRefusal, refusalOf}
 use Rattle.policy.specs.Sound.{WellFormed, Each, each-none, each-more, each-weak, Formed, Sound}
 
 -- The count is within its limits, and its section within the file.
@@ -75,7 +75,7 @@ pub record Passed (f : List ℕ) : Type 0 where
   pub inTags : tagsGood [] (inputTags f) ≡ true
   pub outTags : tagsGood (inputTags f) (outputTags f) ≡ true
   pub ceilings : all ceilingGood (ceilingsOf f) ≡ true
-  pub bytes : all (eqb 0) (locationBytes f) ≡ true
+  pub left : all locationGood (locationBytes f) ≡ true
   pub rules : rulesRefusal (inputCount f) (outputCount f) (ceilingsOf f) (locationCount f) 0 (rulesOf f) ≡ 0
   pub states : statesOf (ceilingsOf f) (clockCount f) (locationCount f) ≤ 65536
 
@@ -114,7 +114,7 @@ passed f e =
       inTags = none-unless _ 2 .0 (i .1);
       outTags = none-unless _ 2 .0 (o .1);
       ceilings = none-unless _ 3 .0 (k .1);
-      bytes = none-unless _ 4 .0 (l .1);
+      left = none-unless _ 4 .0 (l .1);
       rules = r .1;
       states = leb-true _ _ (none-unless _ 8 .0 (h .1));
     }
@@ -137,6 +137,9 @@ inputs-length f k = part-length f 1 (inputCount f) (omega arith)
 pub outputs-length : (f : List ℕ) → Framed f → length (outputTags f) ≡ outputCount f
 outputs-length f k = part-length f (outputsAt f + 1) (outputCount f) (omega arith)
 
+pub locations-length : (f : List ℕ) → Framed f → length (locationBytes f) ≡ locationCount f
+locations-length f k = part-length f (locationsAt f + 1) (locationCount f) (omega arith)
+
 pub section-length : (f : List ℕ) → Framed f → length (ruleSection f) ≡ ruleCount f * ruleSize (clockCount f)
 section-length f k = part-length f (rulesStart f) (ruleCount f * ruleSize (clockCount f)) (omega arith)
 
@@ -157,6 +160,8 @@ checked-file f e =
       ceilings = p .ceilings;
       start = k .start;
       locations = k .locations;
+      bytes = locations-length f k;
+      left = p .left;
       ruleCount = rw rules-length (k .rules);
       rules = rw (i, o) (p .rules);
       states = rw c (p .states);
@@ -172,6 +177,13 @@ unfolding all
 all-at test [] e i h = absurd (omega arith)
 all-at test (a ∷ rest) e zero h = and-eq-true-iff (test a) _ .0 e .0
 all-at test (a ∷ rest) e (suc i) h = all-at test rest (and-eq-true-iff (test a) _ .0 e .1) i (omega arith)
+
+pub all-append : (test : ℕ → Bool) (xs ys : List ℕ) → all test xs ≡ true → all test ys ≡ true → all test (xs ++ ys) ≡ true
+unfolding all
+all-append test [] ys g h = h
+all-append test (x ∷ xs) ys g h =
+    let t = and-eq-true-iff (test x) (all test xs) .0 g in
+    and-eq-true-iff (test x) _ .1 (t .0, all-append test xs ys (t .1) h)
 
 pub ceiling-at : (cs : List ℕ) → all ceilingGood cs ≡ true → (i : ℕ) → i < length cs → (1 ≤ getD cs i 0) × (getD cs i 0 ≤ 1001)
 ceiling-at cs e i h =

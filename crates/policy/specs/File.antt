@@ -111,5 +111,6 @@ module _ (f : List ℕ) where
         outputs = outputTags;
         ceilings = ceilingsOf;
         locations = locationCount;
+        left = locationBytes;
         rules = rulesOf;
       }

@@ -7,8 +7,7 @@ use Prim.Native.Nat.{ℕ, zero, suc, _+_, _*_, _^_, _≤_, _<_}
 use native.Mathlib.Nat.{div-add-mod', mul-le-mul, pow-le-pow-right}
 use native.Mathlib.Omega.{arith}
 use lib.Bits.{and-le-r}
-use lib.Dec.{eqb}
-use lib.ListN.{length, getD, drop, replicate, length-append, length-replicate}
+use lib.ListN.{length, getD, drop, length-append}
 use lib.Seq.{drop-drop, drop-append-seam, take-append-seam, getD-drop}
 use borrow.Author.Tests.{leb-true, le-leb}
 use Rattle.streams.specs.Answer.{gives}
@@ -17,7 +16,7 @@ use Rattle.policy.specs.Number.{states}
 use Rattle.policy.specs.File.{byteAt, pairAt, part, pairsFrom, boundsFrom, ruleSize, ruleFrom, rulesFrom}
 use Rattle.policy.specs.File.{inputCount, outputsAt, outputCount, clocksAt, clockCount, locationsAt, locationCount, rulesAt, ruleCount}
 use Rattle.policy.specs.File.{rulesStart, rulesEnd, inputTags, outputTags, ceilingsOf, locationBytes, rulesOf, policyOf}
-use Rattle.policy.specs.Check.{all, tagsGood, ceilingGood}
+use Rattle.policy.specs.Check.{all, tagsGood, ceilingGood, locationGood}
 use Rattle.policy.specs.Check.{sectionRefusal, inputsRefusal, outputsRefusal, clocksRefusal, locationsRefusal, rulesSectionRefusal}
 use Rattle.policy.specs.Check.{refusalOf, checkOf}
 use Rattle.policy.specs.Parts.{rules-part}
@@ -119,7 +118,7 @@ abbrev pub fromRules : Policy → List ℕ
 fromRules p = pairBytes (length (p .rules)) ++ rulesBytes (p .rules)
 
 abbrev pub fromLocations : Policy → List ℕ
-fromLocations p = p .locations ∷ replicate (p .locations) 0 ++ fromRules p
+fromLocations p = p .locations ∷ p .left ++ fromRules p
 
 abbrev pub fromClocks : Policy → List ℕ
 fromClocks p = length (p .ceilings) ∷ pairsBytes (p .ceilings) ++ fromLocations p
@@ -175,21 +174,7 @@ module _ (p : Policy) where
       (omega (arith, count-clocks, pairs-length (p .ceilings)))
 
   pub count-locations : locationCount (bytesOf p) ≡ p .locations
-  count-locations = count-read (bytesOf p) (locationsAt (bytesOf p)) (replicate (p .locations) 0) (fromRules p) at-locations
-
-  pub at-rules : drop (rulesAt (bytesOf p)) (bytesOf p) ≡ fromRules p
-  unfolding rulesAt
-  at-rules =
-      after-section (bytesOf p) (locationsAt (bytesOf p)) (replicate (p .locations) 0) (fromRules p) at-locations (rulesAt (bytesOf p))
-      (omega (arith, count-locations, length-replicate {A = ℕ} (p .locations) 0))
-
-  pub count-rules : ruleCount (bytesOf p) ≡ length (p .rules)
-  count-rules = pair-read (bytesOf p) (rulesAt (bytesOf p)) (length (p .rules)) (rulesBytes (p .rules)) at-rules
-
-  pub at-first-rule : drop (rulesStart (bytesOf p)) (bytesOf p) ≡ rulesBytes (p .rules)
-  unfolding rulesStart
-  at-first-rule =
-      file-after (bytesOf p) (rulesAt (bytesOf p)) (pairBytes (length (p .rules))) (rulesBytes (p .rules)) at-rules (rulesStart (bytesOf p)) refl
+  count-locations = count-read (bytesOf p) (locationsAt (bytesOf p)) (p .left) (fromRules p) at-locations
 
   -- What the sections before the rules say.
   pub inputs-back : inputTags (bytesOf p) ≡ p .inputs
@@ -205,20 +190,34 @@ module _ (p : Policy) where
       (pairs-read (bytesOf p) (at + 1) (p .ceilings) (fromLocations p)
       (items-at (bytesOf p) at (pairsBytes (p .ceilings)) (fromLocations p) at-clocks))
 
-  pub locations-back : locationBytes (bytesOf p) ≡ replicate (p .locations) 0
-  locations-back =
-      items-read (bytesOf p) (locationsAt (bytesOf p)) (replicate (p .locations) 0) (fromRules p) at-locations (length-replicate (p .locations) 0)
-
 module _ (p : Policy) (w : WellFormed p) where
+  -- There is a byte for each location, so the rules stand after as many bytes as the count of locations says.
+  pub locations-back : locationBytes (bytesOf p) ≡ p .left
+  locations-back = items-read (bytesOf p) (locationsAt (bytesOf p)) (p .left) (fromRules p) (at-locations p) (w .bytes)
+
+  pub at-rules : drop (rulesAt (bytesOf p)) (bytesOf p) ≡ fromRules p
+  unfolding rulesAt
+  at-rules =
+      after-section (bytesOf p) (locationsAt (bytesOf p)) (p .left) (fromRules p) (at-locations p) (rulesAt (bytesOf p))
+      (omega (arith, count-locations p))
+
+  pub count-rules : ruleCount (bytesOf p) ≡ length (p .rules)
+  count-rules = pair-read (bytesOf p) (rulesAt (bytesOf p)) (length (p .rules)) (rulesBytes (p .rules)) at-rules
+
+  pub at-first-rule : drop (rulesStart (bytesOf p)) (bytesOf p) ≡ rulesBytes (p .rules)
+  unfolding rulesStart
+  at-first-rule =
+      file-after (bytesOf p) (rulesAt (bytesOf p)) (pairBytes (length (p .rules))) (rulesBytes (p .rules)) at-rules (rulesStart (bytesOf p)) refl
+
   pub bounded : Each (Bounded (length (p .ceilings))) (p .rules)
   bounded = each-weak (λ r q. q .formed .bounds) (well-ruled p w)
 
   pub rules-back : rulesOf (bytesOf p) ≡ p .rules
   rules-back =
-      rw (rules-part (bytesOf p), count-clocks p, count-rules p)
-      (rules-read (bytesOf p) (length (p .ceilings)) (rulesStart (bytesOf p)) bounded [] (at-first-rule p ∙ sym (append-nil _)))
+      rw (rules-part (bytesOf p), count-clocks p, count-rules)
+      (rules-read (bytesOf p) (length (p .ceilings)) (rulesStart (bytesOf p)) bounded [] (at-first-rule ∙ sym (append-nil _)))
 
-  -- No bound on the numbers is used, only that each rule has a bound for each clock.
+  -- No bound on the numbers is used, only that each location has a byte and each rule a bound for each clock.
   pub read-back : policyOf (bytesOf p) ≡ p
   unfolding policyOf
   read-back =
@@ -228,6 +227,7 @@ module _ (p : Policy) (w : WellFormed p) where
         outputs = outputs-back p i;
         ceilings = ceilings-back p i;
         locations = count-locations p i;
+        left = locations-back i;
         rules = rules-back i;
       }
 
@@ -236,7 +236,7 @@ module _ (p : Policy) (w : WellFormed p) where
       + length (p .rules) * ruleSize (length (p .ceilings))
   bytes-length =
       rw (at-inputs p)
-      (simp (length-append, pairs-length, length-replicate) (omega (arith, rules-length (length (p .ceilings)) bounded)))
+      (simp (length-append, pairs-length) (omega (arith, rules-length (length (p .ceilings)) bounded)))
 
   -- "The longest is 5,974 bytes."
   pub bytes-at-most : length (bytesOf p) ≤ 5974
@@ -254,7 +254,7 @@ module _ (p : Policy) (w : WellFormed p) where
         count-outputs p,
         count-clocks p,
         count-locations p,
-        ap₂ (λ (n k : ℕ). n * ruleSize k) (count-rules p) (count-clocks p),
+        ap₂ (λ (n k : ℕ). n * ruleSize k) count-rules (count-clocks p),
       )
 
 section-passes : (f : List ℕ) (at width n low high size : ℕ) → low ≤ n → n ≤ high → at + width + n * size ≤ length f
@@ -262,11 +262,6 @@ section-passes : (f : List ℕ) (at width n low high size : ℕ) → low ≤ n �
 unfolding sectionRefusal
 section-passes f at width n low high size a b c =
     rw (le-leb (at + width) (length f) (omega arith), le-leb low n a, le-leb n high b, le-leb (at + width + n * size) (length f) c)
-
-pub all-zeros : (n : ℕ) → all (eqb 0) (replicate n 0) ≡ true
-unfolding all
-all-zeros zero = refl
-all-zeros (suc n) = all-zeros n
 
 module _ (p : Policy) (w : WellFormed p) where
   inputs-pass : inputsRefusal (bytesOf p) ≡ 0
@@ -305,8 +300,8 @@ module _ (p : Policy) (w : WellFormed p) where
       rw (
         section-passes (bytesOf p) (locationsAt (bytesOf p)) 1 (locationCount (bytesOf p)) 1 64 1 (omega (arith, count-locations p))
             (omega (arith, count-locations p)) (omega (arith, file-ends p w)),
-        locations-back p,
-        all-zeros (p .locations),
+        locations-back p w,
+        w .left,
       )
 
   rules-pass : rulesSectionRefusal (bytesOf p) ≡ 0
@@ -314,7 +309,7 @@ module _ (p : Policy) (w : WellFormed p) where
   rules-pass =
       rw (
         section-passes (bytesOf p) (rulesAt (bytesOf p)) 2 (ruleCount (bytesOf p)) 0 256 (ruleSize (clockCount (bytesOf p))) (omega arith)
-            (omega (arith, count-rules p)) (omega (arith, file-ends p w)),
+            (omega (arith, count-rules p w)) (omega (arith, file-ends p w)),
         rules-back p w,
         ceilings-back p,
         count-inputs p,
@@ -372,9 +367,12 @@ ceilings-bytes (c ∷ cs) e =
     let good = simp and-eq-true-iff at e in
     (omega (arith, leb-true), (omega arith, ceilings-bytes cs (good .1)))
 
-zeros-bytes : (n : ℕ) → AllBytes (replicate n 0)
-zeros-bytes zero = tt
-zeros-bytes (suc n) = (omega arith, zeros-bytes n)
+left-bytes : (bs : List ℕ) → all locationGood bs ≡ true → AllBytes bs
+unfolding all
+left-bytes [] e = tt
+left-bytes (b ∷ bs) e =
+    let good = simp and-eq-true-iff at e in
+    (omega (arith, leb-true), left-bytes bs (good .1))
 
 -- A target, or a high: below a limit, or the one number that has a meaning of its own.
 below-or-at : {n limit own : ℕ} → limit ≤ own → (n < limit) ⊎ (n ≡ own) → n ≤ own
@@ -413,7 +411,7 @@ module _ (p : Policy) (w : WellFormed p) where
   pub all-bytes : AllBytes (bytesOf p)
   all-bytes =
       let rules = rules-bytes (each-weak rule-bytes (well-ruled p w)) in
-      let locations = bytes-append (replicate (p .locations) 0) (fromRules p) (zeros-bytes (p .locations)) (omega arith, (omega arith, rules)) in
+      let locations = bytes-append (p .left) (fromRules p) (left-bytes (p .left) (w .left)) (omega arith, (omega arith, rules)) in
       let clocks = bytes-append (pairsBytes (p .ceilings)) (fromLocations p) (ceilings-bytes (p .ceilings) (w .ceilings)) (omega arith, locations) in
       let outputs = bytes-append (p .outputs) (fromClocks p) (tags-bytes (p .inputs) (p .outputs) (w .outputTags)) (omega arith, clocks) in
       let inputs = bytes-append (p .inputs) (fromOutputs p) (tags-bytes [] (p .inputs) (w .inputTags)) (omega arith, outputs) in

@@ -8,7 +8,7 @@ use lib.Bits.{bitAnd}
 use lib.ListN.{length, getD}
 use Rattle.policy.specs.Rules.{Rule, Policy, Place}
 use Rattle.policy.specs.Number.{states}
-use Rattle.policy.specs.Check.{all, tagsGood, ceilingGood, rulesRefusal}
+use Rattle.policy.specs.Check.{all, tagsGood, ceilingGood, locationGood, rulesRefusal}
 
 -- The limits and orders of a file that is not refused.
 pub record WellFormed (p : Policy) : Type 0 where
@@ -20,6 +20,8 @@ pub record WellFormed (p : Policy) : Type 0 where
   pub ceilings : all ceilingGood (p .ceilings) ≡ true
   pub start : 0 < p .locations
   pub locations : p .locations ≤ 64
+  pub bytes : length (p .left) ≡ p .locations
+  pub left : all locationGood (p .left) ≡ true
   pub ruleCount : length (p .rules) ≤ 256
   pub rules : rulesRefusal (length (p .inputs)) (length (p .outputs)) (p .ceilings) (p .locations) 0 (p .rules) ≡ 0
   pub states : states p ≤ 65536

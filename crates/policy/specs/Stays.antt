@@ -3,15 +3,15 @@ use mathlib.Core.Path.{_≡_, refl, ap, ap₂, sym, _∙_, subst}
 use mathlib.Core.Bool.{Bool, true, false, cond}
 use mathlib.Core.List.{List, [], _∷_, _++_}
 use mathlib.Core.Logic.{_⊎_, _↔_, ⊎-elim}
-use mathlib.Core.Option.{Option, none, some, bind, Option·none-ne-some}
+use mathlib.Core.Option.{Option, none, some, bind, bind-eq-some-iff, Option·none-ne-some, Option·some-injective}
 use Prim.Native.Nat.{ℕ, zero, suc, _/_, _%_, _≤_, _<_, min}
 use native.Mathlib.Omega.{arith}
 use lib.Dec.{eqb}
 use lib.ListN.{length, getD, length-replicate}
 use borrow.Author.Tests.{eqb-false}
-use Rattle.streams.specs.Stream.{Event, Stream, GoesOn, Ends}
-use Rattle.streams.specs.Laws.{goes-on, ends}
-use Rattle.policy.specs.Rules.{Rule, Policy, Place, start, fires, decides, unlimited, stopped, advance, taken, step, steps, Fits, fits-none, fits-more, Runs, Live, Dead}
+use Rattle.streams.specs.Stream.{Event, Stream, _after_, GoesOn, Ends}
+use Rattle.streams.specs.Laws.{_⊆_, Closed, goes-on, ends}
+use Rattle.policy.specs.Rules.{Rule, Policy, Place, start, fires, decides, unlimited, stopped, advance, taken, step, steps, Fits, fits-none, fits-more, rests, Runs, Rests, from, Live, Dead}
 use Rattle.policy.specs.Stopped.{Checked, mins, stop, shown, steps-same, start-stops}
 use Rattle.policy.specs.Sound.{Each, each-none, each-more, Formed, Sound, In, Inside}
 
@@ -178,43 +178,63 @@ module _ (p : Policy) where
         k : steps unlimited p s (w ++ v) ≡ steps unlimited p t v
         k = steps-append unlimited p s w v ∙ ap (λ (d : Option Place). bind d (λ u. steps unlimited p u v)) e
 
-    pub goes-on-live : GoesOn (Runs p s) w ↔ Live p t
+    pub rests-append : (v : Stream) → Rests p s (w ++ v) ↔ Rests p t v
+    unfolding Rests bind
+    rests-append v = (λ r. (r .0, sym k ∙ r .1, r .2), λ r. (r .0, k ∙ r .1, r .2))
+      where
+        k : steps unlimited p s (w ++ v) ≡ steps unlimited p t v
+        k = steps-append unlimited p s w v ∙ ap (λ (d : Option Place). bind d (λ u. steps unlimited p u v)) e
+
+    after-there : from p s after w ⊆ from p t
+    after-there = record { permits = λ v. runs-append v .0; rests = λ v. rests-append v .0 }
+
+    there-after : from p t ⊆ from p s after w
+    there-after = record { permits = λ v. runs-append v .1; rests = λ v. rests-append v .1 }
+
+    pub goes-on-live : GoesOn (from p s) w ↔ Live p t
     unfolding GoesOn
-    goes-on-live = (
-      goes-on (λ v. Runs p s (w ++ v)) (Runs p t) (λ v. runs-append v .0) [],
-      goes-on (Runs p t) (λ v. Runs p s (w ++ v)) (λ v. runs-append v .1) [],
-    )
+    goes-on-live = (goes-on (from p s after w) (from p t) after-there [], goes-on (from p t) (from p s after w) there-after [])
 
-    pub ends-dead : Ends (Runs p s) w ↔ Dead p t
+    pub ends-dead : Ends (from p s) w ↔ Dead p t
     unfolding Ends
-    ends-dead = (
-      ends (Runs p t) (λ v. Runs p s (w ++ v)) (λ v. runs-append v .1) [],
-      ends (λ v. Runs p s (w ++ v)) (Runs p t) (λ v. runs-append v .0) [],
-    )
+    ends-dead = (ends (from p t) (from p s after w) there-after [], ends (from p s after w) (from p t) after-there [])
 
-  shown-some : (d c : Option Place) → shown p d ≡ shown p c → (t : Place) × (d ≡ some t) → (u : Place) × (c ≡ some u)
+  -- What a permitted stream begins with is permitted.
+  pub closed : (s : Place) → Closed (from p s)
+  unfolding Runs
+  closed s w v r =
+      let b = bind-eq-some-iff (steps unlimited p s w) (λ t. steps unlimited p t v) .0 (sym (steps-append unlimited p s w v) ∙ r .1 .1) in
+      (fits-split w (r .0) .0, (b .0, b .1))
+
+  -- Places that are shown alike are at the same location.
+  shown-some : (d c : Option Place) → shown p d ≡ shown p c → (t : Place) → d ≡ some t → (u : Place) × (c ≡ some u) × (t .location ≡ u .location)
   unfolding shown
-  shown-some none c k r = absurd (Option·none-ne-some (r .0) (r .1))
-  shown-some (some s) none k r = absurd (Option·none-ne-some (stop p s) (sym k))
-  shown-some (some s) (some u) k r = (u, refl)
+  shown-some none c k t r = absurd (Option·none-ne-some t r)
+  shown-some (some s) none k t r = absurd (Option·none-ne-some (stop p s) (sym k))
+  shown-some (some s) (some u) k t r =
+      (u, refl, ap (λ (z : Place). z .location) (sym (Option·some-injective s t r)) ∙ ap (λ (z : Place). z .location) (Option·some-injective (stop p s) (stop p u) k))
 
   module _ (ok : Checked (p .ceilings) (p .rules)) where
-    -- From two places that the stopped clocks show alike the same streams run.
-    pub runs-alike : (s t : Place) → stop p s ≡ stop p t → (w : Stream) → Runs p s w → Runs p t w
-    unfolding Runs
-    runs-alike s t k w r = (
-      r .0,
-      shown-some (steps unlimited p s w) (steps unlimited p t w)
-          (sym (steps-same p ok s w) ∙ ap (λ (z : Place). steps stopped p z w) k ∙ steps-same p ok t w) (r .1),
-    )
+    -- From two places that the stopped clocks show alike the same streams run, and rest.
+    module _ (s t : Place) (k : stop p s ≡ stop p t) where
+      ends-alike : (w : Stream) (u : Place) → steps unlimited p s w ≡ some u → (v : Place) × (steps unlimited p t w ≡ some v) × (u .location ≡ v .location)
+      ends-alike w u =
+          shown-some (steps unlimited p s w) (steps unlimited p t w)
+          (sym (steps-same p ok s w) ∙ ap (λ (z : Place). steps stopped p z w) k ∙ steps-same p ok t w) u
 
-    pub runs-stop : (s : Place) (w : Stream) → Runs p s w ↔ Runs p (stop p s) w
-    runs-stop s w = (runs-alike s (stop p s) (sym (stop-twice s)) w, runs-alike (stop p s) s (stop-twice s) w)
+      pub alike : from p s ⊆ from p t
+      unfolding Runs Rests
+      alike =
+          record {
+            permits = λ w r. let v = ends-alike w (r .1 .0) (r .1 .1) in (r .0, (v .0, v .1));
+            rests = λ w r. let v = ends-alike w (r .0) (r .1) in (v .0, v .1, rw (v .2) at (r .2));
+          }
+
+    stop-alike : (s : Place) → (from p s ⊆ from p (stop p s)) × (from p (stop p s) ⊆ from p s)
+    stop-alike s = (alike s (stop p s) (sym (stop-twice s)), alike (stop p s) s (stop-twice s))
 
     pub live-stop : (s : Place) → Live p s ↔ Live p (stop p s)
-    live-stop s =
-        (goes-on (Runs p s) (Runs p (stop p s)) (λ w. runs-stop s w .0) [], goes-on (Runs p (stop p s)) (Runs p s) (λ w. runs-stop s w .1) [])
+    live-stop s = let h = stop-alike s in (goes-on (from p s) (from p (stop p s)) (h .0) [], goes-on (from p (stop p s)) (from p s) (h .1) [])
 
     pub dead-stop : (s : Place) → Dead p s ↔ Dead p (stop p s)
-    dead-stop s =
-        (ends (Runs p (stop p s)) (Runs p s) (λ w. runs-stop s w .1) [], ends (Runs p s) (Runs p (stop p s)) (λ w. runs-stop s w .0) [])
+    dead-stop s = let h = stop-alike s in (ends (from p (stop p s)) (from p s) (h .1) [], ends (from p s) (from p (stop p s)) (h .0) [])

@@ -7,10 +7,9 @@ use crate::limits::LOCATIONS;
 use crate::limits::SIGNALS;
 ghost use mathlib.Core.Path.{_≡_};
 ghost use Prim.Native.Nat.{ℕ, _+_, _*_, _≤_, _<_, _^_};
-ghost use lib.Dec.{eqb};
 ghost use lib.ListN.{getD};
 ghost use Rattle.policy.specs.File.{pairsFrom, inputCount, outputsAt, clocksAt, locationsAt};
-ghost use Rattle.policy.specs.Check.{sectionRefusal, among, tagsGood, ceilingGood, all, inputsRefusal, outputsRefusal, clocksRefusal, locationsRefusal};
+ghost use Rattle.policy.specs.Check.{sectionRefusal, among, tagsGood, ceilingGood, locationGood, all, inputsRefusal, outputsRefusal, clocksRefusal, locationsRefusal};
 ghost use Rattle.policy.specs.Number.{four, statesOf};
 
 // 1 where the count at `at` or its section is cut short, 2 where the count n is outside its limits, else 0.
@@ -79,13 +78,13 @@ pub(crate) fn tags_good(before: &[u8], tags: &[u8]) -> bool
     true
 }
 
-// Every byte is 0.
-pub(crate) fn all_zero(bytes: &[u8]) -> bool
-    ensures { λ r. ⌜ r ≡ all (eqb 0) (now (bytes .entry)) ⌝ }
+// Each byte is 0 or 1.
+pub(crate) fn locations_good(bytes: &[u8]) -> bool
+    ensures { λ r. ⌜ r ≡ all locationGood (now (bytes .entry)) ⌝ }
 {
     let mut i = 0;
     while i < bytes.len() {
-        if bytes[i] != 0 {
+        if 1 < bytes[i] {
             return false;
         }
         i += 1;
@@ -192,7 +191,7 @@ pub(crate) fn locations_refusal(file: &[u8], at: usize) -> u8
     if r != 0 {
         return r;
     }
-    if all_zero(&file[at + 1..at + 1 + n]) {
+    if locations_good(&file[at + 1..at + 1 + n]) {
         0
     } else {
         5

@@ -20,7 +20,7 @@ use Rattle.policy.specs.Stopped.{stop, shown, step-same, start-stops}
 use Rattle.policy.specs.Number.{states, numberOf}
 use Rattle.policy.specs.Sound.{WellFormed, Sound, Inside}
 use Rattle.policy.specs.Numbered.{numberOf-below}
-use Rattle.policy.specs.Stays.{of-some, step-inside, steps-append, stop-inside, fits-append, runs-append}
+use Rattle.policy.specs.Stays.{of-some, step-inside, steps-append, stop-inside, fits-append, runs-append, closed}
 use Rattle.policy.specs.Checked.{well-sound, well-checked}
 use Rattle.enforcer.specs.State.{isMarked}
 use Rattle.enforcer.specs.Tick.{Tick, Ran, arrives, reaches, mayStand, inputChoice, outputChoice, moved, outputTick, tick, ran}
@@ -77,7 +77,7 @@ module _ (p : Policy) (ok : WellFormed p) {w : Stream} {s : Place} (h : Leads p 
       }
 
   -- The tick of a permitted event, as the stopped clocks show it.
-  pub leads-by : (e : Event) → Permits p (w ++ (e ∷ [])) → (u : Place) × FitsOne p e × (step stopped p s e ≡ some u)
+  pub leads-by : (e : Event) → Permits p .permits (w ++ (e ∷ [])) → (u : Place) × FitsOne p e × (step stopped p s e ≡ some u)
   unfolding shown
   leads-by e r =
       let m = runs-more p (h .place) e [] .0 (runs-append p (start p) (h .place) w (h .leads) (h .fits) (e ∷ []) .0 r) in
@@ -142,7 +142,7 @@ module _ (p : Policy) (ok : WellFormed p) (marks : List ℕ) (by : Prepared p ma
     reaches-goes-on x y f = (
       λ k. let t = arrived p marks s x y k in goes-on-ready (leads-on p ok h _ (t .0) f (t .1)) .1 (t .2),
       λ g.
-          let t = leads-by p ok h _ (permitted (Permits p) (then w x y) g) in
+          let t = leads-by p ok h _ (permitted (Permits p) (closed p (start p)) (then w x y) g) in
           ap (arrives p marks) (t .2) ∙ goes-on-ready (leads-on p ok h _ (t .0) f (t .2)) .0 g,
     )
 
@@ -190,7 +190,7 @@ module _ (p : Policy) (ok : WellFormed p) (marks : List ℕ) (by : Prepared p ma
     pub input-found : (x : ℕ) → (z : ℕ) × (inputChoice p marks s x ≡ some z)
     unfolding inputChoice
     input-found x =
-        let o = marks-onward p (k .inside) .0 (marked-by (k .inside) .1 (k .marked)) in
+        let o = marks-onward p ok (k .inside) .0 (marked-by (k .inside) .1 (k .marked)) in
         let i = of-some (Inside p) (o .leads) (step-inside p (well-sound p ok) s (k .inside) (o .event)) in
         nearest-some (mayStand p marks s) x (inputValues p)
         (onward p marks s .1

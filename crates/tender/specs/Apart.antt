@@ -13,9 +13,11 @@ use Rattle.policy.specs.Check.{refusalOf, inputsRefusal, outputsRefusal, clocks
 use Rattle.policy.specs.Bytes.{bytesOf, countsBytes, pairsBytes, rulesBytes, ruleBytes, boundsBytes}
 use Rattle.enforcer.specs.Tick.{mayStand, reaches}
 use Rattle.enforcer.specs.Entries.{marksRefusal}
-use Rattle.prepare.specs.Table.{roundsBy, roundBy, goesOn, tab}
+use Rattle.resting.specs.Table.{roundsBy, roundBy, tab}
+use Rattle.policy.specs.Rules as Rules
+use Rattle.resting.specs.Keeps.{keeps, leadsTo, stays, someEvent}
 use Rattle.prepare.specs.Entry.{prepareOf}
-use Rattle.join.specs.Join.{of, agree, target, both, pair, each, cell, rows, join}
+use Rattle.join.specs.Join.{of, agree, target, both, pair, each, cell, rows, leftAt, leftBelow, join}
 use Rattle.join.specs.Masks.{alike}
 use Rattle.join.specs.Entry.{sameTags, sameSignals, joinFits, joinedFile, joinRefusal, joinOf, joinedOut}
 use Rattle.tender.specs.Demand3.{Joined, joined-is}
@@ -36,7 +38,7 @@ alwaysOff =
 -- Their join is made,
 pub apart-made : Joined alwaysOn alwaysOff (take 29 (joinedOut alwaysOn alwaysOff (replicate 29 0)))
 unfolding
-    joinOf joinRefusal joinedFile sameSignals sameTags joinFits join rows cell each pair both agree target of alike bytesOf countsBytes pairsBytes
+    joinOf joinRefusal joinedFile sameSignals sameTags joinFits join rows cell each pair both agree target of alike leftAt leftBelow Rules.rests bytesOf countsBytes pairsBytes
     rulesBytes ruleBytes boundsBytes refusalOf inputsRefusal outputsRefusal clocksRefusal locationsRefusal rulesSectionRefusal sectionRefusal tagsGood
     among all rulesRefusal ruleRefusal headGood maskGood boundsGood boundGood policyOf outputsAt clocksAt locationsAt rulesAt rulesStart rulesEnd
     pairsFrom rulesFrom ruleFrom boundsFrom statesOf
@@ -48,8 +50,8 @@ pub live-apart : {f : List ℕ} → Joined alwaysOn alwaysOff f →
     × (prepareOf alwaysOff (0 ∷ []) ≡ gives (record { verdict = 0; states = 1; live = 1 }))
     × (prepareOf f (0 ∷ []) ≡ refused 11)
 unfolding
-    prepareOf marksRefusal joinedFile join rows cell each pair both agree target of alike bytesOf countsBytes pairsBytes rulesBytes ruleBytes boundsBytes
+    prepareOf marksRefusal joinedFile join rows cell each pair both agree target of alike leftAt leftBelow bytesOf countsBytes pairsBytes rulesBytes ruleBytes boundsBytes
     refusalOf inputsRefusal outputsRefusal clocksRefusal locationsRefusal rulesSectionRefusal sectionRefusal tagsGood among all rulesRefusal ruleRefusal
     headGood maskGood boundsGood boundGood policyOf outputsAt clocksAt locationsAt rulesAt rulesStart rulesEnd pairsFrom rulesFrom ruleFrom boundsFrom
-    statesOf numberFrom locationFrom clocksFrom mayStand reaches step decides fires hold within taken advance bind any roundsBy roundBy goesOn tab
+    statesOf numberFrom locationFrom clocksFrom mayStand reaches step decides fires hold within taken advance bind any roundsBy roundBy keeps leadsTo stays someEvent Rules.rests tab
 live-apart j = (refl, refl, ap (λ (f : List ℕ). prepareOf f (0 ∷ [])) (joined-is j))

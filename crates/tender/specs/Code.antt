@@ -10,6 +10,7 @@ use native.Mathlib.Omega.{arith}
 use lib.ListN.{length, getD, take, drop, length-append, length-replicate}
 use Rattle.streams.specs.Answer.{Answer, refused, gives, none-refused}
 use Rattle.streams.specs.Stream.{Event, Stream, _∩_, Hopeless}
+use Rattle.streams.specs.Laws.{_≋_}
 use Rattle.policy.specs.Rules.{Policy, Place, stopped, step, Permits}
 use Rattle.policy.specs.Number.{four, states}
 use Rattle.policy.specs.File.{policyOf}
@@ -216,10 +217,11 @@ c-joined {a} {b} {before} {r = r} h z =
       written = ap (take (r / 256)) (h .out);
     }
 
--- So demand 3 speaks of the files that the code wrote: "the join permits exactly the streams that all its parts permit",
+-- So demand 3 speaks of the files that the code wrote: "the join permits exactly the streams that all its parts permit", and "rests only where all
+-- parts rest together",
 pub code-permits :
     {a b before after : List ℕ} {n : ℕ} → JoinPromise a b before (Code.Length n) after →
-    (w : Stream) → Permits (policyOf (take n after)) w ↔ (Permits (policyOf a) ∩ Permits (policyOf b)) w
+    Permits (policyOf (take n after)) ≋ Permits (policyOf a) ∩ Permits (policyOf b)
 code-permits h = permits-exactly (code-joined h)
 
 -- "A with B or B with A",

@@ -13,7 +13,9 @@ use Rattle.policy.specs.File.{policyOf, outputsAt, clocksAt, locationsAt, rules
 use Rattle.policy.specs.Check.{refusalOf, inputsRefusal, outputsRefusal, clocksRefusal, locationsRefusal, rulesSectionRefusal, sectionRefusal, tagsGood, among, all, rulesRefusal, ruleRefusal, headGood, maskGood, boundsGood, boundGood}
 use Rattle.enforcer.specs.Tick.{mayStand, reaches}
 use Rattle.enforcer.specs.States.{marks-granted}
-use Rattle.prepare.specs.Table.{roundsBy, roundBy, goesOn, tab}
+use Rattle.resting.specs.Table.{roundsBy, roundBy, tab}
+use Rattle.policy.specs.Rules as Rules
+use Rattle.resting.specs.Keeps.{keeps, leadsTo, stays, someEvent}
 use Rattle.prepare.specs.Promise.{prepared-one, said-past}
 -- The check of a file.
 pub use Rattle.policy.specs.Layout.{CheckPromise, check-one}
@@ -54,7 +56,7 @@ pub T-answer : {before after : List ℕ} {r : Prepared} →
 unfolding
     refusalOf inputsRefusal outputsRefusal clocksRefusal locationsRefusal rulesSectionRefusal sectionRefusal tagsGood among all rulesRefusal ruleRefusal
     headGood maskGood boundsGood boundGood policyOf outputsAt clocksAt locationsAt rulesAt rulesStart rulesEnd pairsFrom rulesFrom ruleFrom boundsFrom
-    statesOf numberFrom locationFrom clocksFrom mayStand reaches step decides fires hold within taken advance bind any roundsBy roundBy goesOn tab
+    statesOf numberFrom locationFrom clocksFrom mayStand reaches step decides fires hold within taken advance bind any roundsBy roundBy keeps leadsTo stays someEvent Rules.rests tab
 T-answer {before} {r = r} h long = prepared-one r _ (h .said ∙ said-past T before (marks-granted T before .1 (refl, long)))
 
 -- "one inventing the number of live states": whatever it says of T but the right numbers, it breaks the promise.
@@ -68,7 +70,8 @@ pub S-answer : {before after : List ℕ} {r : Prepared} →
 unfolding
     refusalOf inputsRefusal outputsRefusal clocksRefusal locationsRefusal rulesSectionRefusal sectionRefusal tagsGood among all rulesRefusal ruleRefusal
     headGood maskGood boundsGood boundGood policyOf outputsAt clocksAt locationsAt rulesAt rulesStart rulesEnd pairsFrom rulesFrom ruleFrom boundsFrom
-    statesOf numberFrom locationFrom clocksFrom mayStand reaches step decides fires hold within taken advance bind any roundsBy roundBy goesOn tab
+    statesOf numberFrom locationFrom clocksFrom mayStand reaches step decides fires hold within taken advance bind any roundsBy roundBy keeps leadsTo stays someEvent
+    Rules.rests tab
 S-answer {before} {r = r} h long = prepared-one r _ (h .said ∙ said-past S before (marks-granted S before .1 (refl, long)))
 
 -- "one refusing always": a prepare that refuses S, by whatever number, breaks the promise.

@@ -14,7 +14,7 @@ use borrow.Author.Tests.{lt-ltb}
 use Rattle.streams.specs.Answer.{Answer, refused, gives, none-refused}
 use Rattle.streams.specs.Stream.{Stream, Hopeless}
 use Rattle.streams.specs.Corrections.{corrections}
-use Rattle.streams.specs.Laws.{not-both, passes, enforced-one}
+use Rattle.streams.specs.Laws.{⊆-refl, not-both, passes, enforced-one}
 use Rattle.streams.specs.Published.{instantaneity}
 use Rattle.policy.specs.Rules.{Policy, Place, start, Permits}
 use Rattle.policy.specs.Number.{states}
@@ -34,7 +34,7 @@ use Rattle.tender.specs.Granted.{prepared-marks, prepared-granted, judge
 
 -- For a file that passes the check and a slice for the marks that is long enough.
 module _ (file marks : List ℕ) (passed : refusalOf file ≡ 0) (long : states (policyOf file) ≤ length marks) where
-  -- "a policy is refused as hopeless exactly if, from its start, some length has no permitted stream."
+  -- "a policy is refused as hopeless exactly if" it is: "hopeless means that the start is not live".
   pub hopeless-exactly : (prepareOf file marks ≡ refused 11) ↔ Hopeless (Permits (policyOf file))
   hopeless-exactly =
       ⊎-elim (λ h. (λ e. h .0, λ d. h .1))
@@ -161,7 +161,7 @@ module _ (file marks : List ℕ) (s : Summary) (e : prepareOf file marks ≡ giv
       (released-one (releases file marks s e bytes again (fits-good file ok (r .leads .fits)) (rw n room))
       (record {
         released = r .released;
-        enforced = rw (events-back p ok (r .leads .fits)) (passes corrections _ _ (Permits p) (Permits p) (λ w h. h) (r .enforced));
+        enforced = rw (events-back p ok (r .leads .fits)) (passes corrections _ _ (Permits p) (Permits p) (⊆-refl (Permits p)) (r .enforced));
         refusal = refl;
         count = sym n;
         out = rw n;

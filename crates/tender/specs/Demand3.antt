@@ -3,17 +3,18 @@
 use mathlib.Core.Path.{_≡_, refl, sym, ap, ap₂, subst, _∙_}
 use mathlib.Core.Bool.{true, _&&_}
 use mathlib.Core.List.{List, [], _∷_, _++_, map, List·Memᴰ, List·Memᴰ·head, List·Memᴰ·append-cases, List·Memᴰ·eq-of-singleton, Memᴰ·append-left, Memᴰ·append-right}
-use mathlib.Core.Logic.{_↔_, _⊎_, inl, inr, ⊎-elim, Iff·trans, Iff·symm, Iff·and, Iff·rfl}
+use mathlib.Core.Logic.{_↔_, _⊎_, inl, inr, ⊎-elim}
 use Prim.Native.Nat.{ℕ, _≤_, _/_, _%_, _^_}
 use lib.Dec.{ltb}
 use lib.ListN.{length, take, drop, replicate}
 use lib.Seq.{take-at}
 use Rattle.streams.specs.Answer.{refused, gives, given-only}
-use Rattle.streams.specs.Stream.{Stream, _∩_}
+use Rattle.streams.specs.Stream.{Stream, Language, _∩_}
 use Rattle.streams.specs.Enforced.{Enforced}
 use Rattle.streams.specs.Corrections.{corrections}
-use Rattle.streams.specs.Laws.{_⊆_, not-both, enforced-one}
+use Rattle.streams.specs.Laws.{_⊆_, ⊆-refl, ⊆-trans, ∩-first, ∩-second, ∩-into, _≋_, ≋-sym, ≋-trans, ∩-swap, not-both, enforced-one}
 use Rattle.policy.specs.Rules.{Policy, Place, Fits, Runs, Permits}
+use Rattle.policy.specs.Rules as Rules
 use Rattle.policy.specs.Number.{states, statesOf}
 use Rattle.policy.specs.File.{policyOf, outputsAt, clocksAt, locationsAt, rulesAt, rulesStart, rulesEnd, pairsFrom, rulesFrom, ruleFrom, boundsFrom}
 use Rattle.policy.specs.Check.{refusalOf, inputsRefusal, outputsRefusal, clocksRefusal, locationsRefusal, rulesSectionRefusal, sectionRefusal, tagsGood, among, all, rulesRefusal, ruleRefusal, headGood, maskGood, boundsGood, boundGood}
@@ -22,11 +23,11 @@ use Rattle.policy.specs.Checked.{checked-file, well-sound}
 use Rattle.policy.specs.ReadBack.{read-back}
 use Rattle.enforcer.specs.Entries.{eventOf, byteOf, eventGood, RunAnswer}
 use Rattle.prepare.specs.Entry.{summaryOf, prepareOf}
-use Rattle.join.specs.Join.{of, agree, target, both, pair, each, cell, rows, join}
+use Rattle.join.specs.Join.{of, agree, target, both, pair, each, cell, rows, leftAt, leftBelow, join}
 use Rattle.join.specs.Masks.{alike}
-use Rattle.join.specs.Steps.{fits-same, permits-both, permits-join}
-use Rattle.join.specs.Free.{free, freeFile, free-permits, free-well}
-use Rattle.join.specs.Laws.{Equal, equal}
+use Rattle.join.specs.Steps.{fits-same, within-both, both-within}
+use Rattle.join.specs.Free.{free, freeFile, free-well}
+use Rattle.join.specs.Laws.{Equal, equal, all-free}
 use Rattle.join.specs.Entry.{sameTags, sameSignals, joinFits, joinedFile, joinRefusal, joinOf, joinedOut}
 use Rattle.join.specs.Written.{unrefused, joined-joins, joined-passes, joined-policy, joined-written}
 -- "A released stream enforced again from the start comes back unchanged."
@@ -53,7 +54,7 @@ record Made (a b f : List ℕ) : Type 0 where
   passed : refusalOf f ≡ 0
   tags-first : tags f ≡ tags a
   tags-second : tags f ≡ tags b
-  permits : (w : Stream) → Permits (policyOf f) w ↔ (Permits (policyOf a) ∩ Permits (policyOf b)) w
+  permits : Permits (policyOf f) ≋ Permits (policyOf a) ∩ Permits (policyOf b)
 
 made : {a b f : List ℕ} → Joined a b f → Made a b f
 unfolding joinOf join
@@ -76,7 +77,7 @@ made {a} {b} {f} j =
       passed = ap refusalOf file ∙ joined-passes a b out e;
       tags-first = t;
       tags-second = t ∙ ap₂ (λ (x y : List ℕ). (x, y)) (i .inputs) (i .outputs);
-      permits = λ w. rw policy (permits-both p q g h i w, λ z. permits-join p q g h i w (z .0) (z .1));
+      permits = rw policy (within-both p q g h i, both-within p q g h i);
     }
 
 -- Its file is the joined one, whatever the slice held before.
@@ -86,36 +87,69 @@ joined-is {a} {b} j =
     let only = given-only (joinRefusal a b (j .slice)) (length (joinedFile a b (j .slice))) (j .size) (j .given) in
     j .written ∙ ap (λ (n : ℕ). take n (joinedOut a b (j .slice))) (sym (only .1)) ∙ joined-written a b (j .slice) (only .0)
 
--- "the join permits exactly the streams that all its parts permit."
-pub permits-exactly : {a b f : List ℕ} → Joined a b f → (w : Stream) → Permits (policyOf f) w ↔ (Permits (policyOf a) ∩ Permits (policyOf b)) w
+-- "the join permits exactly the streams that all its parts permit", and "a joined stream rests only where all parts rest together".
+pub permits-exactly : {a b f : List ℕ} → Joined a b f → Permits (policyOf f) ≋ Permits (policyOf a) ∩ Permits (policyOf b)
 permits-exactly j = made j .permits
+
+-- To each part, and from both.
+to-first : {a b f : List ℕ} → Joined a b f → Permits (policyOf f) ⊆ Permits (policyOf a)
+to-first j = ⊆-trans (permits-exactly j .0) (∩-first _ _)
+
+to-second : {a b f : List ℕ} → Joined a b f → Permits (policyOf f) ⊆ Permits (policyOf b)
+to-second j = ⊆-trans (permits-exactly j .0) (∩-second _ _)
+
+into : {a b f : List ℕ} {L : Language} → Joined a b f → L ⊆ Permits (policyOf a) → L ⊆ Permits (policyOf b) → L ⊆ Permits (policyOf f)
+into j f g = ⊆-trans (∩-into f g) (permits-exactly j .1)
 
 -- "all its parts": of three, grouped either way.
 pub permits-left : {a b c f h : List ℕ} → Joined a b f → Joined f c h →
-    (w : Stream) → Permits (policyOf h) w ↔ (Permits (policyOf a) ∩ Permits (policyOf b) ∩ Permits (policyOf c)) w
-permits-left j k w = (
-  λ p. let r = permits-exactly k w .0 p in let q = permits-exactly j w .0 (r .0) in (q .0, (q .1, r .1)),
-  λ p. permits-exactly k w .1 (permits-exactly j w .1 (p .0, p .1 .0), p .1 .1),
-)
+    Permits (policyOf h) ≋ Permits (policyOf a) ∩ Permits (policyOf b) ∩ Permits (policyOf c)
+permits-left {a} {b} {c} j k =
+    let M = Permits (policyOf b) ∩ Permits (policyOf c) in
+    let all = ∩-second (Permits (policyOf a)) M in (
+      ∩-into (⊆-trans (to-first k) (to-first j)) (∩-into (⊆-trans (to-first k) (to-second j)) (to-second k)),
+      into k (into j (∩-first (Permits (policyOf a)) M) (⊆-trans all (∩-first (Permits (policyOf b)) (Permits (policyOf c)))))
+          (⊆-trans all (∩-second (Permits (policyOf b)) (Permits (policyOf c)))),
+    )
 
 pub permits-right : {a b c g k : List ℕ} → Joined b c g → Joined a g k →
-    (w : Stream) → Permits (policyOf k) w ↔ (Permits (policyOf a) ∩ Permits (policyOf b) ∩ Permits (policyOf c)) w
-permits-right j k w = Iff·trans (permits-exactly k w) (Iff·and Iff·rfl (permits-exactly j w))
+    Permits (policyOf k) ≋ Permits (policyOf a) ∩ Permits (policyOf b) ∩ Permits (policyOf c)
+permits-right {a} {b} {c} j k =
+    let M = Permits (policyOf b) ∩ Permits (policyOf c) in (
+      ∩-into (to-first k) (⊆-trans (to-second k) (permits-exactly j .0)),
+      into k (∩-first (Permits (policyOf a)) M) (⊆-trans (∩-second (Permits (policyOf a)) M) (permits-exactly j .1)),
+    )
 
 -- Of any number: f is the join of the parts, made of two at a time.
 pub data JoinOf : List (List ℕ) → List ℕ → Type 0 where
   alone : {a : List ℕ} → JoinOf (a ∷ []) a
   joined : {these those : List (List ℕ)} {f g h : List ℕ} → JoinOf these f → JoinOf those g → Joined f g h → JoinOf (these ++ those) h
 
-pub permits-all : {parts : List (List ℕ)} {f : List ℕ} → JoinOf parts f →
-    (w : Stream) → Permits (policyOf f) w ↔ ((a : List ℕ) → List·Memᴰ a parts → Permits (policyOf a) w)
-permits-all (alone {a = a}) w = (λ p b m. rw (List·Memᴰ·eq-of-singleton m) p, λ h. h a (List·Memᴰ·head refl))
-permits-all (joined {these = these} {those = those} i j k) w = (
-  λ p b m. let r = permits-exactly k w .0 p in
-      ⊎-elim (permits-all i w .0 (r .0) b) (permits-all j w .0 (r .1) b) (List·Memᴰ·append-cases these m),
-  λ h.
-      permits-exactly k w .1
-      (permits-all i w .1 (λ b m. h b (Memᴰ·append-left those m)), permits-all j w .1 (λ b m. h b (Memᴰ·append-right these m))),
+abbrev pub AllOf : List (List ℕ) → Language
+AllOf parts =
+    record {
+      permits = λ w. (a : List ℕ) → List·Memᴰ a parts → Permits (policyOf a) .permits w;
+      rests = λ w. (a : List ℕ) → List·Memᴰ a parts → Permits (policyOf a) .rests w;
+    }
+
+part-of : {parts : List (List ℕ)} {a : List ℕ} → List·Memᴰ a parts → AllOf parts ⊆ Permits (policyOf a)
+part-of {a} m = record { permits = λ w h. h a m; rests = λ w h. h a m }
+
+all-of : {L : Language} (parts : List (List ℕ)) → ((a : List ℕ) → List·Memᴰ a parts → L ⊆ Permits (policyOf a)) → L ⊆ AllOf parts
+all-of parts h = record { permits = λ w p a m. h a m .permits w p; rests = λ w p a m. h a m .rests w p }
+
+fewer : (these those : List (List ℕ)) → ((a : List ℕ) → List·Memᴰ a these → List·Memᴰ a those) → AllOf those ⊆ AllOf these
+fewer these those h = all-of these (λ a m. part-of (h a m))
+
+pub permits-all : {parts : List (List ℕ)} {f : List ℕ} → JoinOf parts f → Permits (policyOf f) ≋ AllOf parts
+permits-all (alone {a = a}) =
+    (all-of (a ∷ []) (λ b m. rw (List·Memᴰ·eq-of-singleton m) (⊆-refl (Permits (policyOf a)))), part-of (List·Memᴰ·head refl))
+permits-all (joined {these = these} {those = those} i j k) = (
+  all-of (these ++ those) (λ b m.
+      ⊎-elim (λ u. ⊆-trans (to-first k) (⊆-trans (permits-all i .0) (part-of u))) (λ u. ⊆-trans (to-second k) (⊆-trans (permits-all j .0) (part-of u)))
+      (List·Memᴰ·append-cases these m)),
+  into k (⊆-trans (fewer these (these ++ those) (λ b m. Memᴰ·append-left those m)) (permits-all i .1))
+      (⊆-trans (fewer those (these ++ those) (λ b m. Memᴰ·append-right these m)) (permits-all j .1)),
 )
 
 -- The answers are the same but for the state, which is of the policy's own locations and clocks.
@@ -152,9 +186,9 @@ pub record Alike (f g : List ℕ) : Type 0 where
 
 -- What is released goes by the permitted streams alone: two files that pass, with the same signals and the same permitted streams, are alike.
 module _ (f g : List ℕ) (first : refusalOf f ≡ 0) (second : refusalOf g ≡ 0) (same : tags f ≡ tags g)
-    (permit : (w : Stream) → Permits (policyOf f) w ↔ Permits (policyOf g) w) where
+    (permit : Permits (policyOf f) ≋ Permits (policyOf g)) where
   equally : Equal (policyOf f) (policyOf g)
-  equally = equal (policyOf f) (policyOf g) (λ w. permit w .0) (λ w. permit w .1)
+  equally = equal (policyOf f) (policyOf g) (permit .0) (permit .1)
 
   good-alike : (events : List ℕ) → all (eventGood f) events ≡ all (eventGood g) events
   good-alike events = ap (λ (t : List ℕ × List ℕ). all (λ b. ltb (b % 16) (2 ^ length (t .0)) && ltb (b / 16) (2 ^ length (t .1))) events) same
@@ -200,7 +234,7 @@ order j k =
     let s = made j in
     let t = made k in
     permits-alike _ _ (s .passed) (t .passed) (cc)
-    (λ w. Iff·trans (s .permits w) (Iff·trans (λ p. (p .1, p .0), λ p. (p .1, p .0)) (Iff·symm (t .permits w))))
+    (≋-trans (s .permits) (≋-trans (∩-swap _ _) (≋-sym (t .permits))))
 
 -- "grouped either way with C"
 pub grouping : {a b c f g h k : List ℕ} → Joined a b f → Joined f c h → Joined b c g → Joined a g k → Alike h k
@@ -208,44 +242,47 @@ grouping i j m n =
     let s = made j in
     let t = made n in
     permits-alike _ _ (s .passed) (t .passed) (cc (made i .tags-first))
-    (λ w. Iff·trans (permits-left i j w) (Iff·symm (permits-right m n w)))
+    (≋-trans (permits-left i j) (≋-sym (permits-right m n)))
 
 -- "A with itself"
 pub repetition : {a f : List ℕ} → Joined a a f → Alike f a
-repetition j = let s = made j in permits-alike _ _ (s .passed) (s .first) (s .tags-first) (λ w. (λ p. s .permits w .0 p .0, λ p. s .permits w .1 (p, p)))
+repetition j = let s = made j in permits-alike _ _ (s .passed) (s .first) (s .tags-first) (to-first j, into j (⊆-refl _) (⊆-refl _))
 
 -- "the policy that permits all", over the signals of a.
 abbrev pub permitsAll : List ℕ → List ℕ
 permitsAll a = freeFile (policyOf a .inputs) (policyOf a .outputs)
 
 all-permitted : (a : List ℕ) → refusalOf a ≡ 0 → Permits (policyOf a) ⊆ Permits (policyOf (permitsAll a))
-unfolding freeFile Runs
-all-permitted a e w p =
-    let i = policyOf a .inputs in
-    let o = policyOf a .outputs in
-    rw (read-back (free i o) (free-well (policyOf a) (checked-file a e))) (free-permits i o w (fits-same (policyOf a) (free i o) refl refl (p .0)))
+unfolding freeFile
+all-permitted a e = rw (read-back (free (policyOf a .inputs) (policyOf a .outputs)) (free-well (policyOf a) (checked-file a e))) (all-free (policyOf a))
 
--- "A with the policy that permits all": with any policy that permits all that A permits, on either side.
+-- "A with the policy that permits all": with any policy that permits all that A permits and rests wherever A rests, on either side.
 module _ {a b f : List ℕ} (more : Permits (policyOf a) ⊆ Permits (policyOf b)) where
   pub unit-any : Joined a b f → Alike f a
   unit-any j =
       let s = made j in
-      permits-alike _ _ (s .passed) (s .first) (s .tags-first) (λ w. (λ p. s .permits w .0 p .0, λ p. s .permits w .1 (p, more w p)))
+      permits-alike _ _ (s .passed) (s .first) (s .tags-first) (to-first j, into j (⊆-refl _) more)
 
   pub unit-any-first : Joined b a f → Alike f a
   unit-any-first j =
       let s = made j in
-      permits-alike _ _ (s .passed) (s .second) (s .tags-second) (λ w. (λ p. s .permits w .0 p .1, λ p. s .permits w .1 (more w p, p)))
+      permits-alike _ _ (s .passed) (s .second) (s .tags-second) (to-second j, into j more (⊆-refl _))
 
--- "the policy that permits all": every stream over its signals.
-abbrev pub PermitsAll : List ℕ → Type 0
-PermitsAll b = (w : Stream) → Fits (policyOf b) w → Permits (policyOf b) w
+-- "the policy that permits all": every stream over its signals; and it rests after each.
+pub record PermitsAll (b : List ℕ) : Type 0 where
+  pub permitted : (w : Stream) → Fits (policyOf b) w → Permits (policyOf b) .permits w
+  pub rested : (w : Stream) → Permits (policyOf b) .rests w
 
 -- Any such policy over the signals of a permits all that a permits; a join of the two is made only over the same signals.
 permits-more : (a b : List ℕ) → tags a ≡ tags b → PermitsAll b → Permits (policyOf a) ⊆ Permits (policyOf b)
 unfolding Runs
-permits-more a b same free w p =
-    free w (fits-same (policyOf a) (policyOf b) (ap (λ (t : List ℕ × List ℕ). t .0) same) (ap (λ (t : List ℕ × List ℕ). t .1) same) (p .0))
+permits-more a b same free =
+    let first = ap (λ (t : List ℕ × List ℕ). t .0) same in
+    let second = ap (λ (t : List ℕ × List ℕ). t .1) same in
+    record {
+      permits = λ w p. free .permitted w (fits-same (policyOf a) (policyOf b) first second (p .0));
+      rests = λ w r. free .rested w;
+    }
 
 pub unit : {a b f : List ℕ} → PermitsAll b → Joined a b f → Alike f a
 unit {a} {b} free j = let s = made j in unit-any (permits-more a b (sym (s .tags-first) ∙ s .tags-second) free) j
@@ -282,8 +319,8 @@ forward-wrong right = not-forwarding forward right refl
 -- Such joins are made: sample T with itself.
 pub T-joined : Joined T T (take 40 (joinedOut T T (replicate 40 0)))
 unfolding
-    joinOf joinRefusal joinedFile sameSignals sameTags joinFits join rows cell each pair both agree target of alike bytesOf countsBytes pairsBytes
+    joinOf joinRefusal joinedFile sameSignals sameTags joinFits join rows cell each pair both agree target of alike leftAt leftBelow bytesOf countsBytes pairsBytes
     rulesBytes ruleBytes boundsBytes refusalOf inputsRefusal outputsRefusal clocksRefusal locationsRefusal rulesSectionRefusal sectionRefusal tagsGood
     among all rulesRefusal ruleRefusal headGood maskGood boundsGood boundGood policyOf outputsAt clocksAt locationsAt rulesAt rulesStart rulesEnd
-    pairsFrom rulesFrom ruleFrom boundsFrom statesOf
+    pairsFrom rulesFrom ruleFrom boundsFrom statesOf Rules.rests
 T-joined = record { slice = replicate 40 0; size = 40; given = refl; written = refl }

@@ -20,7 +20,9 @@ use Rattle.policy.specs.Stays.{start-inside}
 use Rattle.enforcer.specs.State.{stateOf}
 use Rattle.enforcer.specs.Tick.{Ran, ran, tick, outputTick, moved, outputChoice, inputChoice, mayStand, reaches}
 use Rattle.enforcer.specs.Entries.{eventOf, byteOf, eventGood}
-use Rattle.prepare.specs.Table.{roundsBy, roundBy, goesOn, tab}
+use Rattle.resting.specs.Table.{roundsBy, roundBy, tab}
+use Rattle.policy.specs.Rules as Rules
+use Rattle.resting.specs.Keeps.{keeps, leadsTo, stays, someEvent}
 use Rattle.prepare.specs.Entry.{preparedMarks}
 use Rattle.prepare.specs.Enforces.{Ready}
 use Rattle.tender.specs.Samples.{K}
@@ -51,7 +53,7 @@ runAt : List ℕ → ℕ → Stream → Ran
 unfolding
     policyOf outputsAt clocksAt locationsAt rulesAt rulesStart pairsFrom rulesFrom ruleFrom boundsFrom statesOf numberFrom locationFrom clocksFrom ran tick
     outputTick moved outputChoice inputChoice mayStand reaches step decides fires hold within taken advance bind nearest better nearer distance any ones
-    onesIn roundsBy roundBy goesOn tab
+    onesIn roundsBy roundBy keeps leadsTo stays someEvent Rules.rests tab
 runAt rest v = ran (policyOf K) (live rest) (clockAt v)
 
 -- One quiet event more, before the others.

@@ -12,3 +12,5 @@ pub mod Program
 pub mod Prints
 pub mod Apart
 pub mod Made
+pub mod Unchanged
+pub mod Rests

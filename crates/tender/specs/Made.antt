@@ -10,6 +10,7 @@ use lib.ListN.{length, take, replicate, length-append}
 use borrow.Author.Tests.{le-leb, ltb-true, ltb-false, eqb-true}
 use Rattle.streams.specs.Answer.{gives}
 use Rattle.policy.specs.Rules.{Rule, Policy}
+use Rattle.policy.specs.Rules as Rules
 use Rattle.policy.specs.Number.{states, statesOf}
 use Rattle.policy.specs.File.{policyOf, outputsAt, clocksAt, locationsAt, rulesAt, rulesStart, rulesEnd, pairsFrom, rulesFrom, ruleFrom, boundsFrom}
 use Rattle.policy.specs.Check.{refusalOf, inputsRefusal, outputsRefusal, clocksRefusal, locationsRefusal, rulesSectionRefusal, sectionRefusal, tagsGood, among, all, rulesRefusal, ruleRefusal, headGood, maskGood, boundsGood, boundGood}
@@ -17,7 +18,7 @@ use Rattle.policy.specs.Bytes.{bytesOf, countsBytes, pairsBytes, rulesBytes, ru
 use Rattle.policy.specs.Sound.{WellFormed}
 use Rattle.policy.specs.Checked.{frame, longest, checked-file}
 use Rattle.policy.specs.ReadBack.{read-back, written-passes}
-use Rattle.join.specs.Join.{of, agree, target, both, pair, each, cell, rows, join}
+use Rattle.join.specs.Join.{of, agree, target, both, pair, each, cell, rows, leftAt, leftBelow, join}
 use Rattle.join.specs.Masks.{alike}
 use Rattle.join.specs.Free.{always, free, freeFile, free-well}
 use Rattle.join.specs.Entry.{sameTags, sameSignals, joinFits, joinedFile, joinRefusal, joinOf, joinedOut}
@@ -191,7 +192,7 @@ right = joinedIn 54 alwaysOff K
 pub three-made :
     Joined K alwaysOff left × Joined left K (joinedIn 132 left K) × Joined alwaysOff K right × Joined K right (joinedIn 132 K right)
 unfolding
-    joinOf joinedOut joinRefusal joinedFile sameSignals sameTags joinFits join rows cell each pair both agree target of alike bytesOf countsBytes pairsBytes
+    joinOf joinedOut joinRefusal joinedFile sameSignals sameTags joinFits join rows cell each pair both agree target of alike leftAt leftBelow Rules.rests bytesOf countsBytes pairsBytes
     rulesBytes ruleBytes boundsBytes refusalOf inputsRefusal outputsRefusal clocksRefusal locationsRefusal rulesSectionRefusal sectionRefusal tagsGood
     among all rulesRefusal ruleRefusal headGood maskGood boundsGood boundGood policyOf outputsAt clocksAt locationsAt rulesAt rulesStart rulesEnd
     pairsFrom rulesFrom ruleFrom boundsFrom statesOf

@@ -12,7 +12,9 @@ use Rattle.policy.specs.Check.{refusalOf, inputsRefusal, outputsRefusal, clocks
 use Rattle.enforcer.specs.State.{stateGood, clocksGood}
 use Rattle.enforcer.specs.Tick.{ran, tick, outputTick, moved, outputChoice, inputChoice, mayStand, reaches}
 use Rattle.enforcer.specs.Entries.{runOf, runRefusal, marksRefusal, stateRefusal}
-use Rattle.prepare.specs.Table.{roundsBy, roundBy, goesOn, tab}
+use Rattle.resting.specs.Table.{roundsBy, roundBy, tab}
+use Rattle.policy.specs.Rules as Rules
+use Rattle.resting.specs.Keeps.{keeps, leadsTo, stays, someEvent}
 use Rattle.prepare.specs.Entry.{prepareOf}
 use Rattle.console.specs.Text.{ascii, digits, decimal, verdictLine, refusedLine, tickLine, tickLines}
 use Rattle.console.specs.Frame.{countRefusal}
@@ -27,5 +29,5 @@ unfolding
     rulesSectionRefusal sectionRefusal tagsGood among all rulesRefusal ruleRefusal headGood maskGood boundsGood boundGood policyOf outputsAt clocksAt
     locationsAt rulesAt rulesStart rulesEnd pairsFrom rulesFrom ruleFrom boundsFrom statesOf numberFrom locationFrom clocksFrom ran tick outputTick moved
     outputChoice inputChoice mayStand reaches step decides fires hold within taken advance bind nearest better nearer distance any prepareOf
-    roundsBy roundBy goesOn tab ones onesIn
+    roundsBy roundBy keeps leadsTo stays someEvent Rules.rests tab ones onesIn
 sample = refl

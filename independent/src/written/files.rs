@@ -20,11 +20,11 @@ pub fn all() -> Vec<Written> {
 }
 
 /// The answer of prepare when nothing is refused.
-fn found(verdict: u64, states: u64, live: u64) -> u64 {
+pub fn found(verdict: u64, states: u64, live: u64) -> u64 {
     verdict << 8 | states << 16 | live << 40
 }
 
-fn prepare(name: &str, file: &str, lent: usize, answer: u64, marks: &[u8]) -> Written {
+pub fn prepare(name: &str, file: &str, lent: usize, answer: u64, marks: &[u8]) -> Written {
     let call = Call::Prepare {
         file: from_hex(file),
         marks: filled(&[], lent),
@@ -151,7 +151,13 @@ fn ceilings_and_locations() -> Vec<Written> {
         ),
         refused(4, "before the next count", "00 00 01 00 00 00"),
         prepare("ceiling 1,001", highest, 1_002, 11, &[0; 1_002]),
-        refused(5, "location byte 1", "00 00 00 01 01 00 00"),
+        refused(5, "location byte 2", "00 00 00 01 02 00 00"),
+        refused(
+            5,
+            "second location byte 2 after a 1",
+            "00 00 00 02 01 02 00 00",
+        ),
+        prepare("location byte 1", "00 00 00 01 01 00 00", 1, 11, &[0]),
         refused(5, "last location byte 255", "00 00 00 03 00 00 FF 00 00"),
         refused(5, "before the rule count", "00 00 00 01 07 01 01"),
     ]

@@ -21,7 +21,7 @@ const BAD_STATES: [(&str, &[u16]); 8] = [
     ("no number", &[]),
 ];
 
-fn input(name: &str, file: &str, marks: &[u8], state: &[u16], x: u8, answer: u64) -> Written {
+pub fn input(name: &str, file: &str, marks: &[u8], state: &[u16], x: u8, answer: u64) -> Written {
     let call = Call::Input {
         file: from_hex(file),
         marks: marks.to_vec(),
@@ -31,7 +31,7 @@ fn input(name: &str, file: &str, marks: &[u8], state: &[u16], x: u8, answer: u64
     written(name, call, answer, vec![], vec![])
 }
 
-fn gives(value: u64) -> u64 {
+pub fn gives(value: u64) -> u64 {
     value << 8
 }
 
@@ -149,15 +149,15 @@ fn refused_inputs() -> Vec<Written> {
     all
 }
 
-struct Ask<'a> {
-    file: &'a str,
-    marks: &'a [u8],
-    state: &'a [u16],
-    x: u8,
-    y: u8,
+pub struct Ask<'a> {
+    pub file: &'a str,
+    pub marks: &'a [u8],
+    pub state: &'a [u16],
+    pub x: u8,
+    pub y: u8,
 }
 
-fn output(name: &str, ask: Ask, answer: u64, after: &[u16]) -> Written {
+pub fn output(name: &str, ask: Ask, answer: u64, after: &[u16]) -> Written {
     let call = Call::Output {
         file: from_hex(ask.file),
         marks: ask.marks.to_vec(),

@@ -20,7 +20,7 @@ fn join(name: &str, a: &str, b: &str, lent: usize, answer: u64, out: &[u8]) -> W
 }
 
 /// A join into a slice just long enough.
-fn gives(name: &str, a: &str, b: &str, joined: &str) -> Written {
+pub fn gives(name: &str, a: &str, b: &str, joined: &str) -> Written {
     let out = from_hex(joined);
     join(name, a, b, out.len(), (out.len() as u64) << 8, &out)
 }

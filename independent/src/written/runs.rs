@@ -36,7 +36,7 @@ fn run(name: &str, run: Run, answer: u64, released: &[u8], after: &[u16]) -> Wri
 }
 
 /// A stream from the start, into a slice just as long, that is not refused.
-fn stream(
+pub fn stream(
     name: &str,
     file: &str,
     marks: &[u8],

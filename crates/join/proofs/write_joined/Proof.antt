@@ -21,7 +21,7 @@ begins c =
     let e = c .lay-counts .ensures in (omega (arith, e .ends, counts-long (s .pre .0) (s .args .rules)), laid-length e)
 
 lay-counts-requires : tie.Need-lay-counts-requires
-lay-counts-requires c κs = let p = c .before .before .before .before .pre in omega (arith, sizes (p .0 .first), sizes (p .0 .second), few (p .0), p .1)
+lay-counts-requires c κs = let p = c .before .before .before .before .pre in (p .0, p .1 .1)
 
 sub-lay-joined : tie.Need-sub-lay-joined
 sub-lay-joined c = omega (arith, begins (c .before .before))

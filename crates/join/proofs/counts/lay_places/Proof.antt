@@ -1,29 +1,50 @@
 -- `join::counts::lay_places` meets its contract: the parts are laid one after the other.
-use Prim.Native.Nat.{ℕ}
+use Prim.Native.Nat.{_*_}
 use native.Mathlib.Omega.{arith}
-use lib.ListN.{length-replicate}
-use Rattle.join.proofs.Laws.{laid-more}
+use denote.Ref.{now}
 use borrow.Author.Needs.{needs}
+use Rattle.policy.specs.File.{policyOf}
+use Rattle.join.specs.Left.{left-length}
+use Rattle.join.proofs.Laws.{laid-more}
+use Rattle.join.proofs.FileLaws.{few}
 use Rattle.join.proofs.counts.lay_places.Statement.{statement}
 use Rattle.join.proofs.counts.lay_places.Tie as tie
 
-put-requires : tie.Need-put-requires
-put-requires c κs = search needs
+mul-put : tie.Need-mul-put
+mul-put c = omega (arith, few (c .before .before .before .before .before .pre .0))
 
-put-zeros-requires : tie.Need-put-zeros-requires
-put-zeros-requires c κs = search needs
+put-requires : tie.Need-put-requires
+put-requires c κs = let s = c .before .before .before .before .before .before in omega (arith, few (s .pre .0), s .pre .2)
+
+lay-left-requires : tie.Need-lay-left-requires
+lay-left-requires c κs =
+    let s = c .before .before .before .before .before .before .before .before .before .before in
+    (s .pre .0, omega (arith, s .pre .2, c .before .before .before .put .ensures .ends))
 
 put-pair-requires : tie.Need-put-pair-requires
 put-pair-requires c κs =
-    let a = c .before .before .before .before .before .before .before .before .before .before .args in
-    (omega arith, omega (arith, c .before .before .before .put-zeros .ensures .ends, length-replicate {A = ℕ} (a .locations) 0))
+    let s = c .before .before .before .before .before .before .before .before .before .before .before .before .before .before in
+    let a = s .args in (
+      omega (arith, s .pre .1),
+      omega (
+        arith,
+        few (s .pre .0),
+        s .pre .2,
+        c .before .before .before .before .before .before .before .put .ensures .ends,
+        c .before .before .before .lay-left .ensures .ends,
+        left-length (policyOf (now (a .a))) (policyOf (now (a .b))) (a .x .locations * a .y .locations),
+      ),
+    )
 
 same-length : tie.Need-same-length
 same-length c = search needs
 
 returns : tie.Need-returns
-returns c = laid-more (laid-more (c .before .before .before .before .before .before .before .before .before .before .put .ensures) (c .before .before .before .before .before .before .put-zeros .ensures)) (c .before .before .put-pair .ensures)
+returns c =
+    laid-more
+    (laid-more (c .before .before .before .before .before .before .before .before .before .before .put .ensures) (c .before .before .before .before .before .before .lay-left .ensures))
+    (c .before .before .put-pair .ensures)
 
 pub lay-places-spec : {M : Type 1} → statement M
 lay-places-spec =
-    tie.close (tie.spec put-requires put-zeros-requires put-pair-requires same-length returns)
+    tie.close (tie.spec mul-put put-requires lay-left-requires put-pair-requires same-length returns)

@@ -3,12 +3,11 @@ use mathlib.Core.Path.{_≡_, sym, _∙_}
 use Prim.Native.Nat.{_+_, _*_, _≤_}
 use native.Mathlib.Nat.{add-sub-cancel-left}
 use native.Mathlib.Omega.{arith}
-use lib.Dec.{eqb}
 use lib.ListN.{length}
 use denote.Ref.{now}
 use borrow.Author.Needs.{needs}
 use Rattle.policy.specs.File.{locationsAt, locationCount, locationBytes}
-use Rattle.policy.specs.Check.{all, sectionRefusal, locationsRefusal}
+use Rattle.policy.specs.Check.{all, locationGood, sectionRefusal, locationsRefusal}
 use Rattle.policy.specs.Checked.{section-fits}
 use Rattle.streams.specs.Answer.{first-refused}
 use Rattle.policy.proofs.sections.locations_refusal.Statement.{statement}
@@ -20,9 +19,9 @@ counted : (c : tie.After-section-refusal) →
     c .section-refusal .result ≡ sectionRefusal f (locationsAt f) 1 (locationCount f) 1 64 1
 counted c = cc
 
-judged : (c : tie.After-all-zero) →
-    c .all-zero .result ≡ all (eqb 0) (locationBytes (now (c .before .before .before .before .before .before .args .file)))
-judged c = c .all-zero .ensures ∙ rw add-sub-cancel-left (cc)
+judged : (c : tie.After-locations-good) →
+    c .locations-good .result ≡ all locationGood (locationBytes (now (c .before .before .before .before .before .before .args .file)))
+judged c = c .locations-good .ensures ∙ rw add-sub-cancel-left (cc)
 
 fits : (c : tie.Else1) →
     c .before .before .before .before .args .at + 1 + c .before .before .byte-at .result * 1 ≤ length (now (c .before .before .before .before .args .file))
@@ -38,26 +37,26 @@ returns : tie.Need-returns
 unfolding locationsRefusal
 returns c = rw (← counted (c .before), first-refused _ _ (c .if1 .taken))
 
-add-all-zero : tie.Need-add-all-zero
-add-all-zero c = search needs
+add-locations-good : tie.Need-add-locations-good
+add-locations-good c = search needs
 
-add-all-zero-2 : tie.Need-add-all-zero-2
-add-all-zero-2 c = search needs
+add-locations-good-2 : tie.Need-add-locations-good-2
+add-locations-good-2 c = search needs
 
-add-all-zero-3 : tie.Need-add-all-zero-3
-add-all-zero-3 c = search needs
+add-locations-good-3 : tie.Need-add-locations-good-3
+add-locations-good-3 c = search needs
 
-sub-all-zero : tie.Need-sub-all-zero
-sub-all-zero c = search needs
+sub-locations-good : tie.Need-sub-locations-good
+sub-locations-good c = search needs
 
-part-all-zero-start : tie.Need-part-all-zero-start
-part-all-zero-start c = search needs
+part-locations-good-start : tie.Need-part-locations-good-start
+part-locations-good-start c = search needs
 
-part-all-zero-end : tie.Need-part-all-zero-end
-part-all-zero-end c = omega (arith, fits c)
+part-locations-good-end : tie.Need-part-locations-good-end
+part-locations-good-end c = omega (arith, fits c)
 
-all-zero-requires : tie.Need-all-zero-requires
-all-zero-requires c κs = search needs
+locations-good-requires : tie.Need-locations-good-requires
+locations-good-requires c κs = search needs
 
 returns-2 : tie.Need-returns-2
 unfolding locationsRefusal
@@ -76,12 +75,12 @@ locations-refusal-spec =
     byte-at-requires
     section-refusal-requires
     returns
-    add-all-zero
-    add-all-zero-2
-    add-all-zero-3
-    sub-all-zero
-    part-all-zero-start
-    part-all-zero-end
-    all-zero-requires
+    add-locations-good
+    add-locations-good-2
+    add-locations-good-3
+    sub-locations-good
+    part-locations-good-start
+    part-locations-good-end
+    locations-good-requires
     returns-2
     returns-3)

@@ -1,17 +1,16 @@
--- `policy::sections::all_zero` meets its contract. The invariant: all bytes from i on are 0 exactly if all are. Assumes nothing.
-use mathlib.Core.Path.{_≡_, sym}
+-- `policy::sections::locations_good` meets its contract. The invariant: the bytes from i on are good exactly if all are. Assumes nothing.
+use mathlib.Core.Path.{_≡_}
 use Prim.Native.Nat.{_-_, _≤_}
-use lib.Dec.{eqb}
 use lib.ListN.{length, drop}
 use borrow.Author.Needs.{needs}
-use borrow.Author.Tests.{eq-eqb, ne-eqb}
-use Rattle.policy.specs.Check.{all}
+use borrow.Author.Tests.{le-leb, lt-leb}
+use Rattle.policy.specs.Check.{all, locationGood}
 use Rattle.policy.proofs.Laws.{all-turn, all-end}
-use Rattle.policy.proofs.sections.all_zero.Statement.{statement}
-use Rattle.policy.proofs.sections.all_zero.Tie as tie
+use Rattle.policy.proofs.sections.locations_good.Statement.{statement}
+use Rattle.policy.proofs.sections.locations_good.Tie as tie
 
 abbrev Inv-loop : tie.InvT-loop
-Inv-loop bytes i₀ i = (i ≤ length bytes) × (all (eqb 0) (drop i bytes) ≡ all (eqb 0) bytes)
+Inv-loop bytes i₀ i = (i ≤ length bytes) × (all locationGood (drop i bytes) ≡ all locationGood bytes)
 
 abbrev μ-loop : tie.MeasureT-loop
 μ-loop bytes i₀ i = length bytes - i
@@ -25,7 +24,7 @@ shared-slice-read-if1 c = search needs
 returns : tie.Need-returns Inv-loop μ-loop
 returns c =
     let l = c .before .before .before in
-    rw (← l .loop .inv .1, all-turn _ _ _ (c .before .before .loop-test .taken), ne-eqb _ _ (λ e. c .if1 .taken (sym e)))
+    rw (← l .loop .inv .1, all-turn _ _ _ (c .before .before .loop-test .taken), lt-leb _ _ (c .if1 .taken))
 
 add-i : tie.Need-add-i Inv-loop μ-loop
 add-i c = search needs
@@ -36,13 +35,13 @@ loop-less c = search needs
 loop-again : tie.Need-loop-again Inv-loop μ-loop
 loop-again c =
     let l = c .before .before .before in
-    (search needs, rw (← l .loop .inv .1, all-turn _ _ _ (c .before .before .loop-test .taken), eq-eqb _ _ (sym (c .if1 .left))))
+    (search needs, rw (← l .loop .inv .1, all-turn _ _ _ (c .before .before .loop-test .taken), le-leb _ _ (c .if1 .left)))
 
 returns-2 : tie.Need-returns-2 Inv-loop μ-loop
 returns-2 c = rw (← c .before .loop .inv .1, all-end _ _ _ (c .loop-test .left))
 
-pub all-zero-spec : {M : Type 1} → statement M
-all-zero-spec =
+pub locations-good-spec : {M : Type 1} → statement M
+locations-good-spec =
     tie.close
     (tie.spec
     Inv-loop

@@ -1,0 +1,10 @@
+pub mod Machine
+pub mod Table
+pub mod Marks
+pub mod Trim
+pub mod Walk
+pub mod Keeps
+pub mod Leads
+pub mod Live
+pub mod Clear
+pub mod Always
