@@ -74,7 +74,7 @@ uint64_t groovepawn_prepare(const uint8_t *file, size_t file_len, uint8_t *marks
 
 /*
  * The input half of a tick: the input x' to act on. It is x where some output then leads to a state marked 1, else the input of this kind that
- * differs from x in the fewest bits, and among equals the smallest number.
+ * differs from x in the fewest bits; among equals, at the first signal in which two differ, the one that leaves that signal as read.
  * Refusals 1 to 10, 16, 15, 17. Returns refusal | x' << 8. Nothing is written: the state moves with the output half.
  */
 uint32_t groovepawn_input(const uint8_t *file, size_t file_len, const uint8_t *marks, size_t marks_len, const uint16_t *state, size_t state_len,

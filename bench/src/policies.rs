@@ -108,14 +108,14 @@ pub fn barred() -> Policy {
 /// Where every rule costs a tick the most and takes something: its bounds
 /// hold, it agrees with the event 0, 0 as read, and it is left just one event
 /// x, y. (It agrees with the submasks of x and of y, whose rules stand before
-/// it.) The rules left an event with x 0, or 1, 0, lead to location 1, which
-/// has no rules.
+/// it.) The rules left an event with x 0, or 8, 0, lead to location 1, which
+/// has no rules; of the inputs nearest to 0 the first is 8.
 pub fn nested() -> Policy {
     let bound = (0, 2);
     let within = |value: u8| Condition::clear(!value & 0b1111);
     let rule = |event: u8| {
         let (x, y) = (event >> 4, event & 15);
-        let target = u8::from(x == 0 || (x, y) == (1, 0));
+        let target = u8::from(x == 0 || (x, y) == (8, 0));
         one_location(within(x), within(y), target, [bound; 4])
     };
     from_one_location((0..=255).map(rule).collect())

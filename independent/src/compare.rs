@@ -157,6 +157,7 @@ mod tests {
         None,
         RefuseAlways,
         ForwardEverything,
+        SmallestAmongEquals,
         LastRuleWins,
         EveryLocationRests,
         LocationOneIsRefused,
@@ -175,9 +176,10 @@ mod tests {
         Stray,
     }
 
-    const FAULTS: [Fault; 18] = [
+    const FAULTS: [Fault; 19] = [
         Fault::RefuseAlways,
         Fault::ForwardEverything,
+        Fault::SmallestAmongEquals,
         Fault::LastRuleWins,
         Fault::EveryLocationRests,
         Fault::LocationOneIsRefused,
@@ -258,7 +260,12 @@ mod tests {
 
         fn input(&mut self, file: &[u8], marks: &[u8], state: &[u16], x: u8) -> u64 {
             let (marks, state) = (self.marks(marks), self.state(state));
-            Model.input(&self.file(file), &marks, &state, x)
+            let file = self.file(file);
+            let answer = Model.input(&file, &marks, &state, x);
+            match self.has(Fault::SmallestAmongEquals) && refusal_in(answer) == 0 {
+                true => smallest_nearest(x, |x| Model.input(&file, &marks, &state, x)),
+                false => answer,
+            }
         }
 
         fn output(&mut self, file: &[u8], marks: &[u8], state: &mut [u16], x: u8, y: u8) -> u64 {
@@ -327,6 +334,16 @@ mod tests {
         fn strayed(&mut self) -> bool {
             self.has(Fault::Stray)
         }
+    }
+
+    /// The answer with the smallest of the nearest values that stand: those
+    /// that `half` gives back unchanged.
+    fn smallest_nearest(wanted: u8, half: impl Fn(u8) -> u64) -> u64 {
+        let stands = |&value: &u8| half(value) == u64::from(value) << 8;
+        let nearest = (0..16).filter(stands);
+        let distance = |value: &u8| (value ^ wanted).count_ones();
+        let smallest = nearest.min_by_key(distance).expect("one was found");
+        u64::from(smallest) << 8
     }
 
     /// Makes the location bytes of a join 1 only where both parts have 1.

@@ -271,15 +271,17 @@ impl Moment<'_> {
 }
 
 /// The value in the set that differs from the wanted one in the fewest bits,
-/// the smallest of those.
+/// and of those the one that keeps the first signals.
 fn nearest(wanted: u8, values: u8, set: u16) -> Option<u8> {
     let mut best = None;
-    let mut least = u32::MAX;
+    let mut least = (u32::MAX, u8::MAX);
     for value in 0..values {
-        let distance = (value ^ wanted).count_ones();
-        if distance < least && is_in(set, value) {
+        let changed = value ^ wanted;
+        // The first signal is the lowest bit, and weighs most.
+        let rank = (changed.count_ones(), changed.reverse_bits());
+        if rank < least && is_in(set, value) {
             best = Some(value);
-            least = distance;
+            least = rank;
         }
     }
     best

@@ -94,6 +94,12 @@ fn streams_of_the_samples() {
 }
 
 #[test]
+fn ties_keep_the_first_signals() {
+    let either = "02 41 42 00 00 01 00 00 02  00 03 01 00 00 00 00  00 03 02 00 00 00 00";
+    assert_eq!(released(either, &[0, 3, 1]), Ok(vec![2, 1, 1]));
+}
+
+#[test]
 fn a_clock_does_not_wrap() {
     let mut events = vec![0; 65_537];
     events.push(0x10);

@@ -35,8 +35,8 @@ module _ (p : Policy) (marks : List ℕ) where
     unfoldable pub mayStand : ℕ → Bool
     mayStand x = any (reaches x) (outputValues p)
 
-    -- "x is kept if some y takes the state to a live one. Otherwise the x' of this kind that differs from x in the fewest bits is taken; among equals,
-    -- the smallest number."
+    -- "x is kept if some y takes the state to a live one. Otherwise the x' of this kind that differs from x in the fewest bits is taken"; among equals
+    -- the one that spares the first signals.
     unfoldable pub inputChoice : ℕ → Option ℕ
     inputChoice x = nearest mayStand x (inputValues p)
 

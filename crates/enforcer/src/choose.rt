@@ -7,11 +7,12 @@ use crate::state::State;
 use policy::Layout;
 use policy::Own;
 ghost use mathlib.Core.Path.{_≡_};
+ghost use mathlib.Core.Bool.{cond};
 ghost use Prim.Native.Nat.{ℕ, _≤_, _<_};
 ghost use lib.Dec.{eqb, ltb};
 ghost use lib.ListN.{getD};
 ghost use Rattle.streams.specs.Choose.{nearest};
-ghost use Rattle.streams.specs.Corrections.{distance};
+ghost use Rattle.streams.specs.Corrections.{distance, spares};
 ghost use Rattle.policy.specs.Rules.{inputValues};
 ghost use Rattle.policy.specs.File.{policyOf};
 ghost use Rattle.enforcer.specs.Tick.{inputChoice, outputChoice};
@@ -40,6 +41,37 @@ fn distance(wanted: u8, value: u8) -> u32
     u8::count_ones(wanted ^ value) as u32
 }
 
+// At the first bit in which the value and the best so far differ, the value is as wanted.
+fn spares(wanted: u8, value: u8, best: u8) -> bool
+    ensures { λ r. ⌜ r ≡ spares 8 wanted value best ⌝ }
+{
+    let mut w = wanted;
+    let mut a = value;
+    let mut b = best;
+    let mut left = 8u32;
+    while 0 < left {
+        if a % 2 != b % 2 {
+            return a % 2 == w % 2;
+        }
+        w = w / 2;
+        a = a / 2;
+        b = b / 2;
+        left -= 1;
+    }
+    false
+}
+
+// The value, `away` bits from the wanted one, takes the place of the best so far, `far` bits from it.
+fn comes_first(wanted: u8, value: u8, away: u32, best: u8, far: u32) -> bool
+    ensures { λ r. ⌜ r ≡ cond (eqb away far) (spares 8 wanted value best) (ltb away far) ⌝ }
+{
+    if away == far {
+        spares(wanted, value, best)
+    } else {
+        away < far
+    }
+}
+
 // Of the values below n in the set, the one nearest to the wanted one.
 fn nearest(set: u16, wanted: u8, n: usize) -> Choice
     requires { ⌜ n ≤ 16 ⌝ }
@@ -51,7 +83,7 @@ fn nearest(set: u16, wanted: u8, n: usize) -> Choice
     while z < n {
         let value = z as u8;
         let away = distance(wanted, value);
-        if away < far {
+        if comes_first(wanted, value, away, best, far) {
             if is_in(set, value) {
                 best = value;
                 far = away;

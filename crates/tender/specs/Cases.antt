@@ -1,4 +1,5 @@
--- The twelve marked cases of 01: one list, one statement, by computation.
+-- The twelve marked cases of 01, then 02's own ("when x is 0 and only 1 and 2 may stand, the answer is 2") and its like for outputs: one list, one
+-- statement, by computation.
 use mathlib.Core.Path.{_≡_, refl}
 use mathlib.Core.List.{List, [], _∷_, map}
 use Prim.Native.Nat.{ℕ, zero, suc}
@@ -7,7 +8,7 @@ use Rattle.streams.specs.Answer.{Answer, refused, gives}
 use mathlib.Core.Option.{bind}
 use lib.Count.{ones, onesIn}
 use Rattle.streams.specs.Choose.{any, nearest, better}
-use Rattle.streams.specs.Corrections.{distance, nearer}
+use Rattle.streams.specs.Corrections.{distance, nearer, spares}
 use Rattle.policy.specs.Rules.{start, step, decides, fires, hold, within, taken, advance}
 use Rattle.policy.specs.Number.{states, statesOf, numberFrom, locationFrom, clocksFrom}
 use Rattle.policy.specs.File.{policyOf, outputsAt, clocksAt, locationsAt, rulesAt, rulesStart, rulesEnd, pairsFrom, rulesFrom, ruleFrom, boundsFrom}
@@ -19,7 +20,7 @@ use Rattle.resting.specs.Table.{roundsBy, roundBy, tab}
 use Rattle.policy.specs.Rules as Rules
 use Rattle.resting.specs.Keeps.{keeps, leadsTo, stays, someEvent}
 use Rattle.prepare.specs.Entry.{Summary, prepareOf, preparedMarks}
-use Rattle.tender.specs.Samples.{S, D, T, K, N}
+use Rattle.tender.specs.Samples.{S, D, T, K, N, OneInput, OneOutput}
 
 -- What is asked of a policy: to be prepared, or to enforce a stream "from the start" with the marks of prepare.
 pub data Asked : Type 0 where
@@ -80,13 +81,15 @@ cases =
       file = K;
       asked = enforced (0x00 ∷ 0x00 ∷ 0x00 ∷ 0x10 ∷ []);
       expected = released (0x00 ∷ 0x00 ∷ 0x00 ∷ 0x00 ∷ []);
-    } ∷ []
+    }
+    ∷ record { file = OneInput; asked = enforced (0x00 ∷ []); expected = released (0x02 ∷ []) }
+    ∷ record { file = OneOutput; asked = enforced (0x00 ∷ []); expected = released (0x20 ∷ []) } ∷ []
 
 pub marked-cases : map (λ c. said (c .file) (c .asked)) cases ≡ map (λ c. c .expected) cases
 unfolding
     cases runOf runRefusal marksRefusal stateRefusal stateGood clocksGood refusalOf inputsRefusal outputsRefusal clocksRefusal locationsRefusal
     rulesSectionRefusal sectionRefusal tagsGood among all rulesRefusal ruleRefusal headGood maskGood boundsGood boundGood policyOf outputsAt clocksAt
     locationsAt rulesAt rulesStart rulesEnd pairsFrom rulesFrom ruleFrom boundsFrom statesOf numberFrom locationFrom clocksFrom ran tick outputTick moved
-    outputChoice inputChoice mayStand reaches step decides fires hold within taken advance bind nearest better nearer distance any prepareOf preparedMarks
+    outputChoice inputChoice mayStand reaches step decides fires hold within taken advance bind nearest better nearer distance spares any prepareOf preparedMarks
     roundsBy roundBy keeps leadsTo stays someEvent Rules.rests tab ones onesIn
 marked-cases = refl

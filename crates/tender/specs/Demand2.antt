@@ -70,7 +70,7 @@ pub as-many : (p : Policy) (events : List ℕ) {rs : Stream} → ReleasedFor p e
 as-many p events h = instantaneity corrections (Permits p) _ _ h ∙ length-map events eventOf
 
 -- "one event is released for each one read: the input kept if some output lets the stream go on for ever, else the nearest such input (ties as 01
--- fixes them); then the output likewise. Nothing else is altered."
+-- fixes them); then the output likewise. Nothing else is altered." The ties are those of 02.
 pub record Released (p : Policy) (events before : List ℕ) (r : RunAnswer) : Type 0 where
   pub released : Stream
   pub enforced : ReleasedFor p events released

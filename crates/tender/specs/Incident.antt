@@ -10,7 +10,7 @@ use lib.ListN.{length, drop, replicate, length-append, length-replicate, length-
 use lib.Count.{ones, onesIn}
 use Rattle.streams.specs.Stream.{Stream}
 use Rattle.streams.specs.Choose.{any, nearest, better}
-use Rattle.streams.specs.Corrections.{distance, nearer}
+use Rattle.streams.specs.Corrections.{distance, nearer, spares}
 use Rattle.policy.specs.Rules.{Place, start, step, decides, fires, hold, within, taken, advance}
 use Rattle.policy.specs.Number.{states, statesOf, numberFrom, locationFrom, clocksFrom}
 use Rattle.policy.specs.File.{policyOf, outputsAt, clocksAt, locationsAt, rulesAt, rulesStart, rulesEnd, pairsFrom, rulesFrom, ruleFrom, boundsFrom}
@@ -52,7 +52,7 @@ live rest = 1 ∷ 1 ∷ 1 ∷ 1 ∷ rest
 runAt : List ℕ → ℕ → Stream → Ran
 unfolding
     policyOf outputsAt clocksAt locationsAt rulesAt rulesStart pairsFrom rulesFrom ruleFrom boundsFrom statesOf numberFrom locationFrom clocksFrom ran tick
-    outputTick moved outputChoice inputChoice mayStand reaches step decides fires hold within taken advance bind nearest better nearer distance any ones
+    outputTick moved outputChoice inputChoice mayStand reaches step decides fires hold within taken advance bind nearest better nearer distance spares any ones
     onesIn roundsBy roundBy keeps leadsTo stays someEvent Rules.rests tab
 runAt rest v = ran (policyOf K) (live rest) (clockAt v)
 

@@ -4,7 +4,7 @@ use mathlib.Core.List.{[], _∷_, _++_}
 use mathlib.Core.Option.{bind}
 use lib.Count.{ones, onesIn}
 use Rattle.streams.specs.Choose.{any, nearest, better}
-use Rattle.streams.specs.Corrections.{distance, nearer}
+use Rattle.streams.specs.Corrections.{distance, nearer, spares}
 use Rattle.policy.specs.Rules.{step, decides, fires, hold, within, taken, advance}
 use Rattle.policy.specs.Number.{statesOf, numberFrom, locationFrom, clocksFrom}
 use Rattle.policy.specs.File.{policyOf, outputsAt, clocksAt, locationsAt, rulesAt, rulesStart, rulesEnd, pairsFrom, rulesFrom, ruleFrom, boundsFrom}
@@ -28,6 +28,6 @@ unfolding
     runOf runRefusal marksRefusal stateRefusal stateGood clocksGood refusalOf inputsRefusal outputsRefusal clocksRefusal locationsRefusal
     rulesSectionRefusal sectionRefusal tagsGood among all rulesRefusal ruleRefusal headGood maskGood boundsGood boundGood policyOf outputsAt clocksAt
     locationsAt rulesAt rulesStart rulesEnd pairsFrom rulesFrom ruleFrom boundsFrom statesOf numberFrom locationFrom clocksFrom ran tick outputTick moved
-    outputChoice inputChoice mayStand reaches step decides fires hold within taken advance bind nearest better nearer distance any prepareOf
+    outputChoice inputChoice mayStand reaches step decides fires hold within taken advance bind nearest better nearer distance spares any prepareOf
     roundsBy roundBy keeps leadsTo stays someEvent Rules.rests tab ones onesIn
 sample = refl

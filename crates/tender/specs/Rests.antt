@@ -9,7 +9,7 @@ use lib.ListN.{replicate, length-replicate}
 use Rattle.streams.specs.Answer.{refused, gives}
 use Rattle.streams.specs.Stream.{Event}
 use Rattle.streams.specs.Choose.{any, nearest, better}
-use Rattle.streams.specs.Corrections.{distance, nearer}
+use Rattle.streams.specs.Corrections.{distance, nearer, spares}
 use Rattle.policy.specs.Rules.{Place, step, steps, decides, fires, hold, within, taken, advance, unlimited, Fits, fits-none, fits-more, Runs, Dead}
 use Rattle.policy.specs.Rules as Rules
 use Rattle.policy.specs.Number.{statesOf, numberFrom, locationFrom, clocksFrom}
@@ -83,7 +83,7 @@ unfolding
     restCases runOf runRefusal marksRefusal stateRefusal stateGood clocksGood refusalOf inputsRefusal outputsRefusal clocksRefusal locationsRefusal
     rulesSectionRefusal sectionRefusal tagsGood among all rulesRefusal ruleRefusal headGood maskGood boundsGood boundGood policyOf outputsAt clocksAt
     locationsAt rulesAt rulesStart rulesEnd pairsFrom rulesFrom ruleFrom boundsFrom statesOf numberFrom locationFrom clocksFrom ran tick outputTick moved
-    outputChoice inputChoice mayStand reaches step decides fires hold within taken advance bind nearest better nearer distance any prepareOf preparedMarks
+    outputChoice inputChoice mayStand reaches step decides fires hold within taken advance bind nearest better nearer distance spares any prepareOf preparedMarks
     roundsBy roundBy keeps leadsTo stays someEvent Rules.rests tab ones onesIn
 rest-cases = refl
 

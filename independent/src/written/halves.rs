@@ -40,6 +40,20 @@ const EITHER: &str = "02 41 42 00 00 01 00 00 02 \
     00 03 01 00 00 00 00 \
     00 03 02 00 00 00 00";
 
+/// Two outputs, of which just one must be set.
+const EITHER_OUT: &str = "00 02 41 42 00 01 00 00 02 \
+    00 00 00 03 01 00 00 \
+    00 00 00 03 02 00 00";
+
+/// Four inputs, of which just two must be set.
+const PAIRS: &str = "04 41 42 43 44 00 00 01 00 00 06 \
+    00 0F 03 00 00 00 00 \
+    00 0F 05 00 00 00 00 \
+    00 0F 06 00 00 00 00 \
+    00 0F 09 00 00 00 00 \
+    00 0F 0A 00 00 00 00 \
+    00 0F 0C 00 00 00 00";
+
 /// Three inputs, which must be 0 or 6.
 const NONE_OR_SIX: &str = "03 41 42 43 00 00 01 00 00 02 \
     00 07 00 00 00 00 00 \
@@ -75,7 +89,14 @@ fn inputs() -> Vec<Written> {
             1,
             gives(0),
         ),
-        input("0 between 1 and 2", EITHER, &[1], &START, 0, gives(1)),
+        input(
+            "0 between 1 and 2 keeps the first input",
+            EITHER,
+            &[1],
+            &START,
+            0,
+            gives(2),
+        ),
         input("3 between 1 and 2", EITHER, &[1], &START, 3, gives(1)),
         input(
             "7 is nearer to 6 than to 0",
@@ -94,12 +115,44 @@ fn inputs() -> Vec<Written> {
             gives(0),
         ),
         input(
-            "2 is one bit from both",
+            "2 is one bit from both, and 6 keeps the second input",
             NONE_OR_SIX,
             &[1],
             &START,
             2,
+            gives(6),
+        ),
+        input(
+            "4 is one bit from both, and 0 keeps the second input",
+            NONE_OR_SIX,
+            &[1],
+            &START,
+            4,
             gives(0),
+        ),
+        input(
+            "0 is two bits from all, and 12 keeps the first two",
+            PAIRS,
+            &[1],
+            &START,
+            0,
+            gives(12),
+        ),
+        input(
+            "15 is two bits from all, and 3 keeps the first two",
+            PAIRS,
+            &[1],
+            &START,
+            15,
+            gives(3),
+        ),
+        input(
+            "7 is one bit from 3, 5 and 6, and 3 keeps the first two",
+            PAIRS,
+            &[1],
+            &START,
+            7,
+            gives(3),
         ),
         input(
             "15 is nearer to 8 than to 0",
@@ -198,6 +251,16 @@ fn in_k(state: &[u16], y: u8) -> Ask<'_> {
     }
 }
 
+fn in_either(y: u8) -> Ask<'static> {
+    Ask {
+        file: EITHER_OUT,
+        marks: &[1],
+        state: &START,
+        x: 0,
+        y,
+    }
+}
+
 fn outputs() -> Vec<Written> {
     let waiting = |clock| [1, clock, 0, 0, 0];
     let clock = |clock| [0, clock, 0, 0, 0];
@@ -235,6 +298,19 @@ fn outputs() -> Vec<Written> {
             gives(0),
             &clock(3),
         ),
+        output(
+            "0 between 1 and 2 keeps the first output",
+            in_either(0),
+            gives(2),
+            &START,
+        ),
+        output(
+            "3 between 1 and 2 keeps the first output",
+            in_either(3),
+            gives(1),
+            &START,
+        ),
+        output("2 may stand", in_either(2), gives(2), &START),
         output(
             "T: marks as given let it go",
             Ask {

@@ -83,6 +83,13 @@ fn marked() -> Vec<Written> {
     ]
 }
 
+/// Two inputs and two outputs: of each just one must be set.
+const ONE_OF_TWO: &str = "02 41 42 02 43 44 00 01 00 00 04 \
+    00 03 01 03 01 00 00 \
+    00 03 01 03 02 00 00 \
+    00 03 02 03 01 00 00 \
+    00 03 02 03 02 00 00";
+
 fn beside_the_marked() -> Vec<Written> {
     let mut late = vec![0; 65_537];
     late.push(0x10);
@@ -116,6 +123,14 @@ fn beside_the_marked() -> Vec<Written> {
             &[0, 3, 0, 0, 0],
         ),
         stream("an empty stream", S, &[1], "", "", START),
+        stream(
+            "ties keep the first signals",
+            ONE_OF_TWO,
+            &[1],
+            "00 03 30 33 12",
+            "22 21 12 11 12",
+            START,
+        ),
         run("bytes past the released stay", longer, 1 << 8, &[1], &START),
         run(
             "D from a pending state",

@@ -1,7 +1,7 @@
 -- `enforcer::choose::nearest` meets its contract. The loop's invariant: `best` and `far` are what the values below `z` give.
 use mathlib.Core.Path.{_≡_, sym, _∙_}
 use mathlib.Core.Logic.{⊎-elim}
-use Prim.Native.Nat.{_-_, _≤_}
+use Prim.Native.Nat.{_-_, _≤_, _<_}
 use native.Mathlib.Omega.{arith}
 use borrow.Author.Needs.{needs}
 use Rattle.enforcer.proofs.ChooseLaws.{Best, best-starts, best-stays, best-passes, best-moves, best-found, best-unfound}
@@ -28,6 +28,9 @@ cast-value c = search needs
 distance-requires : tie.Need-distance-requires Inv-loop μ-loop
 distance-requires c κs = search needs
 
+comes-first-requires : tie.Need-comes-first-requires Inv-loop μ-loop
+comes-first-requires c κs = search needs
+
 is-in-requires : tie.Need-is-in-requires Inv-loop μ-loop
 is-in-requires c κs = search needs
 
@@ -39,11 +42,13 @@ loop-less c = search needs
 
 loop-again : tie.Need-loop-again Inv-loop μ-loop
 loop-again c =
-    let b = c .before .before .before .loop .inv .1 in
-    let d = c .before .distance .ensures in (
+    let b = c .before .before .before .before .loop .inv .1 in
+    let d = c .before .before .distance .ensures in
+    let f = sym (c .before .comes-first .ensures) in
+    let l : c .before .before .before .before .loop .z < 256 = omega arith in (
       omega arith,
-      ⊎-elim (λ w. rw (w .3, w .4) (best-moves _ _ b d (w .0 .taken) (sym (w .1 .ensures) ∙ w .2 .taken)))
-          (⊎-elim (λ w. rw (w .3, w .4) (best-passes _ _ b (sym (w .1 .ensures) ∙ w .2 .left))) (λ w. rw (w .1, w .2) (best-stays _ _ b d (w .0 .left))))
+      ⊎-elim (λ w. rw (w .3, w .4) (best-moves _ _ l b d (f ∙ w .0 .taken) (sym (w .1 .ensures) ∙ w .2 .taken)))
+          (⊎-elim (λ w. rw (w .3, w .4) (best-passes _ _ b (sym (w .1 .ensures) ∙ w .2 .left))) (λ w. rw (w .1, w .2) (best-stays _ _ l b d (f ∙ w .0 .left))))
           (c .if1 .came),
     )
 
@@ -62,6 +67,7 @@ nearest-spec =
     loop-holds
     cast-value
     distance-requires
+    comes-first-requires
     is-in-requires
     add-z
     loop-less
