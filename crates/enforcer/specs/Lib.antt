@@ -11,6 +11,7 @@ pub mod Chosen
 pub mod Arrived
 pub mod Promises
 pub mod Sets
+pub mod Table
 pub mod Outs
 pub mod Ways
 pub mod Changed

@@ -4,21 +4,21 @@ use crate::pass::may_stand;
 use crate::pass::row;
 use crate::reach::values;
 use crate::state::State;
+use crate::table::NEAREST_FIRST;
 use policy::Layout;
 use policy::Own;
 ghost use mathlib.Core.Path.{_≡_};
-ghost use mathlib.Core.Bool.{cond};
 ghost use Prim.Native.Nat.{ℕ, _≤_, _<_};
 ghost use lib.Dec.{eqb, ltb};
 ghost use lib.ListN.{getD};
 ghost use Rattle.streams.specs.Choose.{nearest};
-ghost use Rattle.streams.specs.Corrections.{distance, spares};
-ghost use Rattle.policy.specs.Rules.{inputValues};
+ghost use Rattle.policy.specs.Rules.{inputValues, outputValues};
 ghost use Rattle.policy.specs.File.{policyOf};
 ghost use Rattle.enforcer.specs.Tick.{inputChoice, outputChoice};
 ghost use Rattle.enforcer.specs.Code.{place};
 ghost use Rattle.enforcer.specs.Ready.{Ready};
 ghost use Rattle.enforcer.specs.Sets.{has};
+ghost use Rattle.enforcer.specs.Table.{table};
 ghost use Rattle.enforcer.specs.Chosen.{choiceSaid};
 
 pub enum Choice {
@@ -34,68 +34,31 @@ fn is_in(set: u16, value: u8) -> bool
     (set >> value) % 2 == 1
 }
 
-// In how many bits two values differ.
-fn distance(wanted: u8, value: u8) -> u32
-    ensures { λ r. ⌜ (r ≡ distance wanted value) × (r ≤ 8) ⌝ }
-{
-    u8::count_ones(wanted ^ value) as u32
-}
-
-// At the first bit in which the value and the best so far differ, the value is as wanted.
-fn spares(wanted: u8, value: u8, best: u8) -> bool
-    ensures { λ r. ⌜ r ≡ spares 8 wanted value best ⌝ }
-{
-    let mut w = wanted;
-    let mut a = value;
-    let mut b = best;
-    let mut left = 8u32;
-    while 0 < left {
-        if a % 2 != b % 2 {
-            return a % 2 == w % 2;
-        }
-        w = w / 2;
-        a = a / 2;
-        b = b / 2;
-        left -= 1;
-    }
-    false
-}
-
-// The value, `away` bits from the wanted one, takes the place of the best so far, `far` bits from it.
-fn comes_first(wanted: u8, value: u8, away: u32, best: u8, far: u32) -> bool
-    ensures { λ r. ⌜ r ≡ cond (eqb away far) (spares 8 wanted value best) (ltb away far) ⌝ }
-{
-    if away == far {
-        spares(wanted, value, best)
-    } else {
-        away < far
-    }
-}
-
-// Of the values below n in the set, the one nearest to the wanted one.
-fn nearest(set: u16, wanted: u8, n: usize) -> Choice
-    requires { ⌜ n ≤ 16 ⌝ }
+// Of the values below n in the set, the first of the wanted value's row. The table is lent: a constant is laid out anew wherever it is read.
+fn first_of_row(rows: &[u8; 256], set: u16, wanted: u8, n: usize) -> Choice
+    requires { ⌜ (now rows ≡ table) × (wanted < 16) × (n ≤ 16) ⌝ }
     ensures { λ r. ⌜ choiceSaid r ≡ nearest (has set) wanted n ⌝ }
 {
-    let mut best = 0u8;
-    let mut far = 9u32;
-    let mut z = 0;
-    while z < n {
-        let value = z as u8;
-        let away = distance(wanted, value);
-        if comes_first(wanted, value, away, best, far) {
+    let start = wanted as usize * 16;
+    let mut i = 0;
+    while i < 16 {
+        let value = rows[start + i];
+        if (value as usize) < n {
             if is_in(set, value) {
-                best = value;
-                far = away;
+                return Choice::Value(value);
             }
         }
-        z += 1;
+        i += 1;
     }
-    if far < 9 {
-        Choice::Value(best)
-    } else {
-        Choice::Nothing
-    }
+    Choice::Nothing
+}
+
+// Of the values below n in the set, the one nearest to the wanted one: the first of its row.
+fn nearest(set: u16, wanted: u8, n: usize) -> Choice
+    requires { ⌜ (wanted < 16) × (n ≤ 16) ⌝ }
+    ensures { λ r. ⌜ choiceSaid r ≡ nearest (has set) wanted n ⌝ }
+{
+    first_of_row(&NEAREST_FIRST, set, wanted, n)
 }
 
 // 1 for a set that is not empty, else 0.
@@ -147,7 +110,7 @@ pub(crate) fn choose_output(
     x: u8,
     y: u8,
 ) -> Choice
-    requires { ⌜ Ready (now file) layout own (now marks) state ⌝ }
+    requires { ⌜ Ready (now file) layout own (now marks) state × (y < outputValues (policyOf (now file))) ⌝ }
     ensures { λ r. ⌜ choiceSaid r ≡ outputChoice (policyOf (now (file .entry))) (now (marks .entry)) (place (layout .clocks) state) x y ⌝ }
 {
     nearest(

@@ -9,6 +9,7 @@ mod reach;
 mod runs;
 mod sets;
 mod state;
+mod table;
 mod tick;
 
 pub use halves::Answer;
