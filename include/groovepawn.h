@@ -67,7 +67,7 @@ extern "C" {
 /*
  * Checks the policy and writes one mark for each state. Refusals 1 to 11.
  * Returns refusal | verdict << 8 | states << 16 | live << 40: how many states there are and how many are live.
- * Verdict 0: every state is live. Verdict 1: the start is live and some state is not.
+ * Verdict 0: every state that some permitted stream from the start leads to is live. Verdict 1: the start is live and one such state is not.
  * Refusals 1 to 10 leave marks as it was. Refusal 11 leaves it as success does.
  */
 uint64_t groovepawn_prepare(const uint8_t *file, size_t file_len, uint8_t *marks, size_t marks_len);

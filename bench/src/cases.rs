@@ -31,6 +31,7 @@ pub fn all() -> Vec<Case> {
         prepare("a third dies", policies::third_dies()),
         prepare("most die", policies::most_die()),
         prepare("all die", policies::all_die()),
+        prepare("the dead not reached", policies::apart()),
         prepare("the longest file", policies::long()),
     ];
     let joins = [

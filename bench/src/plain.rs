@@ -9,6 +9,7 @@ mod enforcer;
 mod join;
 mod policy;
 mod prepare;
+mod reached;
 // The scope document's numbers, some of which no function here gives.
 #[allow(dead_code)]
 #[path = "../../independent/src/refusal.rs"]

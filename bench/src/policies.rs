@@ -220,6 +220,19 @@ pub fn lasting() -> Policy {
     policy
 }
 
+/// As many states, of which those of the last location die, since it has no
+/// rules. No rule enters it, and streams lead to all other states.
+pub fn apart() -> Policy {
+    let mut policy = lasting();
+    let ring = policy.locations.len() as u8 - 1;
+    policy.rules.retain(|rule| rule.source < ring);
+    for (number, rule) in policy.rules.iter_mut().enumerate() {
+        rule.target %= ring;
+        rule.reset = number as u8 % 4;
+    }
+    policy
+}
+
 /// Two small policies to be joined.
 pub fn small_pair() -> (Policy, Policy) {
     (short(), short())
@@ -346,6 +359,17 @@ mod tests {
         let prepared = prepare_policy(&lasting());
         assert_eq!((prepared.states, prepared.live), (65_536, 65_536));
         assert_eq!(lasting().rules.len(), 256);
+    }
+
+    #[test]
+    fn where_the_dead_are_apart_all_others_are_reached() {
+        let prepared = prepare_policy(&apart());
+        assert_eq!((prepared.states, prepared.live), (65_536, 64_512));
+        assert_eq!(prepared.verdict, 0);
+        // With one way into the last location more.
+        let mut entered = apart();
+        entered.rules[200].target = 63;
+        assert_eq!(prepare_policy(&entered).verdict, 1);
     }
 
     #[test]

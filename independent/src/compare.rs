@@ -162,6 +162,7 @@ mod tests {
         EveryLocationRests,
         LocationOneIsRefused,
         InventLiveCount,
+        EveryStateCounts,
         MarkPastTheStates,
         WriteMarksOnlyOnSuccess,
         AnyMarkIsLive,
@@ -176,7 +177,7 @@ mod tests {
         Stray,
     }
 
-    const FAULTS: [Fault; 19] = [
+    const FAULTS: [Fault; 20] = [
         Fault::RefuseAlways,
         Fault::ForwardEverything,
         Fault::SmallestAmongEquals,
@@ -184,6 +185,7 @@ mod tests {
         Fault::EveryLocationRests,
         Fault::LocationOneIsRefused,
         Fault::InventLiveCount,
+        Fault::EveryStateCounts,
         Fault::MarkPastTheStates,
         Fault::WriteMarksOnlyOnSuccess,
         Fault::AnyMarkIsLive,
@@ -251,6 +253,10 @@ mod tests {
             }
             if self.has(Fault::WriteMarksOnlyOnSuccess) && answer as u8 == 11 {
                 marks.copy_from_slice(&before);
+            }
+            if self.has(Fault::EveryStateCounts) && answer as u8 == 0 {
+                let all_live = (answer >> 40) as usize == states;
+                return answer & !0xFF00 | u64::from(!all_live) << 8;
             }
             match self.has(Fault::InventLiveCount) && answer as u8 == 0 {
                 true => answer & 0xFF_FFFF_FFFF | 1 << 40,

@@ -45,6 +45,8 @@ fn tables_of_the_samples() {
     assert_eq!(prepared(D), Ok((0, 8, 8)));
     assert_eq!(prepared(T), Ok((1, 2, 1)));
     assert_eq!(prepared(N), Err(Refusal::StartNotLive));
+    let beside = S.replacen("00 01 00 00 03", "00 02 00 00 00 03", 1);
+    assert_eq!(prepared(&beside), Ok((0, 2, 1)));
 }
 
 /// A begins what B must be able to finish, and what can be finished only

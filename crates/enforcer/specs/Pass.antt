@@ -1,6 +1,6 @@
 -- One pass over a location's own rules, as the code makes it: what each rule takes, and what is known before and after it.
 use mathlib.Core.Path.{_≡_, refl, sym, ap, ap₂, _∙_, subst}
-use mathlib.Core.Bool.{Bool, true, false, cond, _&&_, and-eq-true-iff, or-true}
+use mathlib.Core.Bool.{Bool, true, false, cond, _&&_, and-eq-true-iff, or-true, false≢true}
 use mathlib.Core.List.{List, [], _∷_}
 use Prim.Native.Nat.{ℕ, zero, suc, _+_, _-_, _*_, _≤_, _<_}
 use native.Mathlib.Nat.{suc-mul, mul-le-mul-right}
@@ -18,6 +18,8 @@ use Rattle.policy.specs.Parts.{rules-part}
 use Rattle.policy.specs.Own.{below, level, own, ownOf}
 use Rattle.policy.specs.declared.Layout.{Layout}
 use Rattle.policy.specs.declared.own.Own.{Own}
+use Rattle.policy.specs.Number.{states}
+use Rattle.enforcer.specs.State.{isMarked}
 use Rattle.enforcer.specs.Tick.{mayStand}
 use Rattle.enforcer.specs.Ready.{Laid}
 use Rattle.enforcer.specs.Laid.{laid-well, laid-clocks, own-fits, own-rules}
@@ -154,6 +156,61 @@ module _ (s : Place) (p : Policy) (marks : List ℕ) where
   gathering-nothing k g =
       allowed-any p k marks s
       ∙ any-fails _ (inputValues p) (λ x h. ap (ltb 0) (sym (gathering-done g x) ∙ zeros 16 x))
+
+-- Where the rules lead, whatever is marked.
+module _ (s : Place) (p : Policy) where
+  -- The rule r leads to the state with the number `to`, or nowhere.
+  pub record Led (r : Rule) (some : Bool) (to : ℕ) : Type 0 where
+    pub mark : (marks : List ℕ) → leads s p marks r ≡ (some && isMarked marks to)
+    pub below : some ≡ true → to < states p
+
+  -- What the rule r takes of the first n sets, and where it leads if it takes something.
+  pub record Turned (r : Rule) (n : ℕ) (left rest : List ℕ) (some : Bool) (to : ℕ) : Type 0 where
+    pub went : (marks : List ℕ) → Went s p marks r n left rest (some && isMarked marks to)
+    pub below : some ≡ true → to < states p
+
+  pub turned-as : {r : Rule} {n m : ℕ} {left rest : List ℕ} {some : Bool} {to : ℕ} → n ≡ m → Turned r n left rest some to → Turned r m left rest some to
+  turned-as {r} {left = left} {rest = rest} {some = some} {to = to} e w = subst (λ (k : ℕ). Turned r k left rest some to) e w
+
+  pub turned-not : {r : Rule} {n : ℕ} {left : List ℕ} {to : ℕ} → holds s r ≡ false → Turned r n left left false to
+  turned-not e = record { went = λ marks. went-not s p marks e; below = λ q. absurd (false≢true q) }
+
+  module _ {r : Rule} {n : ℕ} {left rest : List ℕ} {some : Bool} (e : holds s r ≡ true)
+      (k : Took (r .inCare) (r .inValue) (outs (r .outCare) (r .outValue)) n left rest some) where
+    pub turned-nothing : {to : ℕ} → some ≡ false → Turned r n left rest false to
+    turned-nothing q = record { went = λ marks. went-took s p marks e k (rw q); below = λ d. absurd (false≢true d) }
+
+    pub turned-took : {leads : Bool} {to : ℕ} → some ≡ true → Led r leads to → Turned r n left rest leads to
+    turned-took q w = record { went = λ marks. went-took s p marks e k (rw (q, w .mark marks)); below = w .below }
+
+  -- What is known with the rules rs still to come, if the states of the kind F are found: no rule passed leads to another.
+  pub record Passing (F : ℕ → Type 0) (rs : List Rule) (left : List ℕ) : Type 0 where
+    pub gathering : (marks : List ℕ) → ((t : ℕ) → F t → isMarked marks t ≡ false) → Gathering s p marks rs left (replicate 16 0)
+
+  -- Before the first rule.
+  pub passing-start : WellFormed p → (F : ℕ → Type 0) (rs : List Rule) → rs ≡ own (s .location) (p .rules) → (left : List ℕ) →
+      Changed (λ x. allBelow (outputValues p)) (inputValues p) (replicate 16 0) left → Passing F rs left
+  passing-start k F rs e left c = record { gathering = λ marks h. gathering-start s p marks k rs e left c }
+
+  module _ {F : ℕ → Type 0} {r : Rule} {rs : List Rule} {left rest : List ℕ} {some : Bool} {to : ℕ} (g : Passing F (r ∷ rs) left)
+      (w : Turned r (inputValues p) left rest some to) where
+    -- One rule more: what it leads to is found now.
+    pub passing-more : (E : ℕ → Type 0) → ((t : ℕ) → F t → E t) → (some ≡ true → E to) → Passing E rs rest
+    passing-more E keeps found = record { gathering = λ marks h. gathering-on s p marks (g .gathering marks (λ t f. h t (keeps t f))) (on marks h some refl (w .went marks)) }
+      where
+        on : (marks : List ℕ) → ((t : ℕ) → E t → isMarked marks t ≡ false) → (b : Bool) → some ≡ b → Went s p marks r (inputValues p) left rest (b && isMarked marks to) → Went s p marks r (inputValues p) left rest false
+        on marks h true e v = rw (h to (found e)) at v
+        on marks h false e v = v
+
+    -- It leads to a state that was not found: some event does, by marks that have that state alone.
+    pub passing-found : WellFormed p → some ≡ true → (marks : List ℕ) → ((t : ℕ) → F t → isMarked marks t ≡ false) → isMarked marks to ≡ true →
+        any (mayStand p marks s) (inputValues p) ≡ true
+    passing-found k e marks h m = gathering-found s p marks k (g .gathering marks h) (rw (e, m) at (w .went marks))
+
+  -- After the last rule: no event leads to a state that was not found.
+  pub passing-done : WellFormed p → {F : ℕ → Type 0} {left : List ℕ} → Passing F [] left → (marks : List ℕ) →
+      ((t : ℕ) → F t → isMarked marks t ≡ false) → any (mayStand p marks s) (inputValues p) ≡ false
+  passing-done k g marks h = gathering-nothing s p marks k (g .gathering marks h)
 
 -- One row: x alone.
 module _ (s : Place) (p : Policy) (marks : List ℕ) (x : ℕ) where

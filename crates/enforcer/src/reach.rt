@@ -15,7 +15,7 @@ ghost use Rattle.enforcer.specs.Arrived.{arrival};
 ghost use Rattle.enforcer.specs.Ready.{Laid, Ready};
 
 // How many values so many signals have, one bit a signal.
-pub(crate) fn values(signals: usize) -> usize
+pub fn values(signals: usize) -> usize
     requires { ⌜ signals ≤ 4 ⌝ }
     ensures { λ r. ⌜ r ≡ 2 ^ signals ⌝ }
 {

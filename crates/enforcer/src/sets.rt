@@ -43,7 +43,7 @@ pub(crate) fn all_below(n: usize) -> u16
 }
 
 // For each input in range, all outputs in range.
-pub(crate) fn room(inputs: usize, outputs: usize) -> [u16; 16]
+pub fn room(inputs: usize, outputs: usize) -> [u16; 16]
     requires { ⌜ (inputs ≤ 16) × (outputs ≤ 16) ⌝ }
     ensures { λ r. ⌜ Changed (λ x. allBelow outputs) inputs (replicate 16 0) r ⌝ }
 {

@@ -5,17 +5,18 @@ use mathlib.Core.List.{List}
 use Prim.Native.Nat.{ℕ, zero, suc, _≤_, _<_}
 use native.Mathlib.Nat.{le-refl}
 use native.Mathlib.Omega.{arith}
-use lib.Dec.{eqb}
 use lib.ListN.{length}
 use Rattle.streams.specs.Answer.{gives, _orElse_, unless, given-only, none-refused, unless-le, else-le}
+use Rattle.policy.specs.Rules.{start}
 use Rattle.policy.specs.File.{policyOf}
-use Rattle.policy.specs.Number.{states}
+use Rattle.policy.specs.Number.{numberOf}
 use Rattle.policy.specs.Checked.{frame, longest, checked-file}
 use Rattle.enforcer.specs.Entries.{marksRefusal}
 use Rattle.enforcer.specs.States.{marks-granted}
 use Rattle.enforcer.specs.Refusals.{marks-le}
-use Rattle.prepare.specs.Table.{marksOf, liveCount}
+use Rattle.prepare.specs.Table.{machineOf, marksOf}
 use Rattle.resting.specs.Marks.{total-le}
+use Rattle.resting.specs.Reached.{strayOf}
 use Rattle.prepare.specs.Live.{marks-length, marks-bits}
 use Rattle.prepare.specs.Entry.{Summary, prepareOf}
 use Rattle.join.specs.Entry.{joinRefusal, joinedFile, joinOf}
@@ -27,7 +28,7 @@ pub record Small (s : Summary) : Type 0 where
   pub states : s .states ≤ 65536
   pub live : s .live ≤ 65536
 
-bit-small : (t : Bool) → cond t 0 1 ≤ 1
+bit-small : (t : Bool) → cond t 1 0 ≤ 1
 bit-small true = omega arith
 bit-small false = omega arith
 
@@ -40,7 +41,7 @@ summary-small file marks s e =
     let passed = marks-granted file marks .0 (none-refused (marksRefusal file marks) _ .0 (k .0) .0) .0 in
     let few = checked-file file passed .states in
     subst Small (k .1) (record {
-      verdict = bit-small (eqb (liveCount p) (states p));
+      verdict = bit-small (strayOf (machineOf p) (marksOf p) (numberOf p (start p)));
       states = few;
       live = omega (arith, total-le (marksOf p) (marks-bits p), marks-length p);
     })

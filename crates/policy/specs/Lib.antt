@@ -7,6 +7,7 @@ pub mod Sound
 pub mod Numbered
 pub mod Checked
 pub mod Stays
+pub mod Reached
 pub mod Parts
 pub mod Own
 pub mod Bytes

@@ -3,6 +3,8 @@ pub mod Entry
 pub mod Live
 pub mod Enforces
 pub mod Engine
+pub mod Search
 pub mod Promise
 pub mod Counted
+pub mod Reached
 pub mod Judged

@@ -7,4 +7,5 @@ pub mod Keeps
 pub mod Leads
 pub mod Live
 pub mod Clear
+pub mod Reached
 pub mod Always

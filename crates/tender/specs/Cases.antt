@@ -1,5 +1,5 @@
--- The twelve marked cases of 01, then 02's own ("when x is 0 and only 1 and 2 may stand, the answer is 2") and its like for outputs: one list, one
--- statement, by computation.
+-- The twelve marked cases of 01, then those of 02: "when x is 0 and only 1 and 2 may stand, the answer is 2" and its like for outputs; "S with a second
+-- location that no rule enters and that has no rules becomes 0", where "Sample T stays verdict 1". One list, one statement, by computation.
 use mathlib.Core.Path.{_≡_, refl}
 use mathlib.Core.List.{List, [], _∷_, map}
 use Prim.Native.Nat.{ℕ, zero, suc}
@@ -20,7 +20,7 @@ use Rattle.resting.specs.Table.{roundsBy, roundBy, tab}
 use Rattle.policy.specs.Rules as Rules
 use Rattle.resting.specs.Keeps.{keeps, leadsTo, stays, someEvent}
 use Rattle.prepare.specs.Entry.{Summary, prepareOf, preparedMarks}
-use Rattle.tender.specs.Samples.{S, D, T, K, N, OneInput, OneOutput}
+use Rattle.tender.specs.Samples.{S, D, T, K, N, OneInput, OneOutput, Unentered}
 
 -- What is asked of a policy: to be prepared, or to enforce a stream "from the start" with the marks of prepare.
 pub data Asked : Type 0 where
@@ -83,7 +83,8 @@ cases =
       expected = released (0x00 ∷ 0x00 ∷ 0x00 ∷ 0x00 ∷ []);
     }
     ∷ record { file = OneInput; asked = enforced (0x00 ∷ []); expected = released (0x02 ∷ []) }
-    ∷ record { file = OneOutput; asked = enforced (0x00 ∷ []); expected = released (0x20 ∷ []) } ∷ []
+    ∷ record { file = OneOutput; asked = enforced (0x00 ∷ []); expected = released (0x20 ∷ []) }
+    ∷ record { file = Unentered; asked = prepared; expected = summary 0 2 1 } ∷ []
 
 pub marked-cases : map (λ c. said (c .file) (c .asked)) cases ≡ map (λ c. c .expected) cases
 unfolding

@@ -13,6 +13,7 @@ pub fn all() -> Vec<Written> {
         rule_heads(),
         bounds(),
         whole_files(),
+        verdicts(),
     ]
     .into_iter()
     .flatten()
@@ -303,7 +304,7 @@ fn whole_files() -> Vec<Written> {
             "dying is passed back 1,001 times",
             ageing,
             2_004,
-            found(1, 2_004, 1_002),
+            found(0, 2_004, 1_002),
             &aged,
         ),
         refused(8, "N and a byte", &left_over(N)),
@@ -333,8 +334,81 @@ fn whole_files() -> Vec<Written> {
             "dying is passed back",
             no_way_back,
             3,
+            found(0, 3, 1),
+            &[1, 0, 0],
+        ),
+    ]
+}
+
+/// S with a second location that no rule enters and that has no rules.
+const S_BESIDE: &str = "02 41 42 01 52 00 02 00 00 00 03 \
+    00 03 03 00 00 00 FF \
+    00 02 02 01 01 00 FF \
+    00 00 00 00 00 00 00";
+
+/// A leads from location 0 to 1, and from there everything to 2, which has no
+/// rule.
+const TWO_STEPS: &str = "01 41 00 00 03 00 00 00 00 03 \
+    00 01 01 00 00 00 01 \
+    00 00 00 00 00 00 00 \
+    01 00 00 00 00 00 02";
+
+/// As T, but the rule before takes all that would lead to location 1.
+const TAKEN_BEFORE: &str = "01 41 01 42 00 02 00 00 00 02 \
+    00 00 00 00 00 00 00 \
+    00 01 01 00 00 00 01";
+
+/// Location 0 resets its clock always; with A it would lead to location 1 if
+/// the clock were 1 or more.
+const NEVER_ONE: &str = "01 41 00 01 00 03 02 00 00 00 02 \
+    00 01 01 00 00 00 01 00 01 FF FF \
+    00 00 00 00 00 01 00 00 00 FF FF";
+
+/// Location 0 leads to itself, and its clock goes on; at 3 it is due to be set
+/// back. Past that there is no rule, but no stream comes there.
+const SET_BACK: &str = "00 00 01 00 05 01 00 00 02 \
+    00 00 00 00 00 00 00 00 00 00 02 \
+    00 00 00 00 00 01 00 00 03 00 03";
+
+/// Only states that a permitted stream from the start leads to count for the
+/// verdict.
+fn verdicts() -> Vec<Written> {
+    let location_0 = [1, 1, 1, 1, 0, 0, 0, 0];
+    vec![
+        prepare(
+            "S with a location never entered",
+            S_BESIDE,
+            2,
+            found(0, 2, 1),
+            &[1, 0],
+        ),
+        prepare(
+            "two steps to the end",
+            TWO_STEPS,
+            3,
             found(1, 3, 1),
             &[1, 0, 0],
+        ),
+        prepare(
+            "a rule that decides no event leads nowhere",
+            TAKEN_BEFORE,
+            2,
+            found(0, 2, 1),
+            &[1, 0],
+        ),
+        prepare(
+            "a clock value that never comes",
+            NEVER_ONE,
+            8,
+            found(0, 8, 4),
+            &location_0,
+        ),
+        prepare(
+            "clock values past the last",
+            SET_BACK,
+            6,
+            found(0, 6, 4),
+            &[1, 1, 1, 1, 0, 0],
         ),
     ]
 }

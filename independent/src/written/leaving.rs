@@ -283,7 +283,7 @@ fn together() -> Vec<Written> {
             "at rest together at even ticks",
             EVEN_EVEN,
             4,
-            found(1, 4, 2),
+            found(0, 4, 2),
             &[1, 0, 0, 1],
         ),
         joins::gives("the unit rests everywhere", EVEN, UNIT, EVEN),

@@ -1,114 +1,18 @@
--- `enforcer::pass::go_by` meets its contract: a rule whose bounds do not hold takes nothing, and else its bytes say what it takes.
-use mathlib.Core.Path.{sym, _∙_}
+-- `enforcer::pass::go_by` meets its contract: what is left is what `way_by` leaves, and the mark of the state that it leads to says the rest.
 use native.Mathlib.Omega.{arith}
-use borrow.Author.Needs.{needs}
-use borrow.Author.Tests.{not-true, not-false}
-use denote.Ref.{now}
-use Rattle.policy.specs.File.{ruleFrom}
-use Rattle.enforcer.specs.Laid.{laid-limits}
-use Rattle.enforcer.specs.Outs.{outs}
-use Rattle.enforcer.specs.Changed.{Took}
-use Rattle.enforcer.specs.Pass.{went-not, went-took}
-use Rattle.enforcer.proofs.WayLaws.{rule-holds}
 use Rattle.enforcer.proofs.pass.go_by.Statement.{statement}
 use Rattle.enforcer.proofs.pass.go_by.Tie as tie
 
--- What the rule takes, by its bytes.
-took : (c : tie.After-take) →
-    let a = c .before .before .before .before .before .before .before .before .before .before .before .args in
-    let r = ruleFrom (a .layout .clocks) (now (a .file)) (a .at) in
-    Took (r .inCare) (r .inValue) (outs (r .outCare) (r .outValue)) (a .inputs) (a .left) (c .take .result .left) (c .take .result .some)
-unfolding ruleFrom
-took c =
-    let d = c .before .before in
-    rw (
-      ← d .byte-within3 .ensures .0,
-      ← c .before .byte-within4 .ensures .0,
-      ← d .before .before .before .byte-within .ensures .0,
-      ← d .before .before .byte-within2 .ensures .0,
-      ← d .before .outs .ensures,
-    )
-    (c .take .ensures)
+way-by-requires : tie.Need-way-by-requires
+way-by-requires c κs = let s = c .before .before in (s .pre .0 .laid, s .pre .0 .inside, s .pre .1, s .pre .2)
 
-add-bounds-hold : tie.Need-add-bounds-hold
-add-bounds-hold c = search needs
-
-bounds-hold-requires : tie.Need-bounds-hold-requires
-bounds-hold-requires c κs =
-    let s = c .before .before .before in
-    omega (arith, laid-limits (s .pre .0 .laid), s .pre .1 .ends, s .pre .1 .short)
+is-marked-requires : tie.Need-is-marked-requires
+is-marked-requires c κs = λ q.
+    let w = c .before .before in
+    omega (arith, w .way-by .ensures .below q, w .before .before .before .pre .0 .enough)
 
 returns : tie.Need-returns
-returns c =
-    let s = c .before .before .before .before .before in
-    went-not _ _ _ (rule-holds (s .args .state) (s .pre .1) _ (sym (c .before .bounds-hold .ensures) ∙ not-true _ (c .if1 .taken)))
-
-add-byte-within : tie.Need-add-byte-within
-add-byte-within c = search needs
-
-byte-within-requires : tie.Need-byte-within-requires
-byte-within-requires c κs = search needs
-
-add-byte-within-2 : tie.Need-add-byte-within-2
-add-byte-within-2 c = search needs
-
-byte-within-requires-2 : tie.Need-byte-within-requires-2
-byte-within-requires-2 c κs = search needs
-
-outs-requires : tie.Need-outs-requires
-outs-requires c κs = search needs
-
-add-byte-within-3 : tie.Need-add-byte-within-3
-add-byte-within-3 c = search needs
-
-byte-within-requires-3 : tie.Need-byte-within-requires-3
-byte-within-requires-3 c κs = search needs
-
-add-byte-within-4 : tie.Need-add-byte-within-4
-add-byte-within-4 c = search needs
-
-byte-within-requires-4 : tie.Need-byte-within-requires-4
-byte-within-requires-4 c κs = search needs
-
-take-requires : tie.Need-take-requires
-take-requires c κs = search needs
-
-returns-2 : tie.Need-returns-2
-returns-2 c =
-    let d = c .before .before .before in
-    let e = d .before .before .before .before .before .before in
-    let s = e .before .before .before .before .before in
-    went-took _ _ _ (rule-holds (s .args .state) (s .pre .1) _ (sym (e .before .bounds-hold .ensures) ∙ not-false _ (e .if1 .left)))
-    (took d) (rw (not-true (d .take .result .some) (c .if2 .taken)))
-
-leads-requires : tie.Need-leads-requires
-leads-requires c κs = search needs
-
-returns-3 : tie.Need-returns-3
-returns-3 c =
-    let d = c .before .before .before .before in
-    let e = d .before .before .before .before .before .before in
-    let s = e .before .before .before .before .before in
-    went-took _ _ _ (rule-holds (s .args .state) (s .pre .1) _ (sym (e .before .bounds-hold .ensures) ∙ not-false _ (e .if1 .left)))
-    (took d) (rw (not-false (d .take .result .some) (c .before .if2 .left)) (c .leads .ensures))
+returns c = rw (c .is-marked .ensures) (c .before .before .before .way-by .ensures .went _)
 
 pub go-by-spec : {M : Type 1} → statement M
-go-by-spec =
-    tie.close
-    (tie.spec
-    add-bounds-hold
-    bounds-hold-requires
-    returns
-    add-byte-within
-    byte-within-requires
-    add-byte-within-2
-    byte-within-requires-2
-    outs-requires
-    add-byte-within-3
-    byte-within-requires-3
-    add-byte-within-4
-    byte-within-requires-4
-    take-requires
-    returns-2
-    leads-requires
-    returns-3)
+go-by-spec = tie.close (tie.spec way-by-requires is-marked-requires returns)

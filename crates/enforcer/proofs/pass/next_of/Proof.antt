@@ -1,0 +1,88 @@
+-- `enforcer::pass::next_of` meets its contract: a violation leads nowhere, and else the number is that of the next state.
+use mathlib.Core.Path.{_≡_, sym, _∙_}
+use mathlib.Core.Bool.{false≢true}
+use mathlib.Core.List.{List, []}
+use Prim.Native.Nat.{ℕ}
+use native.Mathlib.Omega.{arith}
+use lib.ListN.{length}
+use borrow.Author.Needs.{needs}
+use denote.Ref.{now}
+use Rattle.policy.specs.File.{policyOf, ruleFrom}
+use Rattle.policy.specs.Number.{numberFrom}
+use Rattle.enforcer.specs.Code.{place}
+use Rattle.enforcer.specs.Laid.{Numbered, laid-limits, laid-well}
+use Rattle.enforcer.specs.Ways.{leads}
+use Rattle.enforcer.proofs.WayLaws.{leads-violation, leads-next}
+use Rattle.enforcer.proofs.pass.next_of.Statement.{statement}
+use Rattle.enforcer.proofs.pass.next_of.Tie as tie
+
+-- Both arrays hold four numbers.
+lengths : (s : tie.Start) → (length (s .args .layout .ceilings) ≡ 4) × (length (s .args .state .clocks) ≡ 4)
+lengths s = search needs
+
+-- The next state has a number, and by whichever marks its mark says whether the rule leads to a marked one.
+numbered : (c : tie.After-advanced) (marks : List ℕ) →
+    let a = c .before .before .before .before .before .before .before .args in
+    Numbered (now (a .file)) marks (numberFrom (a .layout .ceilings) 4 (c .before .before .before .before .before .byte-within .result) (c .advanced .result))
+    (leads (place (a .layout .clocks) (a .state)) (policyOf (now (a .file))) marks (ruleFrom (a .layout .clocks) (now (a .file)) (a .at)))
+unfolding ruleFrom
+numbered c marks =
+    let e = c .before .before .before .before in
+    let s = e .before .before .before in
+    let a = s .args in
+    let t = e .before .byte-within .ensures .0 in
+    rw (c .advanced .ensures, c .before .byte-within2 .ensures .0, t)
+    (leads-next (s .pre .0) marks (a .state) (s .pre .1) (ruleFrom (a .layout .clocks) (now (a .file)) (a .at))
+    (s .pre .2 .ours .formed) (λ z. e .if1 .left (t ∙ z)) (lengths s .0) (lengths s .1))
+
+add-byte-within : tie.Need-add-byte-within
+add-byte-within c = search needs
+
+byte-within-requires : tie.Need-byte-within-requires
+byte-within-requires c κs = search needs
+
+returns : tie.Need-returns
+unfolding ruleFrom
+returns c =
+    record {
+      mark = λ marks. leads-violation _ _ marks _ (sym (c .before .byte-within .ensures .0) ∙ c .if1 .taken);
+      below = λ q. absurd (false≢true q);
+    }
+
+cast-t11 : tie.Need-cast-t11
+cast-t11 c = search needs
+
+add-byte-within-2 : tie.Need-add-byte-within-2
+add-byte-within-2 c = search needs
+
+byte-within-requires-2 : tie.Need-byte-within-requires-2
+byte-within-requires-2 c κs = search needs
+
+advanced-requires : tie.Need-advanced-requires
+advanced-requires c κs = search needs
+
+number-requires : tie.Need-number-requires
+number-requires c κs =
+    let s = c .before .before .before .before .before .before .before in
+    omega (arith, laid-well (s .pre .0) .states, numbered c [] .number)
+
+returns-2 : tie.Need-returns-2
+returns-2 c =
+    record {
+      mark = λ marks. rw (c .number .ensures) (sym (numbered (c .before) marks .mark));
+      below = λ q. rw (c .number .ensures) (numbered (c .before) [] .number);
+    }
+
+pub next-of-spec : {M : Type 1} → statement M
+next-of-spec =
+    tie.close
+    (tie.spec
+    add-byte-within
+    byte-within-requires
+    returns
+    cast-t11
+    add-byte-within-2
+    byte-within-requires-2
+    advanced-requires
+    number-requires
+    returns-2)
