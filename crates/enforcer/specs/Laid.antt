@@ -1,7 +1,7 @@
 -- What the layout of a checked file makes sure of: its counts are the policy's, a location's own rules lie within the file, and a step by them alone is the
 -- policy's.
 use mathlib.Core.Path.{_≡_, refl, sym, ap, _∙_, subst}
-use mathlib.Core.Bool.{Bool, true, false, false≢true}
+use mathlib.Core.Bool.{Bool, true, false≢true}
 use mathlib.Core.List.{List}
 use mathlib.Core.Option.{Option, none, some}
 use Prim.Native.Nat.{ℕ, zero, suc, _+_, _-_, _*_, _^_, _≤_, _<_}
@@ -235,17 +235,9 @@ module _ {f : List ℕ} {l : Layout} (k : Laid f l) where
       Of (Inside (policyOf f)) (step stopped (policyOf f) (place (l .clocks) s) e)
   next-inside s e h = step-inside (policyOf f) (well-sound (policyOf f) laid-well) (place (l .clocks) s) h e
 
-  -- By the answer r of a step, whether the event reaches a marked place: not without a next state, and else by the mark of its number.
+  -- By the answer r of a step that has a next state: whether the event reaches a marked place is said by the mark of that state's number.
   module _ (marks : List ℕ) (s : State) (x y : ℕ) {r : Step}
       (e : r ≡ stepFrom s (step stopped (policyOf f) (place (l .clocks) s) (eventXY x y))) where
-    pub reaches-none : r .permitted ≡ false → reaches (policyOf f) marks (place (l .clocks) s) x y ≡ false
-    unfolding reaches
-    reaches-none p = go (step stopped (policyOf f) (place (l .clocks) s) (eventXY x y)) e
-      where
-        go : (d : Option Place) → r ≡ stepFrom s d → arrives (policyOf f) marks d ≡ false
-        go none q = refl
-        go (some t) q = absurd (false≢true (sym p ∙ ap (λ (z : Step). z .permitted) q))
-
     pub reaches-next : Inside (policyOf f) (place (l .clocks) s) → r .permitted ≡ true →
         Numbered f marks (numberFrom (l .ceilings) 4 (r .state .location) (r .state .clocks)) (reaches (policyOf f) marks (place (l .clocks) s) x y)
     unfolding reaches

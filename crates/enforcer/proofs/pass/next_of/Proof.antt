@@ -10,7 +10,7 @@ use denote.Ref.{now}
 use Rattle.policy.specs.File.{policyOf, ruleFrom}
 use Rattle.policy.specs.Number.{numberFrom}
 use Rattle.enforcer.specs.Code.{place}
-use Rattle.enforcer.specs.Laid.{Numbered, laid-limits, laid-well}
+use Rattle.enforcer.specs.Laid.{Numbered, laid-well}
 use Rattle.enforcer.specs.Ways.{leads}
 use Rattle.enforcer.proofs.WayLaws.{leads-violation, leads-next}
 use Rattle.enforcer.proofs.pass.next_of.Statement.{statement}

@@ -1,5 +1,5 @@
 -- `enforcer::pass::way_by` meets its contract: a rule whose bounds do not hold takes nothing, and else its bytes say what it takes.
-use mathlib.Core.Path.{_≡_, refl, sym, _∙_}
+use mathlib.Core.Path.{sym, _∙_}
 use native.Mathlib.Omega.{arith}
 use borrow.Author.Needs.{needs}
 use borrow.Author.Tests.{not-true, not-false}
