@@ -12,10 +12,15 @@ streams=(
     "long, many edits"
     "crowded, no edits"
     "crowded, many edits"
+    "short, no edits, reading 2"
+    "long, no edits, reading 2"
+    "long, many edits, reading 2"
 )
 worst=(
     "barred, both edited"
     "nested, both edited"
+    "barred, both edited, reading 2"
+    "nested, both edited, reading 2"
 )
 
 sides=(plain)
@@ -57,14 +62,14 @@ row() {
         counts+=("$count")
     done
     ratio=$(awk -v a="${counts[0]}" -v b="${counts[-1]}" 'BEGIN { printf "%.2f", b / a }')
-    printf '%-32s' "${*:3}"
+    printf '%-44s' "${*:3}"
     printf ' %10s' "${counts[@]}" "$ratio"
     printf '\n'
 }
 
 heading() {
     echo "$1"
-    printf '%-32s' stream
+    printf '%-44s' stream
     printf ' %10s' "${sides[@]}" ratio
     printf '\n'
 }

@@ -1,4 +1,7 @@
-/* A controller's loop over the policy "after R, C at latest on the fourth tick". The controller never gives C by itself. */
+/*
+ * A controller's loop over the policy "after R, C at latest on the fourth tick", under reading 1. The controller never gives C by itself.
+ * Then the same ticks in one call, under each reading.
+ */
 #include <stdio.h>
 
 #include "groovepawn.h"
@@ -15,6 +18,9 @@ static const uint8_t policy[] = {
     0x01, 0, 0, 1, 0, 0, 0x01, 0x00, 0x00, 0x00, 0x02,   /* waiting, no C: while the clock is at most 2 */
 };
 
+/* The loop reads the clock at the start of a tick. */
+#define READING 1
+
 /* What the sensor reads, tick by tick. */
 static const uint8_t sensor[] = {1, 0, 0, 0, 0};
 
@@ -25,12 +31,39 @@ static uint8_t controller(uint8_t x)
     return 0;
 }
 
-int main(void)
+/* The marks belong to the reading they were made under. */
+static uint8_t marks[65536];
+
+static int run_under(uint8_t reading)
 {
-    static uint8_t marks[65536];
+    /* R, and four quiet ticks. */
+    static const uint8_t events[] = {0x01, 0x00, 0x00, 0x00, 0x00};
+    uint8_t released[sizeof events];
     uint16_t state[5] = {0, 0, 0, 0, 0};
 
-    uint64_t prepared = groovepawn_prepare(policy, sizeof policy, marks, sizeof marks);
+    uint64_t prepared = groovepawn_prepare(reading, policy, sizeof policy, marks, sizeof marks);
+    if (GROOVEPAWN_REFUSAL(prepared) != 0) {
+        printf("refused %u\n", (unsigned)GROOVEPAWN_REFUSAL(prepared));
+        return 1;
+    }
+    uint64_t run = groovepawn_run(reading, policy, sizeof policy, marks, sizeof marks, state, 5, events, sizeof events, released, sizeof released);
+    if (GROOVEPAWN_REFUSAL(run) != 0) {
+        printf("refused %u\n", (unsigned)GROOVEPAWN_REFUSAL(run));
+        return 1;
+    }
+    printf("reading %u:", (unsigned)reading);
+    for (size_t tick = 0; tick < sizeof released; tick++) {
+        printf(" %02X", (unsigned)released[tick]);
+    }
+    printf("\n");
+    return 0;
+}
+
+int main(void)
+{
+    uint16_t state[5] = {0, 0, 0, 0, 0};
+
+    uint64_t prepared = groovepawn_prepare(READING, policy, sizeof policy, marks, sizeof marks);
     if (GROOVEPAWN_REFUSAL(prepared) != 0) {
         printf("refused %u\n", (unsigned)GROOVEPAWN_REFUSAL(prepared));
         return 1;
@@ -39,14 +72,14 @@ int main(void)
            (unsigned)GROOVEPAWN_LIVE(prepared));
 
     for (size_t tick = 0; tick < sizeof sensor; tick++) {
-        uint32_t input = groovepawn_input(policy, sizeof policy, marks, sizeof marks, state, 5, sensor[tick]);
+        uint32_t input = groovepawn_input(READING, policy, sizeof policy, marks, sizeof marks, state, 5, sensor[tick]);
         if (GROOVEPAWN_REFUSAL(input) != 0) {
             printf("refused %u\n", (unsigned)GROOVEPAWN_REFUSAL(input));
             return 1;
         }
         uint8_t x = (uint8_t)GROOVEPAWN_VALUE(input);
         uint8_t wanted = controller(x);
-        uint32_t output = groovepawn_output(policy, sizeof policy, marks, sizeof marks, state, 5, x, wanted);
+        uint32_t output = groovepawn_output(READING, policy, sizeof policy, marks, sizeof marks, state, 5, x, wanted);
         if (GROOVEPAWN_REFUSAL(output) != 0) {
             printf("refused %u\n", (unsigned)GROOVEPAWN_REFUSAL(output));
             return 1;
@@ -55,5 +88,5 @@ int main(void)
         printf("tick %u: input %u passed as %u, output %u put out as %u, event %02X, then location %u and clock %u\n", (unsigned)(tick + 1),
                (unsigned)sensor[tick], (unsigned)x, (unsigned)wanted, (unsigned)y, (unsigned)(x | y << 4), (unsigned)state[0], (unsigned)state[1]);
     }
-    return 0;
+    return run_under(1) != 0 || run_under(2) != 0;
 }

@@ -16,6 +16,16 @@
  *   x, y    an input, an output: bit 0 is the first signal of its section of the file
  *   event   one byte: input x in the low four bits, output y in the high four
  *
+ * Readings. Contracts read a deadline in two ways, and the caller names one, by the number 1 or 2, as the first argument:
+ *
+ *   reading 1   the clock is read at the start of a tick: bounds are tested against its value then
+ *   reading 2   the clock is read after the tick is counted: bounds are tested against that value plus one, stopped at the ceiling
+ *
+ * The rest is the same: after the tick each clock is 0, or one above its value at the start and no further than its ceiling. Joins carry no reading
+ * of their own: the joined file read in one way is the join of its parts read in that way. Marks belong to the reading they were made under. With
+ * marks of the other reading groovepawn_input, groovepawn_output and groovepawn_run answer by the marks as given; that the policy is enforced is
+ * then not promised, and 17 may come. So name one reading for a policy, and keep to it.
+ *
  * Answers. The low eight bits are the number of a refusal, or 0 for none; the fields above hold then. With a refusal they are 0, except for the count
  * of groovepawn_run. With a refusal nothing is written, except by refusal 11 of groovepawn_prepare and refusal 17 of groovepawn_run.
  *
@@ -38,10 +48,11 @@
  *   17  no input, or for the given x' no output, reaches a state marked 1
  *   18  the tick length is 0
  *   19  the tick count is above 1,000
+ *   22  the reading is neither 1 nor 2
  *
- * Where several hold, the first in this order is given: 1 to 9 as they come in the file, 10, 11, 14, 16, 15, 17. A join asks 1 to 9 of its first
- * file, then of its second, then 12, 13, 14. A conversion asks 18, then 19. With the marks of groovepawn_prepare and a live state, groovepawn_input
- * and groovepawn_run never give 17.
+ * Where several hold, the first in this order is given: 22, 1 to 9 as they come in the file, 10, 11, 14, 16, 15, 17. A join asks 1 to 9 of its first
+ * file, then of its second, then 12, 13, 14. A conversion asks 18, then 19. With the marks of groovepawn_prepare under the same reading and a live
+ * state, groovepawn_input and groovepawn_run never give 17.
  *
  * Stack use: less than 2 KiB for each call, in the archive as it is compiled for x86-64. No heap and no global data.
  */
@@ -65,43 +76,43 @@ extern "C" {
 #define GROOVEPAWN_LIVE(answer) ((answer) >> 40)
 
 /*
- * Checks the policy and writes one mark for each state. Refusals 1 to 11.
+ * Checks the policy and writes one mark for each state, under the reading named. Refusals 22, 1 to 11.
  * Returns refusal | verdict << 8 | states << 16 | live << 40: how many states there are and how many are live.
  * Verdict 0: every state that some permitted stream from the start leads to is live. Verdict 1: the start is live and one such state is not.
- * Refusals 1 to 10 leave marks as it was. Refusal 11 leaves it as success does.
+ * Refusal 22 and refusals 1 to 10 leave marks as it was. Refusal 11 leaves it as success does.
  */
-uint64_t groovepawn_prepare(const uint8_t *file, size_t file_len, uint8_t *marks, size_t marks_len);
+uint64_t groovepawn_prepare(uint8_t reading, const uint8_t *file, size_t file_len, uint8_t *marks, size_t marks_len);
 
 /*
  * The input half of a tick: the input x' to act on. It is x where some output then leads to a state marked 1, else the input of this kind that
  * differs from x in the fewest bits; among equals, at the first signal in which two differ, the one that leaves that signal as read.
- * Refusals 1 to 10, 16, 15, 17. Returns refusal | x' << 8. Nothing is written: the state moves with the output half.
+ * Refusals 22, 1 to 10, 16, 15, 17. Returns refusal | x' << 8. Nothing is written: the state moves with the output half.
  */
-uint32_t groovepawn_input(const uint8_t *file, size_t file_len, const uint8_t *marks, size_t marks_len, const uint16_t *state, size_t state_len,
-                          uint8_t x);
+uint32_t groovepawn_input(uint8_t reading, const uint8_t *file, size_t file_len, const uint8_t *marks, size_t marks_len, const uint16_t *state,
+                          size_t state_len, uint8_t x);
 
 /*
  * The output half of a tick, given the x' of the input half and the controller's answer y: the output y' to put out, chosen
  * likewise among the outputs that with x' lead to a state marked 1.
- * Refusals 1 to 10, 16, 15, 17. Returns refusal | y' << 8. The state becomes the next one; with a refusal it stays as given.
+ * Refusals 22, 1 to 10, 16, 15, 17. Returns refusal | y' << 8. The state becomes the next one; with a refusal it stays as given.
  */
-uint32_t groovepawn_output(const uint8_t *file, size_t file_len, const uint8_t *marks, size_t marks_len, uint16_t *state, size_t state_len,
-                           uint8_t x, uint8_t y);
+uint32_t groovepawn_output(uint8_t reading, const uint8_t *file, size_t file_len, const uint8_t *marks, size_t marks_len, uint16_t *state,
+                           size_t state_len, uint8_t x, uint8_t y);
 
 /*
- * Many ticks: for each event one is released. Refusals 1 to 10, 14 (released is shorter than events), 16, 15, 17.
+ * Many ticks: for each event one is released. Refusals 22, 1 to 10, 14 (released is shorter than events), 16, 15, 17.
  * Returns refusal | count << 8: how many events were released. (The count is held modulo 2 to the 56th, which no slice reaches.)
  * The state becomes the one after the events released, and these stand in front in released, whose other bytes stay.
  * That is so with refusal 17 too: the run stops before the event that it cannot answer. With every other refusal the count is 0, and state and
  * released stay as given.
  */
-uint64_t groovepawn_run(const uint8_t *file, size_t file_len, const uint8_t *marks, size_t marks_len, uint16_t *state, size_t state_len,
-                        const uint8_t *events, size_t events_len, uint8_t *released, size_t released_len);
+uint64_t groovepawn_run(uint8_t reading, const uint8_t *file, size_t file_len, const uint8_t *marks, size_t marks_len, uint16_t *state,
+                        size_t state_len, const uint8_t *events, size_t events_len, uint8_t *released, size_t released_len);
 
 /*
  * Joins two policies over the same signals into one that asks what both ask. Refusals 1 to 9 of a, 1 to 9 of b, 12, 13, 14.
  * Returns refusal | length << 8: how many bytes of out the joined file takes; the other bytes stay. 5,974 bytes are always enough.
- * With a refusal out stays as given. A joined file is a policy like any other, to be handed to groovepawn_prepare.
+ * With a refusal out stays as given. A joined file is a policy like any other, to be handed to groovepawn_prepare under either reading.
  */
 uint64_t groovepawn_join(const uint8_t *a, size_t a_len, const uint8_t *b, size_t b_len, uint8_t *out, size_t out_len);
 

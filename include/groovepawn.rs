@@ -7,6 +7,7 @@
 
 extern "C" {
     pub fn groovepawn_prepare(
+        reading: u8,
         file: *const u8,
         file_len: usize,
         marks: *mut u8,
@@ -14,6 +15,7 @@ extern "C" {
     ) -> u64;
 
     pub fn groovepawn_input(
+        reading: u8,
         file: *const u8,
         file_len: usize,
         marks: *const u8,
@@ -24,6 +26,7 @@ extern "C" {
     ) -> u32;
 
     pub fn groovepawn_output(
+        reading: u8,
         file: *const u8,
         file_len: usize,
         marks: *const u8,
@@ -35,6 +38,7 @@ extern "C" {
     ) -> u32;
 
     pub fn groovepawn_run(
+        reading: u8,
         file: *const u8,
         file_len: usize,
         marks: *const u8,

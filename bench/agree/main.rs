@@ -33,6 +33,8 @@ mod policies;
 mod policy;
 #[path = "../../independent/src/random.rs"]
 mod random;
+#[path = "../../independent/src/reading.rs"]
+mod reading;
 #[path = "../../independent/src/refusal.rs"]
 mod refusal;
 #[path = "../../independent/src/rules.rs"]
@@ -83,27 +85,36 @@ fn number(word: &str) -> Result<u64, String> {
 struct PlainSide;
 
 impl Engine for PlainSide {
-    fn prepare(&mut self, file: &[u8], marks: &mut [u8]) -> u64 {
-        Plain.prepare(file, marks)
+    fn prepare(&mut self, reading: u8, file: &[u8], marks: &mut [u8]) -> u64 {
+        Plain.prepare(reading, file, marks)
     }
 
-    fn input(&mut self, file: &[u8], marks: &[u8], state: &[u16], x: u8) -> u64 {
-        Plain.input(file, marks, state, x)
+    fn input(&mut self, reading: u8, file: &[u8], marks: &[u8], state: &[u16], x: u8) -> u64 {
+        Plain.input(reading, file, marks, state, x)
     }
 
-    fn output(&mut self, file: &[u8], marks: &[u8], state: &mut [u16], x: u8, y: u8) -> u64 {
-        Plain.output(file, marks, state, x, y)
+    fn output(
+        &mut self,
+        reading: u8,
+        file: &[u8],
+        marks: &[u8],
+        state: &mut [u16],
+        x: u8,
+        y: u8,
+    ) -> u64 {
+        Plain.output(reading, file, marks, state, x, y)
     }
 
     fn run(
         &mut self,
+        reading: u8,
         file: &[u8],
         marks: &[u8],
         state: &mut [u16],
         events: &[u8],
         released: &mut [u8],
     ) -> u64 {
-        Plain.run(file, marks, state, events, released)
+        Plain.run(reading, file, marks, state, events, released)
     }
 
     fn join(&mut self, a: &[u8], b: &[u8], out: &mut [u8]) -> u64 {

@@ -2,7 +2,7 @@
 
 use crate::file::Policy;
 use crate::policies;
-use crate::streams::{Stream, STREAMS};
+use crate::streams::{Edits, Stream, STREAMS};
 use crate::work::{InputWork, JoinWork, OutputWork, PrepareWork, Work};
 
 /// Long enough that the one check of the file is a small part of a run, and
@@ -21,6 +21,7 @@ pub fn all() -> Vec<Case> {
     let runs = STREAMS.iter().map(run);
     let halves = STREAMS
         .iter()
+        .filter(|stream| stream.reading == 1 || stream.edits == Edits::Many)
         .flat_map(|stream| [input(stream), output(stream)]);
     let prepares = [
         prepare("1,024 states", policies::thousand()),
@@ -33,6 +34,9 @@ pub fn all() -> Vec<Case> {
         prepare("all die", policies::all_die()),
         prepare("the dead not reached", policies::apart()),
         prepare("the longest file", policies::long()),
+        prepare_counted("65,536 states, reading 2", policies::full()),
+        prepare_counted("most must be left, reading 2", policies::leaving()),
+        prepare_counted("most die, reading 2", policies::most_die()),
     ];
     let joins = [
         join("small", policies::small_pair()),
@@ -56,7 +60,12 @@ fn output(stream: &Stream) -> Case {
 }
 
 fn prepare(size: &str, policy: Policy) -> Case {
-    case("prepare", size, PrepareWork::new(&policy))
+    case("prepare", size, PrepareWork::new(1, &policy))
+}
+
+/// Under reading 2.
+fn prepare_counted(size: &str, policy: Policy) -> Case {
+    case("prepare", size, PrepareWork::new(2, &policy))
 }
 
 fn join(size: &str, pair: (Policy, Policy)) -> Case {
@@ -80,19 +89,19 @@ mod tests {
     struct Idle;
 
     impl Engine for Idle {
-        fn prepare(&self, _: &[u8], _: &mut [u8]) -> u64 {
+        fn prepare(&self, _: u8, _: &[u8], _: &mut [u8]) -> u64 {
             0
         }
 
-        fn input(&self, _: &[u8], _: &[u8], _: &[u16], _: u8) -> u64 {
+        fn input(&self, _: u8, _: &[u8], _: &[u8], _: &[u16], _: u8) -> u64 {
             0
         }
 
-        fn output(&self, _: &[u8], _: &[u8], _: &mut [u16], _: u8, _: u8) -> u64 {
+        fn output(&self, _: u8, _: &[u8], _: &[u8], _: &mut [u16], _: u8, _: u8) -> u64 {
             0
         }
 
-        fn run(&self, _: &[u8], _: &[u8], _: &mut [u16], _: &[u8], _: &mut [u8]) -> u64 {
+        fn run(&self, _: u8, _: &[u8], _: &[u8], _: &mut [u16], _: &[u8], _: &mut [u8]) -> u64 {
             0
         }
 

@@ -11,17 +11,26 @@ pub const START: State = [0; STATE_LENGTH];
 /// lowest byte, 0 for none, and above it what the function found.
 pub trait Engine {
     /// refusal | verdict << 8 | states << 16 | live << 40
-    fn prepare(&self, file: &[u8], marks: &mut [u8]) -> u64;
+    fn prepare(&self, reading: u8, file: &[u8], marks: &mut [u8]) -> u64;
 
     /// refusal | x' << 8
-    fn input(&self, file: &[u8], marks: &[u8], state: &[u16], x: u8) -> u64;
+    fn input(&self, reading: u8, file: &[u8], marks: &[u8], state: &[u16], x: u8) -> u64;
 
     /// refusal | y' << 8
-    fn output(&self, file: &[u8], marks: &[u8], state: &mut [u16], x: u8, y: u8) -> u64;
+    fn output(
+        &self,
+        reading: u8,
+        file: &[u8],
+        marks: &[u8],
+        state: &mut [u16],
+        x: u8,
+        y: u8,
+    ) -> u64;
 
     /// refusal | events released << 8
     fn run(
         &self,
+        reading: u8,
         file: &[u8],
         marks: &[u8],
         state: &mut [u16],
@@ -47,8 +56,8 @@ pub fn found_in(answer: u64) -> usize {
 pub struct Plain;
 
 impl Engine for Plain {
-    fn prepare(&self, file: &[u8], marks: &mut [u8]) -> u64 {
-        match plain::prepare(file, marks) {
+    fn prepare(&self, reading: u8, file: &[u8], marks: &mut [u8]) -> u64 {
+        match plain::prepare(reading, file, marks) {
             Ok(prepared) => {
                 let counts = (prepared.states as u64) << 16 | (prepared.live as u64) << 40;
                 u64::from(prepared.verdict) << 8 | counts
@@ -57,23 +66,32 @@ impl Engine for Plain {
         }
     }
 
-    fn input(&self, file: &[u8], marks: &[u8], state: &[u16], x: u8) -> u64 {
-        packed(plain::input(file, marks, state, x))
+    fn input(&self, reading: u8, file: &[u8], marks: &[u8], state: &[u16], x: u8) -> u64 {
+        packed(plain::input(reading, file, marks, state, x))
     }
 
-    fn output(&self, file: &[u8], marks: &[u8], state: &mut [u16], x: u8, y: u8) -> u64 {
-        packed(plain::output(file, marks, state, x, y))
+    fn output(
+        &self,
+        reading: u8,
+        file: &[u8],
+        marks: &[u8],
+        state: &mut [u16],
+        x: u8,
+        y: u8,
+    ) -> u64 {
+        packed(plain::output(reading, file, marks, state, x, y))
     }
 
     fn run(
         &self,
+        reading: u8,
         file: &[u8],
         marks: &[u8],
         state: &mut [u16],
         events: &[u8],
         released: &mut [u8],
     ) -> u64 {
-        let end = plain::run(file, marks, state, events, released);
+        let end = plain::run(reading, file, marks, state, events, released);
         let refusal = end.refusal.map_or(0, plain::Refusal::number);
         u64::from(refusal) | (end.released as u64) << 8
     }

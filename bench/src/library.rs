@@ -9,13 +9,22 @@ pub struct Library;
 // Safety of every call below: each pointer and the length beside it are those
 // of one slice, which outlives the call.
 impl Engine for Library {
-    fn prepare(&self, file: &[u8], marks: &mut [u8]) -> u64 {
-        unsafe { groovepawn_prepare(file.as_ptr(), file.len(), marks.as_mut_ptr(), marks.len()) }
+    fn prepare(&self, reading: u8, file: &[u8], marks: &mut [u8]) -> u64 {
+        unsafe {
+            groovepawn_prepare(
+                reading,
+                file.as_ptr(),
+                file.len(),
+                marks.as_mut_ptr(),
+                marks.len(),
+            )
+        }
     }
 
-    fn input(&self, file: &[u8], marks: &[u8], state: &[u16], x: u8) -> u64 {
+    fn input(&self, reading: u8, file: &[u8], marks: &[u8], state: &[u16], x: u8) -> u64 {
         let answer = unsafe {
             groovepawn_input(
+                reading,
                 file.as_ptr(),
                 file.len(),
                 marks.as_ptr(),
@@ -28,9 +37,18 @@ impl Engine for Library {
         u64::from(answer)
     }
 
-    fn output(&self, file: &[u8], marks: &[u8], state: &mut [u16], x: u8, y: u8) -> u64 {
+    fn output(
+        &self,
+        reading: u8,
+        file: &[u8],
+        marks: &[u8],
+        state: &mut [u16],
+        x: u8,
+        y: u8,
+    ) -> u64 {
         let answer = unsafe {
             groovepawn_output(
+                reading,
                 file.as_ptr(),
                 file.len(),
                 marks.as_ptr(),
@@ -46,6 +64,7 @@ impl Engine for Library {
 
     fn run(
         &self,
+        reading: u8,
         file: &[u8],
         marks: &[u8],
         state: &mut [u16],
@@ -54,6 +73,7 @@ impl Engine for Library {
     ) -> u64 {
         unsafe {
             groovepawn_run(
+                reading,
                 file.as_ptr(),
                 file.len(),
                 marks.as_ptr(),

@@ -10,6 +10,7 @@ mod join;
 mod policy;
 mod prepare;
 mod reached;
+mod reading;
 // The scope document's numbers, some of which no function here gives.
 #[allow(dead_code)]
 #[path = "../../independent/src/refusal.rs"]

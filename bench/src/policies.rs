@@ -97,7 +97,8 @@ fn one_value(random: &mut Random) -> Condition {
 /// agree with every event and fail at the last of four clocks, and only the
 /// event 15, 15 is permitted. By events, each of 256 would try all the rules.
 pub fn barred() -> Policy {
-    let last = (1, NO_UPPER_BOUND);
+    // At 0 it fails under both readings.
+    let last = (2, NO_UPPER_BOUND);
     let barred = one_location(Condition::ANY, Condition::ANY, 0, [OPEN, OPEN, OPEN, last]);
     let mut rules = vec![barred; 255];
     let all = Condition::set(0b1111);
@@ -279,7 +280,7 @@ mod tests {
     use crate::plain::{join, prepare, Prepared, Refusal};
 
     fn prepare_policy(policy: &Policy) -> Prepared {
-        prepare(&policy.encode(), &mut [0; MOST_STATES]).expect("a live start")
+        prepare(1, &policy.encode(), &mut [0; MOST_STATES]).expect("a live start")
     }
 
     #[test]
@@ -320,7 +321,7 @@ mod tests {
     #[test]
     fn where_all_die_no_mark_stays() {
         let mut marks = [1; MOST_STATES];
-        let refused = prepare(&all_die().encode(), &mut marks);
+        let refused = prepare(1, &all_die().encode(), &mut marks);
         assert_eq!(refused, Err(Refusal::StartNotLive));
         assert_eq!(marks, [0; MOST_STATES]);
     }
@@ -384,7 +385,7 @@ mod tests {
         let (a, b) = largest_pair();
         let mut out = [0; LONGEST_FILE];
         assert_eq!(join(&a.encode(), &b.encode(), &mut out), Ok(out.len()));
-        let states = prepare(&out, &mut [0; MOST_STATES])
+        let states = prepare(1, &out, &mut [0; MOST_STATES])
             .expect("a live start")
             .states;
         assert_eq!(states, 65_536);

@@ -4,8 +4,9 @@ use crate::engine::{refusal_in, Engine, Plain, State, START};
 use crate::file::{Policy, MOST_STATES};
 use crate::work::FILLER;
 
-/// A policy with its marks.
+/// A policy with its marks, and the reading that they were made under.
 pub struct Ready {
+    pub reading: u8,
     pub file: Vec<u8>,
     pub marks: Vec<u8>,
 }
@@ -13,19 +14,24 @@ pub struct Ready {
 impl Ready {
     /// The policy has a live start. The marks are always those of the plain
     /// program.
-    pub fn new(policy: &Policy) -> Ready {
+    pub fn new(reading: u8, policy: &Policy) -> Ready {
         let file = policy.encode();
         let mut marks = vec![FILLER; MOST_STATES];
-        let answer = Plain.prepare(&file, &mut marks);
+        let answer = Plain.prepare(reading, &file, &mut marks);
         assert_eq!(refusal_in(answer), 0, "a measured policy is refused");
-        Ready { file, marks }
+        Ready {
+            reading,
+            file,
+            marks,
+        }
     }
 
     /// What the stream is corrected to, from the start.
     pub fn corrected(&self, events: &[u8]) -> Vec<u8> {
         let mut released = vec![FILLER; events.len()];
         let mut state = START;
-        let answer = Plain.run(&self.file, &self.marks, &mut state, events, &mut released);
+        let (file, marks) = (&self.file, &self.marks);
+        let answer = Plain.run(self.reading, file, marks, &mut state, events, &mut released);
         assert_eq!(refusal_in(answer), 0, "a measured stream is refused");
         released
     }
@@ -36,7 +42,8 @@ impl Ready {
         let mut states = Vec::new();
         for &event in stream {
             states.push(state);
-            Plain.output(&self.file, &self.marks, &mut state, event & 15, event >> 4);
+            let (x, y) = (event & 15, event >> 4);
+            Plain.output(self.reading, &self.file, &self.marks, &mut state, x, y);
         }
         states
     }

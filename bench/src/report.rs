@@ -7,7 +7,7 @@ const COMPANY_TO_KEEP: f64 = 1.3;
 
 pub fn heading(second: &str) -> String {
     format!(
-        "{:<34} {:>12} {:>12} {:>6}  {:<12} {:>13}",
+        "{:<44} {:>12} {:>12} {:>6}  {:<12} {:>13}",
         "what",
         "plain ns",
         format!("{second} ns"),
@@ -20,7 +20,7 @@ pub fn heading(second: &str) -> String {
 pub fn row(name: &str, measured: &Measured) -> String {
     let Ratio { low, median, high } = measured.ratio;
     let row = format!(
-        "{name:<34} {:>12} {:>12} {median:>6.2}  {:<12} {:>13}",
+        "{name:<44} {:>12} {:>12} {median:>6.2}  {:<12} {:>13}",
         nanoseconds(measured.first),
         nanoseconds(measured.second),
         format!("{low:.2} to {high:.2}"),

@@ -1,5 +1,5 @@
-//! The runs that are measured: a policy, and a stream that needs no edits,
-//! many, or two in each event.
+//! The runs that are measured: a policy under a reading, and a stream that needs
+//! no edits, many, or two in each event.
 
 use crate::file::Policy;
 use crate::policies;
@@ -17,24 +17,70 @@ pub enum Edits {
 
 pub struct Stream {
     pub name: &'static str,
+    pub reading: u8,
     pub policy: fn() -> Policy,
     pub edits: Edits,
 }
 
-pub const STREAMS: [Stream; 8] = [
-    stream("short, no edits", policies::short, Edits::None),
-    stream("short, many edits", policies::short, Edits::Many),
-    stream("long, no edits", policies::long, Edits::None),
-    stream("long, many edits", policies::long, Edits::Many),
-    stream("crowded, no edits", policies::crowded, Edits::None),
-    stream("crowded, many edits", policies::crowded, Edits::Many),
-    stream("barred, both edited", policies::barred, Edits::Both),
-    stream("nested, both edited", policies::nested, Edits::Both),
+/// Under reading 1, then the same under reading 2.
+pub const STREAMS: [Stream; 16] = [
+    stream("short, no edits", 1, policies::short, Edits::None),
+    stream("short, many edits", 1, policies::short, Edits::Many),
+    stream("long, no edits", 1, policies::long, Edits::None),
+    stream("long, many edits", 1, policies::long, Edits::Many),
+    stream("crowded, no edits", 1, policies::crowded, Edits::None),
+    stream("crowded, many edits", 1, policies::crowded, Edits::Many),
+    stream("barred, both edited", 1, policies::barred, Edits::Both),
+    stream("nested, both edited", 1, policies::nested, Edits::Both),
+    stream(
+        "short, no edits, reading 2",
+        2,
+        policies::short,
+        Edits::None,
+    ),
+    stream(
+        "short, many edits, reading 2",
+        2,
+        policies::short,
+        Edits::Many,
+    ),
+    stream("long, no edits, reading 2", 2, policies::long, Edits::None),
+    stream(
+        "long, many edits, reading 2",
+        2,
+        policies::long,
+        Edits::Many,
+    ),
+    stream(
+        "crowded, no edits, reading 2",
+        2,
+        policies::crowded,
+        Edits::None,
+    ),
+    stream(
+        "crowded, many edits, reading 2",
+        2,
+        policies::crowded,
+        Edits::Many,
+    ),
+    stream(
+        "barred, both edited, reading 2",
+        2,
+        policies::barred,
+        Edits::Both,
+    ),
+    stream(
+        "nested, both edited, reading 2",
+        2,
+        policies::nested,
+        Edits::Both,
+    ),
 ];
 
-const fn stream(name: &'static str, policy: fn() -> Policy, edits: Edits) -> Stream {
+const fn stream(name: &'static str, reading: u8, policy: fn() -> Policy, edits: Edits) -> Stream {
     Stream {
         name,
+        reading,
         policy,
         edits,
     }
@@ -54,7 +100,7 @@ impl Stream {
     /// back unchanged, so it is one that needs no edits.
     pub fn ready(&self, ticks: usize) -> (Ready, Vec<u8>) {
         let policy = (self.policy)();
-        let ready = Ready::new(&policy);
+        let ready = Ready::new(self.reading, &policy);
         let events = match self.edits {
             Edits::None => ready.corrected(&any_events(&policy, ticks)),
             Edits::Many => any_events(&policy, ticks),

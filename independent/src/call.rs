@@ -6,16 +6,19 @@ use std::fmt;
 #[derive(Clone, Debug, PartialEq, Eq)]
 pub enum Call {
     Prepare {
+        reading: u8,
         file: Vec<u8>,
         marks: Vec<u8>,
     },
     Input {
+        reading: u8,
         file: Vec<u8>,
         marks: Vec<u8>,
         state: Vec<u16>,
         x: u8,
     },
     Output {
+        reading: u8,
         file: Vec<u8>,
         marks: Vec<u8>,
         state: Vec<u16>,
@@ -23,6 +26,7 @@ pub enum Call {
         y: u8,
     },
     Run {
+        reading: u8,
         file: Vec<u8>,
         marks: Vec<u8>,
         state: Vec<u16>,
@@ -70,26 +74,56 @@ impl Call {
         }
     }
 
+    /// The reading that the caller names; a join and a conversion take none.
+    pub fn reading(&self) -> Option<u8> {
+        match *self {
+            Call::Prepare { reading, .. }
+            | Call::Input { reading, .. }
+            | Call::Output { reading, .. }
+            | Call::Run { reading, .. } => Some(reading),
+            Call::Join { .. } | Call::Ticks { .. } => None,
+        }
+    }
+
+    /// The same call under another reading, if it takes one.
+    pub fn under(mut self, other: u8) -> Call {
+        match &mut self {
+            Call::Prepare { reading, .. }
+            | Call::Input { reading, .. }
+            | Call::Output { reading, .. }
+            | Call::Run { reading, .. } => *reading = other,
+            Call::Join { .. } | Call::Ticks { .. } => {}
+        }
+        self
+    }
+
     pub fn make(&self, engine: &mut dyn Engine) -> Outcome {
         let mut bytes = self.lent_bytes().to_vec();
         let mut lent_state = self.lent_state().to_vec();
         let answer = match self {
-            Call::Prepare { file, .. } => engine.prepare(file, &mut bytes),
+            Call::Prepare { reading, file, .. } => engine.prepare(*reading, file, &mut bytes),
             Call::Input {
+                reading,
                 file,
                 marks,
                 state,
                 x,
-            } => engine.input(file, marks, state, *x),
+            } => engine.input(*reading, file, marks, state, *x),
             Call::Output {
-                file, marks, x, y, ..
-            } => engine.output(file, marks, &mut lent_state, *x, *y),
+                reading,
+                file,
+                marks,
+                x,
+                y,
+                ..
+            } => engine.output(*reading, file, marks, &mut lent_state, *x, *y),
             Call::Run {
+                reading,
                 file,
                 marks,
                 events,
                 ..
-            } => engine.run(file, marks, &mut lent_state, events, &mut bytes),
+            } => engine.run(*reading, file, marks, &mut lent_state, events, &mut bytes),
             Call::Join { a, b, .. } => engine.join(a, b, &mut bytes),
             Call::Ticks {
                 milliseconds,
@@ -106,7 +140,7 @@ impl Call {
     }
 
     /// The slice lent for writing, as it is before.
-    fn lent_bytes(&self) -> &[u8] {
+    pub fn lent_bytes(&self) -> &[u8] {
         match self {
             Call::Prepare { marks, .. } => marks,
             Call::Run { released, .. } => released,
@@ -116,7 +150,7 @@ impl Call {
     }
 
     /// The state lent for writing, as it is before.
-    fn lent_state(&self) -> &[u16] {
+    pub fn lent_state(&self) -> &[u16] {
         match self {
             Call::Output { state, .. } | Call::Run { state, .. } => state,
             _ => &[],
@@ -128,39 +162,46 @@ impl fmt::Display for Call {
     fn fmt(&self, out: &mut fmt::Formatter) -> fmt::Result {
         writeln!(out, "function {}", FUNCTIONS[self.kind()])?;
         match self {
-            Call::Prepare { file, marks } => {
-                writeln!(out, "file {}", hex(file))?;
+            Call::Prepare {
+                reading,
+                file,
+                marks,
+            } => {
+                writeln!(out, "reading {reading}\nfile {}", hex(file))?;
                 writeln!(out, "marks before {}", hex(marks))
             }
             Call::Input {
+                reading,
                 file,
                 marks,
                 state,
                 x,
             } => {
-                writeln!(out, "file {}", hex(file))?;
+                writeln!(out, "reading {reading}\nfile {}", hex(file))?;
                 writeln!(out, "marks {}", hex(marks))?;
                 writeln!(out, "state {state:?}\nx {x}")
             }
             Call::Output {
+                reading,
                 file,
                 marks,
                 state,
                 x,
                 y,
             } => {
-                writeln!(out, "file {}", hex(file))?;
+                writeln!(out, "reading {reading}\nfile {}", hex(file))?;
                 writeln!(out, "marks {}", hex(marks))?;
                 writeln!(out, "state before {state:?}\nx {x}\ny {y}")
             }
             Call::Run {
+                reading,
                 file,
                 marks,
                 state,
                 events,
                 released,
             } => {
-                writeln!(out, "file {}", hex(file))?;
+                writeln!(out, "reading {reading}\nfile {}", hex(file))?;
                 writeln!(out, "marks {}", hex(marks))?;
                 writeln!(out, "state before {state:?}")?;
                 writeln!(out, "events {}", hex(events))?;

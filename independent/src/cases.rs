@@ -8,7 +8,10 @@ use crate::moment::STATE_LENGTH;
 use crate::policies::{self, Family, Size};
 use crate::policy::*;
 use crate::random::Random;
-use crate::subject::{filler, lent_length, marks_and_state, some_events, some_value, Subject};
+use crate::reading::READINGS;
+use crate::subject::{
+    filler, lent_length, marks_and_state, some_events, some_reading, some_value, Subject,
+};
 
 /// A table on which prepare may take more steps than this is not given to it,
 /// so that no single call takes minutes.
@@ -28,10 +31,11 @@ pub fn group(seed: u64, number: u64) -> Vec<Call> {
 }
 
 fn around_policy(random: &mut Random) -> Vec<Call> {
-    let mut subject = Subject::new(policies::any(random));
+    let reading = random.pick(&READINGS);
+    let mut subject = Subject::new(policies::any(random), reading);
     // Of a policy without a live start there is less to ask.
     if !subject.liveness.live[0] && random.percent(75) {
-        subject = Subject::new(policies::any(random));
+        subject = Subject::new(policies::any(random), reading);
     }
     let calls = match subject.states() {
         0..=6_000 => 4,
@@ -55,7 +59,10 @@ fn around_policy(random: &mut Random) -> Vec<Call> {
 fn around_edits(random: &mut Random) -> Vec<Call> {
     let policy = policies::picky(random);
     let (file, marks, state) = (policy.encode(), vec![1], vec![0; STATE_LENGTH]);
+    // Without clocks one reading is as the other.
+    let reading = random.pick(&READINGS).number();
     let input = |x| Call::Input {
+        reading,
         file: file.clone(),
         marks: marks.clone(),
         state: state.clone(),
@@ -64,6 +71,7 @@ fn around_edits(random: &mut Random) -> Vec<Call> {
     let some_rule = random.between(0, policy.rules.len() - 1);
     let permitted = policy.rules[some_rule].input.value;
     let output = |y| Call::Output {
+        reading,
         file: file.clone(),
         marks: marks.clone(),
         state: state.clone(),
@@ -78,13 +86,15 @@ fn around_edits(random: &mut Random) -> Vec<Call> {
 /// A damaged file given to every function that takes one.
 fn around_damage(random: &mut Random) -> Vec<Call> {
     let size = random.pick(&[Size::Tiny, Size::Small]);
-    let subject = Subject::new(policies::of_size(random, size));
+    let policy = policies::of_size(random, size);
+    let subject = Subject::new(policy, random.pick(&READINGS));
     let mut made = Vec::new();
     for _ in 0..3 {
         let file = damage::damaged(random, &subject.policy);
         let length = random.pick(&[0, 1, subject.states(), 700]);
         let marks = random.bytes(length);
         made.push(Call::Prepare {
+            reading: some_reading(random, &subject),
             file: file.clone(),
             marks,
         });
@@ -112,9 +122,11 @@ fn with_file(mut call: Call, other: Vec<u8>) -> Call {
 fn around_prefixes(random: &mut Random) -> Vec<Call> {
     let file = policies::of_size(random, Size::Tiny).encode();
     let marks = random.bytes(40);
+    let reading = random.pick(&READINGS).number();
     damage::prefixes(&file[..file.len().min(150)])
         .into_iter()
         .map(|file| Call::Prepare {
+            reading,
             file,
             marks: marks.clone(),
         })
@@ -123,7 +135,8 @@ fn around_prefixes(random: &mut Random) -> Vec<Call> {
 
 fn around_join(random: &mut Random) -> Vec<Call> {
     let family = random.pick(&[Family::Small, Family::Small, Family::Large]);
-    let sisters = policies::sisters(random, family, 2);
+    let reading = random.pick(&READINGS);
+    let sisters = policies::sisters(random, reading, family, 2);
     let (a, b) = (sisters[0].encode(), sisters[1].encode());
     let mut made = vec![join_call(random, &a, &b), join_call(random, &b, &a)];
     made.push(match random.below(5) {
@@ -235,6 +248,7 @@ fn join_call(random: &mut Random, a: &[u8], b: &[u8]) -> Call {
 fn prepare_call(random: &mut Random, subject: &Subject) -> Call {
     let length = lent_length(random, subject.states());
     Call::Prepare {
+        reading: some_reading(random, subject),
         file: subject.file.clone(),
         marks: filler(random, length),
     }
@@ -243,6 +257,7 @@ fn prepare_call(random: &mut Random, subject: &Subject) -> Call {
 fn input_call(random: &mut Random, subject: &Subject) -> Call {
     let (marks, state) = marks_and_state(random, subject);
     Call::Input {
+        reading: some_reading(random, subject),
         file: subject.file.clone(),
         marks,
         state,
@@ -253,6 +268,7 @@ fn input_call(random: &mut Random, subject: &Subject) -> Call {
 fn output_call(random: &mut Random, subject: &Subject) -> Call {
     let (marks, state) = marks_and_state(random, subject);
     Call::Output {
+        reading: some_reading(random, subject),
         file: subject.file.clone(),
         marks,
         state,
@@ -266,6 +282,7 @@ fn run_call(random: &mut Random, subject: &Subject) -> Call {
     let events = some_events(random, &subject.policy);
     let length = lent_length(random, events.len());
     Call::Run {
+        reading: some_reading(random, subject),
         file: subject.file.clone(),
         marks,
         state,
@@ -341,10 +358,10 @@ mod tests {
         }
         let file = [1, 2, 3, 4, 5, 6, 7, 8, 9];
         let own: [&[usize]; FUNCTIONS.len()] = [
-            &[10, 11],
-            &[10, 15, 16, 17],
-            &[10, 15, 16, 17],
-            &[10, 14, 15, 16, 17],
+            &[10, 11, 22],
+            &[10, 15, 16, 17, 22],
+            &[10, 15, 16, 17, 22],
+            &[10, 14, 15, 16, 17, 22],
             &[12, 13, 14],
             &[18, 19],
         ];

@@ -4,6 +4,7 @@ use crate::call::{Call, FUNCTIONS};
 use crate::cases;
 use crate::engine::{found_in, refusal_in, Engine, Model};
 use crate::laws::{self, LawTally};
+use crate::reading::READINGS;
 use crate::refusal::LAST_REFUSAL;
 use std::fmt;
 
@@ -20,6 +21,8 @@ pub struct Tally {
     /// Events that successful runs released otherwise than they were given.
     pub edited: u64,
     pub forwarded: u64,
+    /// Calls under reading 1 and 2.
+    pub readings: [u64; READINGS.len()],
     /// Tables with verdict 0 and 1.
     pub verdicts: [u64; 2],
     pub laws: LawTally,
@@ -30,6 +33,9 @@ impl Tally {
         let refusal = usize::from(refusal_in(answer));
         self.calls += 1;
         self.answers[call.kind()][refusal] += 1;
+        for (reading, calls) in READINGS.iter().zip(&mut self.readings) {
+            *calls += u64::from(call.reading() == Some(reading.number()));
+        }
         match call {
             Call::Run { events, .. } => {
                 let released = events.iter().zip(bytes).take(found_in(answer));
@@ -58,6 +64,11 @@ impl fmt::Display for Tally {
         }
         writeln!(
             out,
+            "under reading 1: {}, under reading 2: {}",
+            self.readings[0], self.readings[1]
+        )?;
+        writeln!(
+            out,
             "verdict 0: {}, verdict 1: {}",
             self.verdicts[0], self.verdicts[1]
         )?;
@@ -68,11 +79,14 @@ impl fmt::Display for Tally {
         )?;
         writeln!(
             out,
-            "laws as tried: hopeless, all may rest, some must be left"
+            "laws as tried under reading 1, then 2: hopeless, all may rest, some must be left"
         )?;
         for count in &self.laws.laws {
-            let (hopeless, resting, leaving) = (count.hopeless, count.resting, count.leaving);
-            writeln!(out, "  {} {hopeless} {resting} {leaving}", count.law)?;
+            let words = count.tried.map(|tried| {
+                let (hopeless, resting, leaving) = (tried.hopeless, tried.resting, tried.leaving);
+                format!("{hopeless} {resting} {leaving}")
+            });
+            writeln!(out, "  {} {}", count.law, words.join(", "))?;
         }
         Ok(())
     }
@@ -145,6 +159,7 @@ mod tests {
     use crate::moment::STATE_LENGTH;
     use crate::parse;
     use crate::policy::Policy;
+    use crate::reading::Reading;
 
     /// Calls the model, and spoils one thing before or after. A comparison
     /// that does not notice is worth nothing.
@@ -161,6 +176,13 @@ mod tests {
         LastRuleWins,
         EveryLocationRests,
         LocationOneIsRefused,
+        OneReadingOnly,
+        MarksOfTheOtherReading,
+        ReadingZeroIsOne,
+        ReadingThreeIsTwo,
+        FileBeforeReading,
+        ClockGoesOnFromWhatWasRead,
+        CeilingNotRead,
         InventLiveCount,
         EveryStateCounts,
         MarkPastTheStates,
@@ -177,13 +199,20 @@ mod tests {
         Stray,
     }
 
-    const FAULTS: [Fault; 20] = [
+    const FAULTS: [Fault; 27] = [
         Fault::RefuseAlways,
         Fault::ForwardEverything,
         Fault::SmallestAmongEquals,
         Fault::LastRuleWins,
         Fault::EveryLocationRests,
         Fault::LocationOneIsRefused,
+        Fault::OneReadingOnly,
+        Fault::MarksOfTheOtherReading,
+        Fault::ReadingZeroIsOne,
+        Fault::ReadingThreeIsTwo,
+        Fault::FileBeforeReading,
+        Fault::ClockGoesOnFromWhatWasRead,
+        Fault::CeilingNotRead,
         Fault::InventLiveCount,
         Fault::EveryStateCounts,
         Fault::MarkPastTheStates,
@@ -205,11 +234,31 @@ mod tests {
             self.fault == fault
         }
 
+        /// The reading as a spoilt reader takes it.
+        fn reading(&self, reading: u8, file: &[u8]) -> u8 {
+            let file_refused = || parse::check(file).is_err();
+            match reading {
+                2 if self.has(Fault::OneReadingOnly) => 1,
+                0 if self.has(Fault::ReadingZeroIsOne) => 1,
+                3 if self.has(Fault::ReadingThreeIsTwo) => 2,
+                0 | 3.. if self.has(Fault::FileBeforeReading) && file_refused() => 1,
+                _ => reading,
+            }
+        }
+
         /// The file as a spoilt reader sees it.
-        fn file(&self, file: &[u8]) -> Vec<u8> {
+        fn file(&self, reading: u8, file: &[u8]) -> Vec<u8> {
             let Ok(mut policy) = parse::check(file) else {
                 return file.to_vec();
             };
+            if self.has(Fault::CeilingNotRead) && reading == 2 {
+                // A value that stops one below the ceiling meets no low there.
+                let clocks = policy.ceilings.clone();
+                policy.rules.retain(|rule| {
+                    let mut bounds = rule.bounds.iter().zip(&clocks);
+                    bounds.all(|(bound, &ceiling)| bound.low < ceiling)
+                });
+            }
             if self.has(Fault::LastRuleWins) {
                 policy.rules.reverse();
                 policy.rules.sort_by_key(|rule| rule.source);
@@ -237,16 +286,22 @@ mod tests {
     }
 
     impl Engine for Spoilt {
-        fn prepare(&mut self, file: &[u8], marks: &mut [u8]) -> u64 {
+        fn prepare(&mut self, reading: u8, file: &[u8], marks: &mut [u8]) -> u64 {
             if self.has(Fault::RefuseAlways) {
                 return 11;
             }
+            let named = Reading::named(reading);
             let leaves = |policy: Policy| policy.must_leave.contains(&true);
-            if self.has(Fault::LocationOneIsRefused) && parse::check(file).is_ok_and(leaves) {
+            let leaves = named.is_ok() && parse::check(file).is_ok_and(leaves);
+            if self.has(Fault::LocationOneIsRefused) && leaves {
                 return 5;
             }
             let before = marks.to_vec();
-            let answer = Model.prepare(&self.file(file), marks);
+            let reading = match named {
+                Ok(named) if self.has(Fault::MarksOfTheOtherReading) => named.other().number(),
+                _ => self.reading(reading, file),
+            };
+            let answer = Model.prepare(reading, &self.file(reading, file), marks);
             let states = (answer >> 16 & 0xFF_FFFF) as usize;
             if self.has(Fault::MarkPastTheStates) && answer as u8 == 0 && states < marks.len() {
                 marks[states] = 0;
@@ -264,18 +319,37 @@ mod tests {
             }
         }
 
-        fn input(&mut self, file: &[u8], marks: &[u8], state: &[u16], x: u8) -> u64 {
+        fn input(&mut self, reading: u8, file: &[u8], marks: &[u8], state: &[u16], x: u8) -> u64 {
             let (marks, state) = (self.marks(marks), self.state(state));
-            let file = self.file(file);
-            let answer = Model.input(&file, &marks, &state, x);
+            let reading = self.reading(reading, file);
+            let file = self.file(reading, file);
+            let half = |x| Model.input(reading, &file, &marks, &state, x);
+            let answer = half(x);
             match self.has(Fault::SmallestAmongEquals) && refusal_in(answer) == 0 {
-                true => smallest_nearest(x, |x| Model.input(&file, &marks, &state, x)),
+                true => smallest_nearest(x, half),
                 false => answer,
             }
         }
 
-        fn output(&mut self, file: &[u8], marks: &[u8], state: &mut [u16], x: u8, y: u8) -> u64 {
-            let answer = Model.output(&self.file(file), &self.marks(marks), state, x, y);
+        fn output(
+            &mut self,
+            reading: u8,
+            file: &[u8],
+            marks: &[u8],
+            state: &mut [u16],
+            x: u8,
+            y: u8,
+        ) -> u64 {
+            let reading = self.reading(reading, file);
+            let (file, marks) = (self.file(reading, file), self.marks(marks));
+            let answer = Model.output(reading, &file, &marks, state, x, y);
+            let counts_on = self.has(Fault::ClockGoesOnFromWhatWasRead) && reading == 2;
+            if counts_on && refusal_in(answer) == 0 {
+                let policy = parse::check(&file).expect("it was read");
+                for (clock, &ceiling) in state[1..].iter_mut().zip(&policy.ceilings) {
+                    *clock += u16::from(0 < *clock && *clock < ceiling);
+                }
+            }
             if self.has(Fault::StateMovesOnRefusal) && answer == 17 {
                 state[0] = 0;
                 state[STATE_LENGTH - 1] = 0;
@@ -286,6 +360,7 @@ mod tests {
 
         fn run(
             &mut self,
+            reading: u8,
             file: &[u8],
             marks: &[u8],
             state: &mut [u16],
@@ -296,12 +371,14 @@ mod tests {
                 let wrong = parse::check(file).is_ok_and(|policy| {
                     events.iter().any(|event| event & !policy.event_mask() != 0)
                 });
-                if wrong {
+                if wrong && Reading::named(reading).is_ok() {
                     return 15;
                 }
             }
+            let reading = self.reading(reading, file);
             let answer = Model.run(
-                &self.file(file),
+                reading,
+                &self.file(reading, file),
                 &self.marks(marks),
                 state,
                 events,

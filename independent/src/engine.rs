@@ -10,17 +10,26 @@ use crate::ticks::{self, Rounding};
 /// lowest byte, 0 for none, and above it what the function found.
 pub trait Engine {
     /// refusal | verdict << 8 | states << 16 | live << 40
-    fn prepare(&mut self, file: &[u8], marks: &mut [u8]) -> u64;
+    fn prepare(&mut self, reading: u8, file: &[u8], marks: &mut [u8]) -> u64;
 
     /// refusal | x' << 8
-    fn input(&mut self, file: &[u8], marks: &[u8], state: &[u16], x: u8) -> u64;
+    fn input(&mut self, reading: u8, file: &[u8], marks: &[u8], state: &[u16], x: u8) -> u64;
 
     /// refusal | y' << 8
-    fn output(&mut self, file: &[u8], marks: &[u8], state: &mut [u16], x: u8, y: u8) -> u64;
+    fn output(
+        &mut self,
+        reading: u8,
+        file: &[u8],
+        marks: &[u8],
+        state: &mut [u16],
+        x: u8,
+        y: u8,
+    ) -> u64;
 
     /// refusal | events released << 8
     fn run(
         &mut self,
+        reading: u8,
         file: &[u8],
         marks: &[u8],
         state: &mut [u16],
@@ -55,8 +64,8 @@ pub fn found_in(answer: u64) -> usize {
 pub struct Model;
 
 impl Engine for Model {
-    fn prepare(&mut self, file: &[u8], marks: &mut [u8]) -> u64 {
-        match enforce::prepare(file, marks) {
+    fn prepare(&mut self, reading: u8, file: &[u8], marks: &mut [u8]) -> u64 {
+        match enforce::prepare(reading, file, marks) {
             Ok(prepared) => {
                 let counts = (prepared.states as u64) << 16 | (prepared.live as u64) << 40;
                 u64::from(prepared.verdict) << 8 | counts
@@ -65,23 +74,32 @@ impl Engine for Model {
         }
     }
 
-    fn input(&mut self, file: &[u8], marks: &[u8], state: &[u16], x: u8) -> u64 {
-        packed(enforce::input_half(file, marks, state, x))
+    fn input(&mut self, reading: u8, file: &[u8], marks: &[u8], state: &[u16], x: u8) -> u64 {
+        packed(enforce::input_half(reading, file, marks, state, x))
     }
 
-    fn output(&mut self, file: &[u8], marks: &[u8], state: &mut [u16], x: u8, y: u8) -> u64 {
-        packed(enforce::output_half(file, marks, state, x, y))
+    fn output(
+        &mut self,
+        reading: u8,
+        file: &[u8],
+        marks: &[u8],
+        state: &mut [u16],
+        x: u8,
+        y: u8,
+    ) -> u64 {
+        packed(enforce::output_half(reading, file, marks, state, x, y))
     }
 
     fn run(
         &mut self,
+        reading: u8,
         file: &[u8],
         marks: &[u8],
         state: &mut [u16],
         events: &[u8],
         released: &mut [u8],
     ) -> u64 {
-        let end = enforce::run(file, marks, state, events, released);
+        let end = enforce::run(reading, file, marks, state, events, released);
         let refusal = end.refusal.map_or(0, Refusal::number);
         u64::from(refusal) | (end.released as u64) << 8
     }

@@ -2,6 +2,7 @@
 
 use crate::moment::Moment;
 use crate::policy::{Condition, Policy, Rule};
+use crate::reading::Reading;
 
 /// The number of values four signals have.
 const VALUES: usize = 16;
@@ -70,19 +71,24 @@ fn values_meeting(signals: u8, condition: Condition) -> Values {
     possible.fold(0, |all, value| all | 1 << value)
 }
 
-/// The rules of a policy by location, each with the events its care bits admit.
+/// The rules of a policy by location, each with the events its care bits admit,
+/// and how its clocks are read.
 pub struct RuleBook<'a> {
+    reading: Reading,
     by_location: Vec<Vec<(&'a Rule, EventSet)>>,
 }
 
 impl<'a> RuleBook<'a> {
-    pub fn new(policy: &'a Policy) -> RuleBook<'a> {
+    pub fn new(policy: &'a Policy, reading: Reading) -> RuleBook<'a> {
         let mut by_location = vec![Vec::new(); policy.locations()];
         for rule in &policy.rules {
             let events = EventSet::meeting(policy, rule.input, rule.output);
             by_location[usize::from(rule.source)].push((rule, events));
         }
-        RuleBook { by_location }
+        RuleBook {
+            reading,
+            by_location,
+        }
     }
 
     /// Calls `each` with every rule that decides some event at `moment`, and
@@ -90,7 +96,7 @@ impl<'a> RuleBook<'a> {
     pub fn for_each_share(&self, moment: &Moment, mut each: impl FnMut(&'a Rule, &EventSet)) {
         let mut taken = EventSet::EMPTY;
         for (rule, events) in &self.by_location[usize::from(moment.location)] {
-            if !moment.satisfies(rule) {
+            if !moment.satisfies(rule, self.reading) {
                 continue;
             }
             let share = events.without(&taken);
@@ -104,10 +110,9 @@ impl<'a> RuleBook<'a> {
     /// Where one event leads, or nothing for a violation.
     pub fn follow(&self, moment: &Moment, x: u8, y: u8) -> Option<Moment> {
         let rules = &self.by_location[usize::from(moment.location)];
-        let deciding = rules
-            .iter()
-            .map(|(rule, _)| rule)
-            .find(|rule| rule.input.agrees(x) && rule.output.agrees(y) && moment.satisfies(rule))?;
+        let agrees = |rule: &&Rule| rule.input.agrees(x) && rule.output.agrees(y);
+        let mut agreeing = rules.iter().map(|&(rule, _)| rule).filter(agrees);
+        let deciding = agreeing.find(|rule| moment.satisfies(rule, self.reading))?;
         moment.after(deciding)
     }
 
@@ -129,6 +134,7 @@ mod tests {
     use crate::moment::Numbering;
     use crate::policies;
     use crate::random::Random;
+    use crate::reading::READINGS;
 
     /// The shares are worked out with sets, `follow` with one event at a time:
     /// they must say the same.
@@ -137,7 +143,7 @@ mod tests {
         let mut random = Random::new(21);
         for _ in 0..300 {
             let policy = policies::any(&mut random);
-            let book = RuleBook::new(&policy);
+            let book = RuleBook::new(&policy, random.pick(&READINGS));
             let numbering = Numbering::new(&policy);
             let number = random.below(numbering.states() as u64) as usize;
             let moment = numbering.moment(number);

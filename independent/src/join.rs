@@ -102,21 +102,24 @@ mod tests {
     use crate::events::RuleBook;
     use crate::policies::{self, Family};
     use crate::random::Random;
+    use crate::reading::READINGS;
 
     /// A stream is permitted by the join exactly when by both, and rests there
-    /// exactly when it rests in both.
+    /// exactly when it rests in both: under each reading, used for all three.
     #[test]
     fn a_join_permits_what_both_permit_and_rests_where_both_rest() {
         let mut random = Random::new(51);
         let (mut yes, mut no, mut apart) = (0, 0, 0);
         for _ in 0..600 {
-            let sisters = policies::sisters(&mut random, Family::Small, 2);
+            let reading = random.pick(&READINGS);
+            let sisters = policies::sisters(&mut random, reading, Family::Small, 2);
             let (a, b) = (&sisters[0], &sisters[1]);
             let Some(joined) = product(a, b) else {
                 continue;
             };
             assert_eq!(parse::check(&joined.encode()).as_ref(), Ok(&joined));
-            let books = (RuleBook::new(a), RuleBook::new(b), RuleBook::new(&joined));
+            let book = |policy| RuleBook::new(policy, reading);
+            let books = (book(a), book(b), book(&joined));
             for _ in 0..10 {
                 let length = random.below(8);
                 let stream: Vec<u8> = (0..length)

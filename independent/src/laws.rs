@@ -1,7 +1,8 @@
 //! Laws that joins and runs keep, tried on random policies with the same
 //! signals: the order and the grouping of a join do not matter, nor does
 //! joining a policy with itself or with the one that permits everything; and
-//! a released stream is permitted by every part and comes back unchanged.
+//! a released stream is permitted by every part and comes back unchanged. All of
+//! a case is read in the same way; the bytes of a join carry no reading.
 
 use crate::call::hex;
 use crate::engine::{found_in, refusal_in, Engine};
@@ -11,10 +12,13 @@ use crate::parse;
 use crate::policies::{self, Family};
 use crate::policy::{Policy, MAX_STATES};
 use crate::random::Random;
+use crate::reading::{Reading, READINGS};
 use crate::refusal::Refusal;
 
-/// Three policies with the same signals, and a stream.
+/// Three policies with the same signals, a reading for all of them and their
+/// joins, and a stream.
 pub struct LawCase {
+    reading: Reading,
     parts: Vec<Policy>,
     files: Vec<Vec<u8>>,
     unit: Vec<u8>,
@@ -33,10 +37,15 @@ pub enum Behaviour {
 }
 
 /// One law, and how often it was tried on a pair of files that were both
-/// there.
+/// there, under each reading.
 #[derive(Debug)]
 pub struct LawCount {
     pub law: &'static str,
+    pub tried: [Tried; READINGS.len()],
+}
+
+#[derive(Clone, Copy, Debug, Default)]
+pub struct Tried {
     pub hopeless: usize,
     /// Not hopeless, and all locations of the policies may rest.
     pub resting: usize,
@@ -50,20 +59,16 @@ pub struct LawTally {
 }
 
 impl LawTally {
-    fn of(&mut self, law: &'static str) -> &mut LawCount {
+    fn of(&mut self, law: &'static str, reading: Reading) -> &mut Tried {
         let place = match self.laws.iter().position(|count| count.law == law) {
             Some(place) => place,
             None => {
-                self.laws.push(LawCount {
-                    law,
-                    hopeless: 0,
-                    resting: 0,
-                    leaving: 0,
-                });
+                let tried = Default::default();
+                self.laws.push(LawCount { law, tried });
                 self.laws.len() - 1
             }
         };
-        &mut self.laws[place]
+        &mut self.laws[place].tried[usize::from(reading.number()) - 1]
     }
 }
 
@@ -73,10 +78,12 @@ pub type Findings = Vec<(Vec<u8>, Behaviour)>;
 pub fn case(seed: u64, number: u64) -> LawCase {
     // Apart from the groups of calls, which use the seed itself.
     let mut random = Random::for_group(!seed, number);
-    let parts = policies::sisters(&mut random, Family::Small, 3);
+    let reading = random.pick(&READINGS);
+    let parts = policies::sisters(&mut random, reading, Family::Small, 3);
     let length = random.between(0, 40);
     let mask = parts[0].event_mask();
     LawCase {
+        reading,
         files: parts.iter().map(Policy::encode).collect(),
         unit: policies::unit(&parts[0].inputs, &parts[0].outputs).encode(),
         events: (0..length).map(|_| random.byte() & mask).collect(),
@@ -88,7 +95,8 @@ impl LawCase {
     pub fn describe(&self) -> String {
         let files: Vec<String> = self.files.iter().map(|file| hex(file)).collect();
         format!(
-            "policies:\n{}\nevents: {}",
+            "reading: {}\npolicies:\n{}\nevents: {}",
+            self.reading.number(),
             files.join("\n"),
             hex(&self.events)
         )
@@ -125,12 +133,16 @@ impl Examination<'_> {
     fn count(&mut self, law: &'static str, hopeless: bool) {
         let mut locations = self.case.parts.iter().flat_map(|part| &part.must_leave);
         let leaving = locations.any(|&left| left);
-        let count = self.tally.of(law);
+        let count = self.tally.of(law, self.case.reading);
         *(match (hopeless, leaving) {
             (true, _) => &mut count.hopeless,
             (false, false) => &mut count.resting,
             (false, true) => &mut count.leaving,
         }) += 1;
+    }
+
+    fn reading(&self) -> u8 {
+        self.case.reading.number()
     }
 
     fn all(&mut self) -> Result<(), String> {
@@ -222,7 +234,8 @@ impl Examination<'_> {
     fn marks(&mut self, file: &[u8]) -> Result<Option<Vec<u8>>, String> {
         let states = parse::check(file).map_or(MAX_STATES, |policy| policy.states());
         let mut marks = vec![0xEE; states as usize];
-        match refusal_in(self.engine.prepare(file, &mut marks)) {
+        let reading = self.reading();
+        match refusal_in(self.engine.prepare(reading, file, &mut marks)) {
             0 => Ok(Some(marks)),
             refusal if refusal == Refusal::StartNotLive.number() => Ok(None),
             refusal => Err(format!("prepare: a join is refused by {refusal}")),
@@ -232,9 +245,10 @@ impl Examination<'_> {
     fn run(&mut self, file: &[u8], marks: &[u8], events: &[u8]) -> Result<Behaviour, String> {
         let mut state = [0; STATE_LENGTH];
         let mut stream = vec![0xEE; events.len()];
+        let reading = self.reading();
         let answer = self
             .engine
-            .run(file, marks, &mut state, events, &mut stream);
+            .run(reading, file, marks, &mut state, events, &mut stream);
         if answer != (events.len() as u64) << 8 {
             return Err(format!(
                 "run: with the marks of prepare it answers {answer:#x}"
@@ -257,7 +271,7 @@ impl Examination<'_> {
             return Ok(());
         };
         for &part in parts {
-            if !RuleBook::new(&self.case.parts[part]).permits(stream) {
+            if !RuleBook::new(&self.case.parts[part], self.case.reading).permits(stream) {
                 return Err(format!(
                     "permitted: part {part} does not permit {}",
                     hex(stream)
@@ -280,9 +294,12 @@ impl Examination<'_> {
         let mut state = [0; STATE_LENGTH];
         let mut stream = Vec::new();
         for event in &self.case.events {
-            let input = self.engine.input(file, marks, &state, event & 15);
+            let (reading, wanted) = (self.reading(), event >> 4);
+            let input = self.engine.input(reading, file, marks, &state, event & 15);
             let x = found_in(input) as u8;
-            let output = self.engine.output(file, marks, &mut state, x, event >> 4);
+            let output = self
+                .engine
+                .output(reading, file, marks, &mut state, x, wanted);
             if refusal_in(input) != 0 || refusal_in(output) != 0 {
                 return Err(format!("halves: they answer {input:#x} and {output:#x}"));
             }
@@ -307,8 +324,10 @@ mod tests {
             }
         }
         assert_eq!(tally.laws.len(), 8, "{:?}", tally.laws);
-        for count in tally.laws {
-            assert!(count.resting > 100 && count.leaving > 200, "{count:?}");
+        for count in &tally.laws {
+            for tried in count.tried {
+                assert!(tried.resting > 50 && tried.leaving > 100, "{count:?}");
+            }
         }
     }
 }

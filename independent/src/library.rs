@@ -74,18 +74,20 @@ impl Library {
 // Safety of every call below: each pointer is to the beginning of as many
 // cells as the length beside it says, and all of them outlive the call.
 impl Engine for Library {
-    fn prepare(&mut self, file: &[u8], marks: &mut [u8]) -> u64 {
+    fn prepare(&mut self, reading: u8, file: &[u8], marks: &mut [u8]) -> u64 {
         let (mut f, mut m) = (bytes(file), bytes(marks));
-        let answer = unsafe { groovepawn_prepare(f.pointer(), f.length, m.pointer(), m.length) };
+        let answer =
+            unsafe { groovepawn_prepare(reading, f.pointer(), f.length, m.pointer(), m.length) };
         self.expect(f.is_still(file));
         self.expect(m.give_back(marks));
         answer
     }
 
-    fn input(&mut self, file: &[u8], marks: &[u8], state: &[u16], x: u8) -> u64 {
+    fn input(&mut self, reading: u8, file: &[u8], marks: &[u8], state: &[u16], x: u8) -> u64 {
         let (mut f, mut m, mut s) = (bytes(file), bytes(marks), numbers(state));
         let answer = unsafe {
             groovepawn_input(
+                reading,
                 f.pointer(),
                 f.length,
                 m.pointer(),
@@ -101,10 +103,19 @@ impl Engine for Library {
         u64::from(answer)
     }
 
-    fn output(&mut self, file: &[u8], marks: &[u8], state: &mut [u16], x: u8, y: u8) -> u64 {
+    fn output(
+        &mut self,
+        reading: u8,
+        file: &[u8],
+        marks: &[u8],
+        state: &mut [u16],
+        x: u8,
+        y: u8,
+    ) -> u64 {
         let (mut f, mut m, mut s) = (bytes(file), bytes(marks), numbers(state));
         let answer = unsafe {
             groovepawn_output(
+                reading,
                 f.pointer(),
                 f.length,
                 m.pointer(),
@@ -123,6 +134,7 @@ impl Engine for Library {
 
     fn run(
         &mut self,
+        reading: u8,
         file: &[u8],
         marks: &[u8],
         state: &mut [u16],
@@ -133,6 +145,7 @@ impl Engine for Library {
         let (mut e, mut r) = (bytes(events), bytes(released));
         let answer = unsafe {
             groovepawn_run(
+                reading,
                 f.pointer(),
                 f.length,
                 m.pointer(),

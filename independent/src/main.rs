@@ -21,6 +21,7 @@ mod policies;
 mod policy;
 mod program;
 mod random;
+mod reading;
 mod refusal;
 mod rules;
 mod samples;

@@ -1,7 +1,8 @@
 //! Where a policy stands, with clocks that never stop, and the number of the
 //! stopped state that stands for it.
 
-use crate::policy::{Policy, Rule, MAX_CLOCKS, VIOLATION};
+use crate::policy::{Bound, Policy, Rule, MAX_CLOCKS, VIOLATION};
+use crate::reading::Reading;
 use crate::refusal::Refusal;
 
 /// A state as it is lent: the location, then four clocks.
@@ -20,12 +21,14 @@ impl Moment {
         clocks: [0; MAX_CLOCKS],
     };
 
-    pub fn satisfies(&self, rule: &Rule) -> bool {
+    pub fn satisfies(&self, rule: &Rule, reading: Reading) -> bool {
         let mut pairs = rule.bounds.iter().zip(&self.clocks);
-        rule.source == self.location && pairs.all(|(bound, &clock)| bound.holds(clock))
+        let holds = |(bound, &clock): (&Bound, &u64)| bound.holds(reading.seen(clock));
+        rule.source == self.location && pairs.all(holds)
     }
 
     /// The next moment if `rule` decides, or nothing if that is a violation.
+    /// It is worked out from the start of the tick, whatever the reading.
     pub fn after(&self, rule: &Rule) -> Option<Moment> {
         if rule.target == VIOLATION {
             return None;

@@ -3,6 +3,7 @@
 use crate::graph::Graph;
 use crate::policy::*;
 use crate::random::Random;
+use crate::reading::Reading;
 use crate::rules;
 
 /// How many states a random policy may have.
@@ -97,14 +98,14 @@ pub enum Family {
     Large,
 }
 
-/// Policies with the same signals. Most have a live start, since a join with
-/// one that has none is as hopeless as it.
-pub fn sisters(random: &mut Random, family: Family, count: usize) -> Vec<Policy> {
+/// Policies with the same signals. Most have a live start when read so, since a
+/// join with one that has none is as hopeless as it.
+pub fn sisters(random: &mut Random, reading: Reading, family: Family, count: usize) -> Vec<Policy> {
     let (inputs, outputs) = some_tags(random);
     let lively = random.percent(85);
     let one = |random: &mut Random| loop {
         let policy = sister(random, family, &inputs, &outputs);
-        if !lively || Graph::new(&policy).liveness().live[0] {
+        if !lively || Graph::new(&policy, reading).liveness().live[0] {
             return policy;
         }
     };
@@ -244,6 +245,7 @@ fn with_rules(
 mod tests {
     use super::*;
     use crate::parse;
+    use crate::reading::READINGS;
     use crate::refusal::Refusal;
 
     #[test]
@@ -263,12 +265,12 @@ mod tests {
     }
 
     /// Whether some state goes on for ever and yet is not live.
-    fn lives_more_if_all_rest(policy: &Policy, live: usize) -> bool {
+    fn lives_more_if_all_rest(policy: &Policy, reading: Reading, live: usize) -> bool {
         let resting = Policy {
             must_leave: vec![false; policy.locations()],
             ..policy.clone()
         };
-        Graph::new(&resting).liveness().count() > live
+        Graph::new(&resting, reading).liveness().count() > live
     }
 
     /// Random policies are of use only if they are of all kinds.
@@ -279,7 +281,7 @@ mod tests {
         let mut outputs = [0; 5];
         let mut clocks = [0; 5];
         let (mut whole, mut partial, mut hopeless, mut deep) = (0, 0, 0, 0);
-        let (mut all_rest, mut restless) = (0, 0);
+        let (mut all_rest, mut restless, mut read_apart) = (0, 0, 0);
         let (mut most_rules, mut most_locations, mut highest) = (0, 0, 0);
         for _ in 0..3_000 {
             let policy = any(&mut random);
@@ -289,10 +291,13 @@ mod tests {
             most_rules = most_rules.max(policy.rules.len());
             most_locations = most_locations.max(policy.locations());
             highest = highest.max(policy.ceilings.iter().copied().max().unwrap_or(0));
-            let liveness = Graph::new(&policy).liveness();
+            let reading = random.pick(&READINGS);
+            let liveness = Graph::new(&policy, reading).liveness();
+            let otherwise = Graph::new(&policy, reading.other()).liveness();
+            read_apart += usize::from(liveness.live != otherwise.live);
             deep += usize::from(liveness.rounds > 3);
             all_rest += usize::from(!policy.must_leave.contains(&true));
-            restless += usize::from(lives_more_if_all_rest(&policy, liveness.count()));
+            restless += usize::from(lives_more_if_all_rest(&policy, reading, liveness.count()));
             match (liveness.live[0], liveness.live.iter().all(|&live| live)) {
                 (_, true) => whole += 1,
                 (true, false) => partial += 1,
@@ -307,6 +312,7 @@ mod tests {
         }
         assert!((1_200..1_800).contains(&all_rest), "{all_rest}");
         assert!(restless > 300, "{restless}");
+        assert!(read_apart > 300, "{read_apart}");
         assert_eq!((most_rules, most_locations), (MAX_RULES, MAX_LOCATIONS));
         assert_eq!(highest, MAX_CEILING);
     }

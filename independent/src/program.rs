@@ -8,6 +8,7 @@ use crate::moment::STATE_LENGTH;
 use crate::policies::{self, Size};
 use crate::policy::{Policy, MAX_STATES};
 use crate::random::Random;
+use crate::reading::Reading;
 use crate::refusal::Refusal;
 use crate::subject::some_events;
 use std::fmt::Write as _;
@@ -18,6 +19,8 @@ use std::time::Duration;
 
 const LONGEST_POLICY: usize = 5_974;
 const MOST_EVENTS: usize = 16_384;
+/// The program uses reading 1.
+const READING: Reading = Reading::AtStart;
 
 /// All that is to be printed.
 pub fn printed(input: &[u8]) -> String {
@@ -30,14 +33,21 @@ pub fn printed(input: &[u8]) -> String {
 fn lines(input: &[u8]) -> Result<String, Refusal> {
     let (file, rest) = counted(input, LONGEST_POLICY)?;
     let mut marks = vec![0; MAX_STATES as usize];
-    let prepared = enforce::prepare(file, &mut marks)?;
+    let prepared = enforce::prepare(READING.number(), file, &mut marks)?;
     let (events, rest) = counted(rest, MOST_EVENTS)?;
     if !rest.is_empty() {
         return Err(Refusal::LeftOver);
     }
     let mut released = vec![0; events.len()];
     let mut state = [0; STATE_LENGTH];
-    let end = enforce::run(file, &marks, &mut state, events, &mut released);
+    let end = enforce::run(
+        READING.number(),
+        file,
+        &marks,
+        &mut state,
+        events,
+        &mut released,
+    );
     if let Some(refusal) = end.refusal {
         return Err(refusal);
     }

@@ -22,9 +22,10 @@ pub enum Refusal {
     NothingReachesLive = 17,
     TickLengthZero = 18,
     TooManyTicks = 19,
+    UnknownReading = 22,
 }
 
-pub const LAST_REFUSAL: usize = 19;
+pub const LAST_REFUSAL: usize = 22;
 
 impl Refusal {
     pub fn number(self) -> u8 {

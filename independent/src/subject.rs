@@ -5,10 +5,13 @@ use crate::graph::{Graph, Liveness};
 use crate::moment::{Moment, Numbering, STATE_LENGTH};
 use crate::policy::Policy;
 use crate::random::Random;
+use crate::reading::Reading;
 
-/// A valid policy with everything needed to make sensible calls about it.
+/// A valid policy, read in one way, with everything needed to make sensible
+/// calls about it.
 pub struct Subject {
     pub policy: Policy,
+    pub reading: Reading,
     pub file: Vec<u8>,
     numbering: Numbering,
     graph: Graph,
@@ -16,13 +19,14 @@ pub struct Subject {
 }
 
 impl Subject {
-    pub fn new(policy: Policy) -> Subject {
-        let graph = Graph::new(&policy);
+    pub fn new(policy: Policy, reading: Reading) -> Subject {
+        let graph = Graph::new(&policy, reading);
         Subject {
             file: policy.encode(),
             numbering: Numbering::new(&policy),
             liveness: graph.liveness(),
             graph,
+            reading,
             policy,
         }
     }
@@ -47,6 +51,26 @@ impl Subject {
         let events = 1 << (self.policy.inputs.len() + self.policy.outputs.len());
         let per_location = 1 + self.policy.rules.len() / self.policy.locations();
         (self.liveness.rounds + 1) * self.states() * events * per_location
+    }
+}
+
+/// Mostly the reading of the subject, so that its marks are those of the call;
+/// now and then the other one, or a number that is none.
+pub fn some_reading(random: &mut Random, subject: &Subject) -> u8 {
+    match random.below(100) {
+        0..=4 => no_reading(random),
+        5..=14 => subject.reading.other().number(),
+        _ => subject.reading.number(),
+    }
+}
+
+/// Any number but 1 and 2.
+fn no_reading(random: &mut Random) -> u8 {
+    match random.below(4) {
+        0 => 0,
+        1 => 3,
+        2 => 255,
+        _ => random.between(3, 255) as u8,
     }
 }
 

@@ -7,7 +7,7 @@ use crate::engine::{refusal_in, Engine, Model};
 use crate::refusal::LAST_REFUSAL;
 use crate::written;
 
-pub const MAGIC: [u8; 4] = *b"GPV1";
+pub const MAGIC: [u8; 4] = *b"GPV2";
 
 /// A random call whose record is longer than this is left out.
 const LONGEST_RECORD: usize = 1_200;
@@ -72,7 +72,7 @@ pub fn chosen(seed: u64) -> impl Iterator<Item = (Call, Outcome)> {
 /// Whether a reader with the buffers the README names can hold the call.
 fn strings_fit(call: &Call) -> bool {
     let (policies, others): (Vec<&Vec<u8>>, Vec<&Vec<u8>>) = match call {
-        Call::Prepare { file, marks }
+        Call::Prepare { file, marks, .. }
         | Call::Input { file, marks, .. }
         | Call::Output { file, marks, .. } => (vec![file], vec![marks]),
         Call::Run {
@@ -102,40 +102,51 @@ pub fn record(call: &Call, outcome: &Outcome) -> Vec<u8> {
 fn body(call: &Call, outcome: &Outcome) -> Vec<u8> {
     let mut body = Vec::new();
     match call {
-        Call::Prepare { file, marks } => {
+        Call::Prepare {
+            reading,
+            file,
+            marks,
+        } => {
+            body.push(*reading);
             put_string(&mut body, file);
             put_string(&mut body, marks);
         }
         Call::Input {
+            reading,
             file,
             marks,
             state,
             x,
         } => {
+            body.push(*reading);
             put_string(&mut body, file);
             put_string(&mut body, marks);
             put_state(&mut body, state);
             body.push(*x);
         }
         Call::Output {
+            reading,
             file,
             marks,
             state,
             x,
             y,
         } => {
+            body.push(*reading);
             put_string(&mut body, file);
             put_string(&mut body, marks);
             put_state(&mut body, state);
             body.extend([*x, *y]);
         }
         Call::Run {
+            reading,
             file,
             marks,
             state,
             events,
             released,
         } => {
+            body.push(*reading);
             put_string(&mut body, file);
             put_string(&mut body, marks);
             put_state(&mut body, state);
@@ -271,16 +282,19 @@ impl<'a> Reader<'a> {
     fn call(&mut self, kind: u8) -> Result<Call, String> {
         Ok(match kind {
             1 => Call::Prepare {
+                reading: self.byte()?,
                 file: self.string()?,
                 marks: self.string()?,
             },
             2 => Call::Input {
+                reading: self.byte()?,
                 file: self.string()?,
                 marks: self.string()?,
                 state: self.state()?,
                 x: self.byte()?,
             },
             3 => Call::Output {
+                reading: self.byte()?,
                 file: self.string()?,
                 marks: self.string()?,
                 state: self.state()?,
@@ -288,6 +302,7 @@ impl<'a> Reader<'a> {
                 y: self.byte()?,
             },
             4 => Call::Run {
+                reading: self.byte()?,
                 file: self.string()?,
                 marks: self.string()?,
                 state: self.state()?,

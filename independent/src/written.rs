@@ -5,11 +5,15 @@ mod files;
 mod halves;
 mod joins;
 mod leaving;
+mod readings;
 mod runs;
 mod times;
 
 use crate::call::{from_hex, Call, Outcome};
 use crate::moment::STATE_LENGTH;
+
+/// The reading of every call here that does not name another.
+const FIRST_READING: u8 = 1;
 
 /// What every slice lent for writing holds before a call here.
 const FILLER: u8 = 0xEE;
@@ -30,6 +34,7 @@ pub fn all() -> Vec<Written> {
         runs::all(),
         joins::all(),
         leaving::all(),
+        readings::all(),
         times::all(),
     ]
     .into_iter()
@@ -76,8 +81,13 @@ mod tests {
             let refusal = refusal_in(written.expected.answer);
             seen[written.call.kind()][usize::from(refusal)] = true;
         }
-        for number in 0..=LAST_REFUSAL {
+        // 20 and 21 are not given by any function.
+        for number in (0..=19).chain([22]) {
             assert!(seen.iter().any(|function| function[number]), "{number}");
+        }
+        // Those that take a reading.
+        for function in &seen[..4] {
+            assert!(function[22]);
         }
         // Those a half or a run can give beside the nine of a file.
         for kind in [1, 2, 3] {

@@ -1,6 +1,7 @@
 //! The check of a file, from left to right: refusals 1 to 9.
 
 use super::policy::*;
+use super::reading::Reading;
 use super::refusal::Refusal;
 use super::rule::{Condition, Rule, NO_UPPER_BOUND, VIOLATION};
 use std::ops::RangeInclusive;
@@ -26,6 +27,7 @@ impl<'a> Policy<'a> {
             must_leave,
             rules: Rules::new(rules, clocks),
             states: count_states(locations, &ceilings),
+            reading: Reading::AtStart,
         };
         check_rules(&policy)?;
         if !rest.0.is_empty() {

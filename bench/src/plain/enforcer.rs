@@ -4,7 +4,7 @@ use super::policy::{Policy, Rules};
 use super::refusal::Refusal;
 use super::rule::Rule;
 use super::sets::{all_below, is_in, Sets};
-use super::state::State;
+use super::state::{Clocks, State};
 
 /// How a run ended.
 #[derive(Clone, Copy, Debug, PartialEq, Eq)]
@@ -13,8 +13,8 @@ pub struct RunEnd {
     pub released: usize,
 }
 
-pub fn input(file: &[u8], marks: &[u8], state: &[u16], x: u8) -> Result<u8, Refusal> {
-    let policy = Policy::check(file)?;
+pub fn input(reading: u8, file: &[u8], marks: &[u8], state: &[u16], x: u8) -> Result<u8, Refusal> {
+    let policy = Policy::read(reading, file)?;
     check_marks(&policy, marks)?;
     let enforcer = Enforcer::new(&policy, marks);
     let moment = enforcer.moment(state)?;
@@ -23,8 +23,15 @@ pub fn input(file: &[u8], marks: &[u8], state: &[u16], x: u8) -> Result<u8, Refu
 }
 
 /// Changes the state in place; a refusal leaves it as it was.
-pub fn output(file: &[u8], marks: &[u8], state: &mut [u16], x: u8, y: u8) -> Result<u8, Refusal> {
-    let policy = Policy::check(file)?;
+pub fn output(
+    reading: u8,
+    file: &[u8],
+    marks: &[u8],
+    state: &mut [u16],
+    x: u8,
+    y: u8,
+) -> Result<u8, Refusal> {
+    let policy = Policy::read(reading, file)?;
     check_marks(&policy, marks)?;
     let enforcer = Enforcer::new(&policy, marks);
     let moment = enforcer.moment(state)?;
@@ -37,13 +44,14 @@ pub fn output(file: &[u8], marks: &[u8], state: &mut [u16], x: u8, y: u8) -> Res
 
 /// Refusal 17 leaves what was released before it and the state there.
 pub fn run(
+    reading: u8,
     file: &[u8],
     marks: &[u8],
     state: &mut [u16],
     events: &[u8],
     released: &mut [u8],
 ) -> RunEnd {
-    run_checked(file, marks, state, events, released).unwrap_or_else(|refusal| RunEnd {
+    run_checked(reading, file, marks, state, events, released).unwrap_or_else(|refusal| RunEnd {
         refusal: Some(refusal),
         released: 0,
     })
@@ -51,13 +59,14 @@ pub fn run(
 
 /// The error is a refusal before the first event; a 17 is in the end.
 fn run_checked(
+    reading: u8,
     file: &[u8],
     marks: &[u8],
     state: &mut [u16],
     events: &[u8],
     released: &mut [u8],
 ) -> Result<RunEnd, Refusal> {
-    let policy = Policy::check(file)?;
+    let policy = Policy::read(reading, file)?;
     check_marks(&policy, marks)?;
     let enforcer = Enforcer::new(&policy, marks);
     if released.len() < events.len() {
@@ -124,6 +133,7 @@ impl<'a> Enforcer<'a> {
     /// `own` are the rules of the state's location.
     pub fn with(self, state: State, own: Rules<'a>) -> Moment<'a> {
         Moment {
+            seen: state.seen(self.policy),
             enforcer: self,
             state,
             own,
@@ -153,16 +163,24 @@ impl<'a> Enforcer<'a> {
     }
 }
 
-/// A state with the rules of its location.
+/// A state with the rules of its location, and the clock values that their
+/// bounds are tested against.
 pub struct Moment<'a> {
     enforcer: Enforcer<'a>,
     state: State,
+    seen: Clocks,
     own: Rules<'a>,
 }
 
 impl Moment<'_> {
+    /// The next state by the first of the rules that admits the event; nothing
+    /// for a violation.
     fn step(&self, x: u8, y: u8) -> Option<State> {
-        self.state.step(self.enforcer.policy, self.own, x, y)
+        let seen = self.seen;
+        self.own
+            .iter()
+            .find(|rule| rule.admits(x, y, &seen))
+            .and_then(|rule| self.state.by(self.enforcer.policy, rule))
     }
 
     /// The state after the event, if it is marked 1.
@@ -184,7 +202,8 @@ impl Moment<'_> {
 
     /// The rules whose bounds hold.
     fn holding(&self) -> impl Iterator<Item = Rule<'_>> {
-        self.own.iter().filter(|rule| self.state.meets(*rule))
+        let seen = self.seen;
+        self.own.iter().filter(move |rule| rule.holds(&seen))
     }
 
     /// No event is taken yet.
@@ -210,8 +229,9 @@ impl Moment<'_> {
     fn row(&self, x: u8) -> u16 {
         let mut left = all_below(self.enforcer.policy.output_values());
         let mut found = 0;
+        let seen = self.seen;
         for rule in self.own.iter() {
-            if !rule.input().agrees(x) || !self.state.meets(rule) {
+            if !rule.input().agrees(x) || !rule.holds(&seen) {
                 continue;
             }
             let taken = left & rule.output().values();

@@ -1,6 +1,8 @@
 //! A checked policy: what its sections hold, and its rules as the part of
 //! the file that they are.
 
+use super::reading::Reading;
+use super::refusal::Refusal;
 use super::rule::Rule;
 
 pub const MAX_SIGNALS: usize = 4;
@@ -26,9 +28,18 @@ pub struct Policy<'a> {
     pub must_leave: &'a [u8],
     pub rules: Rules<'a>,
     pub states: usize,
+    pub reading: Reading,
 }
 
-impl Policy<'_> {
+impl<'a> Policy<'a> {
+    /// The policy under the reading of this number, which is asked about
+    /// before the file.
+    pub fn read(reading: u8, file: &'a [u8]) -> Result<Policy<'a>, Refusal> {
+        let reading = Reading::named(reading)?;
+        let policy = Policy::check(file)?;
+        Ok(Policy { reading, ..policy })
+    }
+
     pub fn input_values(&self) -> u8 {
         1 << self.inputs.len()
     }

@@ -1,16 +1,19 @@
 //! A state, its number and its step.
 
-use super::policy::{Policy, Rules, MAX_CLOCKS};
+use super::policy::{Policy, MAX_CLOCKS};
+use super::reading::Reading;
 use super::refusal::Refusal;
 use super::rule::{Rule, VIOLATION};
 
 /// A state as it is lent: the location, then the clocks.
 pub const STATE_LENGTH: usize = 1 + MAX_CLOCKS;
 
+pub type Clocks = [u16; MAX_CLOCKS];
+
 #[derive(Clone, Copy)]
 pub struct State {
     location: u16,
-    clocks: [u16; MAX_CLOCKS],
+    clocks: Clocks,
 }
 
 impl State {
@@ -64,17 +67,17 @@ impl State {
         self.location as u8
     }
 
-    /// The next state by the first of its own rules that admits the event;
-    /// nothing for a violation.
-    pub fn step(self, policy: &Policy, own: Rules, x: u8, y: u8) -> Option<State> {
-        own.iter()
-            .find(|rule| rule.admits(x, y, &self.clocks))
-            .and_then(|rule| self.by(policy, rule))
+    /// The clock values that bounds are tested against here.
+    pub fn seen(self, policy: &Policy) -> Clocks {
+        match policy.reading {
+            Reading::AtStart => self.clocks,
+            Reading::Counted => std::array::from_fn(|index| self.counted(policy, index)),
+        }
     }
 
-    /// Whether the rule's bounds hold here.
-    pub fn meets(self, rule: Rule) -> bool {
-        rule.holds(&self.clocks)
+    /// One clock, one up but no further than its ceiling.
+    fn counted(self, policy: &Policy, index: usize) -> u16 {
+        (self.clocks[index] + 1).min(policy.ceilings[index])
     }
 
     /// The next state by one of its own rules; nothing for a violation.
@@ -84,7 +87,7 @@ impl State {
         }
         let clocks = std::array::from_fn(|index| match rule.reset() >> index & 1 {
             1 => 0,
-            _ => (self.clocks[index] + 1).min(policy.ceilings[index]),
+            _ => self.counted(policy, index),
         });
         Some(State {
             location: rule.target().into(),

@@ -20,19 +20,19 @@ fn bytes(hex: &str) -> Vec<u8> {
 }
 
 /// Verdict, states and live states.
-fn prepared(policy: &str) -> Result<(u8, usize, usize), Refusal> {
-    let prepared = prepare(&bytes(policy), &mut [9; 16])?;
+fn prepared(reading: u8, policy: &str) -> Result<(u8, usize, usize), Refusal> {
+    let prepared = prepare(reading, &bytes(policy), &mut [9; 16])?;
     Ok((prepared.verdict, prepared.states, prepared.live))
 }
 
 /// What a run from the start releases.
-fn released(policy: &str, events: &[u8]) -> Result<Vec<u8>, Refusal> {
+fn released(reading: u8, policy: &str, events: &[u8]) -> Result<Vec<u8>, Refusal> {
     let file = bytes(policy);
     let mut marks = [9; 16];
-    prepare(&file, &mut marks)?;
+    prepare(reading, &file, &mut marks)?;
     let mut released = vec![9; events.len()];
     let mut state = [0; STATE_LENGTH];
-    let end = run(&file, &marks, &mut state, events, &mut released);
+    let end = run(reading, &file, &marks, &mut state, events, &mut released);
     match end.refusal {
         Some(refusal) => Err(refusal),
         None => Ok(released),
@@ -41,12 +41,12 @@ fn released(policy: &str, events: &[u8]) -> Result<Vec<u8>, Refusal> {
 
 #[test]
 fn tables_of_the_samples() {
-    assert_eq!(prepared(S), Ok((0, 1, 1)));
-    assert_eq!(prepared(D), Ok((0, 8, 8)));
-    assert_eq!(prepared(T), Ok((1, 2, 1)));
-    assert_eq!(prepared(N), Err(Refusal::StartNotLive));
+    assert_eq!(prepared(1, S), Ok((0, 1, 1)));
+    assert_eq!(prepared(1, D), Ok((0, 8, 8)));
+    assert_eq!(prepared(1, T), Ok((1, 2, 1)));
+    assert_eq!(prepared(1, N), Err(Refusal::StartNotLive));
     let beside = S.replacen("00 01 00 00 03", "00 02 00 00 00 03", 1);
-    assert_eq!(prepared(&beside), Ok((0, 2, 1)));
+    assert_eq!(prepared(1, &beside), Ok((0, 2, 1)));
 }
 
 /// A begins what B must be able to finish, and what can be finished only
@@ -61,19 +61,22 @@ fn transfer(rules: &str) -> String {
 #[test]
 fn what_is_begun_must_be_able_to_finish() {
     let finished = format!("{}  01 00 00 00 00 00 00", transfer("00 04"));
-    assert_eq!(prepared(&finished), Ok((0, 2, 2)));
-    assert_eq!(released(&finished, &[0x01, 0x10]), Ok(vec![0x01, 0x10]));
+    assert_eq!(prepared(1, &finished), Ok((0, 2, 2)));
+    assert_eq!(released(1, &finished, &[0x01, 0x10]), Ok(vec![0x01, 0x10]));
     let unfinished = transfer("00 03");
-    assert_eq!(prepared(&unfinished), Ok((1, 2, 1)));
-    assert_eq!(released(&unfinished, &[0x01, 0x10]), Ok(vec![0x00, 0x10]));
+    assert_eq!(prepared(1, &unfinished), Ok((1, 2, 1)));
+    assert_eq!(
+        released(1, &unfinished, &[0x01, 0x10]),
+        Ok(vec![0x00, 0x10])
+    );
     let byte_two = transfer("00 03").replacen("00 01 00 03", "00 02 00 03", 1);
-    assert_eq!(prepared(&byte_two), Err(Refusal::BadLocationByte));
+    assert_eq!(prepared(1, &byte_two), Err(Refusal::BadLocationByte));
 }
 
 #[test]
 fn refusal_11_leaves_the_marks() {
     let mut marks = [9; 2];
-    let refused = prepare(&bytes(N), &mut marks);
+    let refused = prepare(1, &bytes(N), &mut marks);
     assert_eq!((refused, marks), (Err(Refusal::StartNotLive), [0, 9]));
 }
 
@@ -91,24 +94,47 @@ fn streams_of_the_samples() {
         (S, "", ""),
     ];
     for (policy, events, expected) in cases {
-        assert_eq!(released(policy, &bytes(events)), Ok(bytes(expected)));
+        assert_eq!(released(1, policy, &bytes(events)), Ok(bytes(expected)));
+    }
+}
+
+#[test]
+fn reading_2_counts_the_tick_first() {
+    let cases = [
+        (D, "01 00 00 00 00", "01 00 00 10 00"),
+        (K, "00 10", "00 10"),
+        (K, "00 00 10", "00 00 00"),
+        (S, "03 12", "01 02"),
+    ];
+    for (policy, events, expected) in cases {
+        assert_eq!(released(2, policy, &bytes(events)), Ok(bytes(expected)));
+    }
+}
+
+#[test]
+fn there_is_no_third_reading() {
+    for reading in [0, 3, 255] {
+        assert_eq!(prepared(reading, ""), Err(Refusal::UnknownReading));
+        assert_eq!(prepared(reading, D), Err(Refusal::UnknownReading));
     }
 }
 
 #[test]
 fn ties_keep_the_first_signals() {
     let either = "02 41 42 00 00 01 00 00 02  00 03 01 00 00 00 00  00 03 02 00 00 00 00";
-    assert_eq!(released(either, &[0, 3, 1]), Ok(vec![2, 1, 1]));
+    assert_eq!(released(1, either, &[0, 3, 1]), Ok(vec![2, 1, 1]));
 }
 
 #[test]
 fn a_clock_does_not_wrap() {
     let mut events = vec![0; 65_537];
     events.push(0x10);
-    assert_eq!(released(K, &events), Ok(vec![0; events.len()]));
+    for reading in [1, 2] {
+        assert_eq!(released(reading, K, &events), Ok(vec![0; events.len()]));
+    }
 }
 
 #[test]
 fn an_event_beyond_the_signals_is_refused() {
-    assert_eq!(released(S, &[0x04]), Err(Refusal::BeyondSignals));
+    assert_eq!(released(1, S, &[0x04]), Err(Refusal::BeyondSignals));
 }

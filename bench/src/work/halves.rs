@@ -42,9 +42,13 @@ impl InputWork {
 
     /// Calls at the first moments only.
     pub fn call_first(&mut self, engine: &dyn Engine, count: usize) {
-        let Ready { file, marks } = &self.ready;
+        let Ready {
+            reading,
+            file,
+            marks,
+        } = &self.ready;
         for (moment, answer) in self.moments[..count].iter().zip(&mut self.answers) {
-            *answer = engine.input(file, marks, &moment.state, moment.x);
+            *answer = engine.input(*reading, file, marks, &moment.state, moment.x);
         }
     }
 }
@@ -97,11 +101,15 @@ impl OutputWork {
 
     /// Calls at the first moments only.
     pub fn call_first(&mut self, engine: &dyn Engine, count: usize) {
-        let Ready { file, marks } = &self.ready;
+        let Ready {
+            reading,
+            file,
+            marks,
+        } = &self.ready;
         let lent = self.answers.iter_mut().zip(&mut self.states);
         for (moment, (answer, state)) in self.moments[..count].iter().zip(lent) {
             *state = moment.state;
-            *answer = engine.output(file, marks, state, moment.x, moment.y);
+            *answer = engine.output(*reading, file, marks, state, moment.x, moment.y);
         }
     }
 }

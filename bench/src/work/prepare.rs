@@ -6,14 +6,16 @@ use crate::file::{Policy, MOST_STATES};
 
 /// One call of prepare.
 pub struct PrepareWork {
+    reading: u8,
     file: Vec<u8>,
     marks: Vec<u8>,
     answer: u64,
 }
 
 impl PrepareWork {
-    pub fn new(policy: &Policy) -> PrepareWork {
+    pub fn new(reading: u8, policy: &Policy) -> PrepareWork {
         PrepareWork {
+            reading,
             file: policy.encode(),
             marks: vec![FILLER; MOST_STATES],
             answer: 0,
@@ -27,7 +29,7 @@ impl Work for PrepareWork {
     }
 
     fn pass(&mut self, engine: &dyn Engine) {
-        self.answer = engine.prepare(&self.file, &mut self.marks);
+        self.answer = engine.prepare(self.reading, &self.file, &mut self.marks);
     }
 
     fn spoil(&mut self) {

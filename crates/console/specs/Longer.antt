@@ -74,9 +74,9 @@ module _ (front rest : List ℕ) where
     printed-front = rw (count-front 0 5974 (omega arith)) (go (policyFrameRefusal front) refl)
       where
         go : (c : ℕ) → policyFrameRefusal front ≡ c →
-            unlessRefused c (enforcedText (front ++ rest) (prepareOf (policyPart (front ++ rest)) (lent 65536)))
-            ≡ unlessRefused c (enforcedText front (prepareOf (policyPart front) (lent 65536)))
+            unlessRefused c (enforcedText (front ++ rest) (prepareOf 1 (policyPart (front ++ rest)) (lent 65536)))
+            ≡ unlessRefused c (enforcedText front (prepareOf 1 (policyPart front) (lent 65536)))
         go (suc c) e = refl
         go zero e =
             rw (pair-front 0 (omega arith), part-front 2 (pairAt front 0) (omega (arith, short e)))
-            (text-same e (prepareOf (policyPart front) (lent 65536)))
+            (text-same e (prepareOf 1 (policyPart front) (lent 65536)))

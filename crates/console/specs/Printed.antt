@@ -21,9 +21,9 @@ unlessRefused (suc n) text = refusedLine (suc n)
 unfoldable pub lent : ℕ → List ℕ
 lent n = replicate n 0
 
--- A run over the events from the start, with the marks of prepare, into a slice.
+-- A run over the events from the start, with the marks of prepare, into a slice. "The program uses reading 1."
 abbrev pub ranInto : (policy events out : List ℕ) → RunAnswer
-ranInto policy events out = runOf policy (marksOf (policyOf policy)) (stateOf (start (policyOf policy))) events out
+ranInto policy events out = runOf 1 policy (marksOf (policyOf 1 policy)) (stateOf (start (policyOf 1 policy))) events out
 
 abbrev pub ranOver : (policy events : List ℕ) → RunAnswer
 ranOver policy events = ranInto policy events (lent (length events))
@@ -43,4 +43,4 @@ module _ (input : List ℕ) where
   -- "first count whole (1), within its limit (2), policy bytes all there (1); the policy's own checks, prepare and its 11 included": it is lent as many
   -- marks as a policy may have states.
   unfoldable pub printed : List ℕ
-  printed = unlessRefused (policyFrameRefusal input) (enforcedText (prepareOf (policyPart input) (lent 65536)))
+  printed = unlessRefused (policyFrameRefusal input) (enforcedText (prepareOf 1 (policyPart input) (lent 65536)))

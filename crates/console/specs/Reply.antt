@@ -9,7 +9,7 @@ use lib.Seq.{length-take-le, take-at}
 use Rattle.streams.specs.Answer.{gives, first-refused}
 use Rattle.policy.specs.File.{policyOf}
 use Rattle.policy.specs.Number.{states}
-use Rattle.policy.specs.Check.{refusalOf}
+use Rattle.policy.specs.Check.{refusalOf, under-none}
 use Rattle.policy.specs.Checked.{checked-file}
 use Rattle.enforcer.specs.States.{marks-granted}
 use Rattle.enforcer.specs.Entries.{RunAnswer}
@@ -51,18 +51,18 @@ replied-one k l = wrote-one (k .wrote) (l .wrote)
 pub record Prepares (input file marks : List ℕ) : Type 0 where
   pub part : file ≡ policyPart input
   pub passes : refusalOf file ≡ 0
-  pub marked : marks ≡ marksOf (policyOf file)
+  pub marked : marks ≡ marksOf (policyOf 1 file)
 
 -- A policy that gives a summary passes its checks, and its marks stand in front of what the slice held.
-pub prepared-marks : {file before after : List ℕ} {s : Summary} → PreparePromise file before (Prepared.Gives s) after →
-    (refusalOf file ≡ 0) × (s .states ≤ length after) × (take (s .states) after ≡ marksOf (policyOf file))
+pub prepared-marks : {file before after : List ℕ} {s : Summary} → PreparePromise 1 file before (Prepared.Gives s) after →
+    (refusalOf file ≡ 0) × (s .states ≤ length after) × (take (s .states) after ≡ marksOf (policyOf 1 file))
 prepared-marks {file} {before} {after} {s} h =
-    let p = policyOf file in
-    let past = gives-past file before (summarySaid s) (sym (h .said)) in
-    let k = marks-granted file before .0 (past .0) in
+    let p = policyOf 1 file in
+    let past = gives-past 1 file before (summarySaid s) (sym (h .said)) in
+    let k = marks-granted 1 file before .0 (past .0) in
     let n : states p ≡ s .states = ap (λ (z : Entry.Summary). z .states) (past .2) in
-    let e : after ≡ marksOf p ++ drop (states p) before = h .marks ∙ marks-past file before (past .0) in (
-      k .0,
+    let e : after ≡ marksOf p ++ drop (states p) before = h .marks ∙ marks-past 1 file before (past .0) in (
+      under-none 1 file .0 (k .0) .1,
       rw (← n, e, length-append, marks-length) (omega arith),
       rw (← n, e) (take-at (marksOf p) _ _ (marks-length p)),
     )
@@ -83,10 +83,10 @@ module _ (input : List ℕ) where
 
   -- It is not: what prepare answers decides, whatever the marks held.
   pub policy-framed :
-      {marks after : List ℕ} {r : Prepared} → length marks ≡ 65536 → policyFrameRefusal input ≡ 0 → PreparePromise (policyPart input) marks r after →
+      {marks after : List ℕ} {r : Prepared} → length marks ≡ 65536 → policyFrameRefusal input ≡ 0 → PreparePromise 1 (policyPart input) marks r after →
       printed input ≡ enforcedText input (preparedSaid r)
   unfolding printed
-  policy-framed {marks} n e h = rw (e, h .said, prepare-alike (policyPart input) (lent 65536) marks (lent-length 65536 ∙ sym n))
+  policy-framed {marks} n e h = rw (e, h .said, prepare-alike 1 (policyPart input) (lent 65536) marks (lent-length 65536 ∙ sym n))
 
   module _ (s : Entry.Summary) where
     -- The events' frame is refused.
@@ -97,14 +97,14 @@ module _ (input : List ℕ) where
     -- It is not: the run that the code makes decides, whatever its slice held.
     module _ {file marks : List ℕ} (p : Prepares input file marks) (framed : eventsFrameRefusal input ≡ 0)
         (released : List ℕ) (room : length (eventsPart input) ≤ length released) {r : Ran} {after : List ℕ}
-        (ran : RunPromise file marks startState (eventsPart input) released r after) where
+        (ran : RunPromise 1 file marks startState (eventsPart input) released r after) where
       ran-said : ranInto (policyPart input) (eventsPart input) released ≡ ranSaid r after
-      ran-said = rw (← p .part, ← p .marked, start-is (policyOf file) (checked-file file (p .passes) .clocks)) (sym (ran .said))
+      ran-said = rw (← p .part, ← p .marked, start-is (policyOf 1 file) (checked-file 1 file (p .passes) .clocks)) (sym (ran .said))
 
       ran-alike : Alike (eventsPart input) (ranSaid r after) (ranOver (policyPart input) (eventsPart input))
       ran-alike =
           subst (λ (q : RunAnswer). Alike (eventsPart input) q (ranOver (policyPart input) (eventsPart input))) ran-said
-          (run-alike _ _ _ (eventsPart input) released _ room (rw lent-length (le-refl (length (eventsPart input)))))
+          (run-alike 1 _ _ _ (eventsPart input) released _ room (rw lent-length (le-refl (length (eventsPart input)))))
 
       pub run-refused : (r .refusal ≡ 0 → ⊥) → enforcedText input (gives s) ≡ refusedLine (r .refusal)
       unfolding enforcedText

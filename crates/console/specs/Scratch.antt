@@ -24,9 +24,9 @@ use Rattle.console.specs.Text.{tickLines}
 use Rattle.console.specs.Lines.{lines-all}
 
 -- Of the marks that are lent, prepare's answer depends on their number alone.
-pub prepare-alike : (file marks others : List ℕ) → length marks ≡ length others → prepareOf file marks ≡ prepareOf file others
+pub prepare-alike : (reading : ℕ) (file marks others : List ℕ) → length marks ≡ length others → prepareOf reading file marks ≡ prepareOf reading file others
 unfolding prepareOf marksRefusal
-prepare-alike file marks others e = rw e
+prepare-alike reading file marks others e = rw e
 
 -- A run that does not stop releases an event for each one read.
 ran-all : (p : Policy) (marks : List ℕ) (s : Place) (es : Stream) → ran p marks s es .stuck ≡ false → length (ran p marks s es .released) ≡ length es
@@ -59,15 +59,15 @@ pub record Alike (events : List ℕ) (q o : RunAnswer) : Type 0 where
   pub refusal : q .refusal ≡ o .refusal
   pub lines : q .refusal ≡ 0 → tickLines 1 events (q .out) ≡ tickLines 1 events (o .out)
 
-module _ (file marks : List ℕ) (s : Place) (events a b : List ℕ) where
-  pub run-alike : length events ≤ length a → length events ≤ length b → Alike events (runOf file marks s events a) (runOf file marks s events b)
+module _ (reading : ℕ) (file marks : List ℕ) (s : Place) (events a b : List ℕ) where
+  pub run-alike : length events ≤ length a → length events ≤ length b → Alike events (runOf reading file marks s events a) (runOf reading file marks s events b)
   unfolding runOf runRefusal
   run-alike h k =
-      let t = placeIn (policyOf file) s in
-      let r = ran (policyOf file) marks t (map eventOf events) in
+      let t = placeIn (policyOf reading file) s in
+      let r = ran (policyOf reading file) marks t (map eventOf events) in
       rw (le-leb _ _ h, le-leb _ _ k)
-      (go (marksRefusal file marks orElse stateRefusal file marks s orElse unless (all (eventGood file) events) 15) r
-      (λ e. length-map (r .released) byteOf ∙ ran-all (policyOf file) marks t (map eventOf events) e ∙ length-map events eventOf))
+      (go (marksRefusal reading file marks orElse stateRefusal reading file marks s orElse unless (all (eventGood reading file) events) 15) r
+      (λ e. length-map (r .released) byteOf ∙ ran-all (policyOf reading file) marks t (map eventOf events) e ∙ length-map events eventOf))
     where
       go : (n : ℕ) (r : Ran) → (r .stuck ≡ false → length (map byteOf (r .released)) ≡ length events) → Alike events (runFrom s a n r) (runFrom s b n r)
       go (suc n) r f = record { refusal = refl; lines = λ z. absurd (omega arith) }

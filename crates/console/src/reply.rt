@@ -16,6 +16,9 @@ ghost use Rattle.prepare.specs.Promise.{summarySaid};
 ghost use Rattle.console.specs.Printed.{enforcedText, printed};
 ghost use Rattle.console.specs.Reply.{Replied, Prepares};
 
+// The reading that the program uses.
+const READING: u8 = 1;
+
 // The policy is prepared: the events are checked and enforced.
 fn reply_events(
     input: &[u8],
@@ -36,7 +39,7 @@ fn reply_events(
     let start = frame.start;
     let end = frame.end;
     let events = &input[start..end];
-    let ran = run(file, marks, State::start(), events, released);
+    let ran = run(READING, file, marks, State::start(), events, released);
     if ran.refusal != 0 {
         return put_refused(text, 0, ran.refusal);
     }
@@ -56,7 +59,7 @@ fn reply(input: &[u8], marks: &mut [u8], released: &mut [u8], text: &mut [u8]) -
     let start = frame.start;
     let end = frame.end;
     let file = &input[start..end];
-    let prepared = prepare(file, marks);
+    let prepared = prepare(READING, file, marks);
     match prepared {
         Prepared::Refused(n) => put_refused(text, 0, n),
         Prepared::Gives(summary) => {

@@ -9,10 +9,10 @@ use native.Mathlib.Numerals.{add-one, unary-clauses}
 use native.Mathlib.Omega.{arith}
 use lib.ListN.{length, getD, take, drop}
 use lib.Seq.{drop-cons, getD-take, length-take-le}
-use Rattle.policy.specs.Rules.{Place, hold, within, fires, decides, step, taken}
+use Rattle.policy.specs.Rules.{Place, hold, within, fires, decides, stopped, taken}
 use Rattle.policy.specs.File.{pairAt, boundsFrom, ruleSize, ruleFrom, rulesFrom}
 use Rattle.streams.specs.Stream.{Event}
-use Rattle.enforcer.specs.Code.{decider, bare}
+use Rattle.enforcer.specs.Code.{decider, bare, stepBy}
 
 -- The bounds from the clock i on hold for its value and those after it; a turn, and the end.
 abbrev pub holdFrom : List ℕ → ℕ → ℕ → List ℕ → ℕ → Bool
@@ -96,8 +96,7 @@ module _ (k : ℕ) (f : List ℕ) (s : Place) (e : Event) where
       go false (some i) = ap (λ (p : ℕ). some (ruleFrom k f p)) (omega arith)
 
   -- One tick, by the number of the rule that decides.
-  pub step-decider : (on : ℕ → ℕ → ℕ) (cs : List ℕ) (n : ℕ) (o : Option ℕ) → o ≡ decider (rulesFrom k f 0 n) s e
-      → step on (bare cs (rulesFrom k f 0 n)) s e
-      ≡ bind (Option·map (λ i. ruleFrom k f (i * ruleSize k)) o) (taken on (bare cs (rulesFrom k f 0 n)) s)
-  unfolding step
-  step-decider on cs n o p = rw (decider-decides n 0, ← p) (simp zero-add)
+  pub step-decider : (t : Place) (cs : List ℕ) (n : ℕ) (o : Option ℕ) → o ≡ decider (rulesFrom k f 0 n) s e
+      → stepBy (bare cs (rulesFrom k f 0 n)) s t e
+      ≡ bind (Option·map (λ i. ruleFrom k f (i * ruleSize k)) o) (taken stopped (bare cs (rulesFrom k f 0 n)) t)
+  step-decider t cs n o p = rw (decider-decides n 0, ← p) (simp zero-add)

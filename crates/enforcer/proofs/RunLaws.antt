@@ -9,8 +9,9 @@ use native.Mathlib.Omega.{arith}
 use lib.Dec.{leb, ltb, eqb}
 use lib.ListN.{length, getD, take, drop, set, replicate, length-set, take-append-drop, drop-of-length-le}
 use lib.Seq.{drop-cons, append-snoc, drop-set-lt, take-suc-set}
-use borrow.Author.Tests.{eqb-true}
-use Rattle.policy.specs.Rules.{Policy}
+use borrow.Author.Tests.{le-leb, eqb-true}
+use Rattle.streams.specs.Answer.{unless}
+use Rattle.policy.specs.Rules.{Policy, Place}
 use Rattle.policy.specs.File.{policyOf}
 use Rattle.policy.specs.Check.{all}
 use Rattle.policy.specs.Stays.{of-some}
@@ -19,7 +20,7 @@ use Rattle.policy.specs.declared.Layout.{Layout}
 use Rattle.enforcer.specs.State.{stateOf, clocksGood, stateGood}
 use Rattle.enforcer.specs.Tick as Spec
 use Rattle.enforcer.specs.Ticks.{ticked, ticked-fits, ran-on, ran-none}
-use Rattle.enforcer.specs.Entries.{eventOf, byteOf, RunAnswer, runFrom, runRefusal, runOf}
+use Rattle.enforcer.specs.Entries.{eventOf, byteOf, eventGood, RunAnswer, marksRefusal, stateRefusal, runFrom, runRefusal, runOf}
 use Rattle.enforcer.specs.Code.{asPlace, place, stateFrom}
 use Rattle.enforcer.specs.Ready.{Laid, Standing}
 use Rattle.enforcer.specs.Laid.{laid-clocks, laid-inputs, laid-outputs, place-back, next-inside}
@@ -58,8 +59,8 @@ pub record Going (f : List ℕ) (l : Layout) (marks events out₀ : List ℕ) (s
   pub standing : Standing f l marks s
   pub whole : stateFrom (place (l .clocks) s) ≡ s
   pub answer :
-      runFrom (asPlace s₀) out₀ 0 (Spec.ran (policyOf f) marks (place (l .clocks) s₀) (map eventOf events))
-      ≡ goesOn i out (Spec.ran (policyOf f) marks (place (l .clocks) s) (map eventOf (drop i events)))
+      runFrom (asPlace s₀) out₀ 0 (Spec.ran (policyOf (l .reading) f) marks (place (l .clocks) s₀) (map eventOf events))
+      ≡ goesOn i out (Spec.ran (policyOf (l .reading) f) marks (place (l .clocks) s) (map eventOf (drop i events)))
 
 pub going-starts : {f : List ℕ} {l : Layout} {marks : List ℕ} (events out : List ℕ) {s : State} → Standing f l marks s → stateFrom (place (l .clocks) s) ≡ s →
     Going f l marks events out s 0 out s
@@ -70,7 +71,7 @@ module _ {f : List ℕ} {l : Layout} {marks events out₀ : List ℕ} {s₀ : St
   abbrev said : ℕ → Type 0
   said n =
       ranSaid (record { refusal = n; count = i; state = s }) out
-      ≡ runFrom (asPlace s₀) out₀ 0 (Spec.ran (policyOf f) marks (place (l .clocks) s₀) (map eventOf events))
+      ≡ runFrom (asPlace s₀) out₀ 0 (Spec.ran (policyOf (l .reading) f) marks (place (l .clocks) s₀) (map eventOf events))
 
   pub going-ends : length events ≤ i → said 0
   unfolding Spec.ran
@@ -78,7 +79,7 @@ module _ {f : List ℕ} {l : Layout} {marks events out₀ : List ℕ} {s₀ : St
 
   -- By the answer r of the tick at the event i.
   module _ (h : i < length events) {r : Ticked}
-      (e : r ≡ tickFrom s (Spec.tick (policyOf f) marks (place (l .clocks) s) (eventOf (getD events i 0)))) where
+      (e : r ≡ tickFrom s (Spec.tick (policyOf (l .reading) f) marks (place (l .clocks) s) (eventOf (getD events i 0)))) where
     pub going-stuck : r .released ≡ false → said 17
     going-stuck n =
         sym (g .answer ∙ rw (drop-cons events i 0, ran-none _ _ _ _ _ (tick-none s _ e n)) (goes-ends i out (l .clocks) s true (g .whole)))
@@ -88,9 +89,9 @@ module _ {f : List ℕ} {l : Layout} {marks events out₀ : List ℕ} {s₀ : St
     going-turn n o =
         let k = g .standing .laid in
         let t = tick-some s _ e n in
-        let p = ticked (policyOf f) marks (place (l .clocks) s) (eventOf (getD events i 0)) (t .0) (t .1) in
-        let z = ticked-fits (policyOf f) marks (place (l .clocks) s) p in
-        let d = of-some (Inside (policyOf f)) (p .moves) (next-inside k s (t .0 .event) (g .standing .inside)) in
+        let p = ticked (policyOf (l .reading) f) marks (place (l .clocks) s) (eventOf (getD events i 0)) (t .0) (t .1) in
+        let z = ticked-fits (policyOf (l .reading) f) marks (place (l .clocks) s) p in
+        let d = of-some (Inside (policyOf (l .reading) f)) (p .moves) (next-inside k s (t .0 .event) (g .standing .inside)) in
         let b = place-back k d in
         rw (t .2) (
           omega (arith, z, laid-inputs k),
@@ -103,7 +104,7 @@ module _ {f : List ℕ} {l : Layout} {marks events out₀ : List ℕ} {s₀ : St
             answer =
                 g .answer
                 ∙ rw (b, add-one, drop-cons events i 0, ran-on _ _ _ _ _ _ (t .1))
-                (goes-put (policyOf f) marks (t .0) (Spec.ran (policyOf f) marks (t .0 .place) (map eventOf (drop (suc i) events))) i out o);
+                (goes-put (policyOf (l .reading) f) marks (t .0) (Spec.ran (policyOf (l .reading) f) marks (t .0 .place) (map eventOf (drop (suc i) events))) i out o);
           },
         )
 
@@ -119,18 +120,27 @@ clocks-back (c ∷ cs) [] e = absurd (false≢true e)
 clocks-back (c ∷ cs) (v ∷ vs) e = rw suc-sub-suc (ap (_∷_ v) (clocks-back cs vs (and-eq-true-iff (leb v c) _ .0 e .1)))
 
 -- A state whose unused clocks are 0 is that of its place.
-pub good-back : {f : List ℕ} {l : Layout} → Laid f l → (s : State) → length (s .clocks) ≡ 4 → stateGood (policyOf f) (asPlace s) ≡ true →
+pub good-back : {f : List ℕ} {l : Layout} → Laid f l → (s : State) → length (s .clocks) ≡ 4 → stateGood (policyOf (l .reading) f) (asPlace s) ≡ true →
     stateFrom (place (l .clocks) s) ≡ s
 unfolding stateGood
 good-back {f} {l} k s n e =
-    let cs = policyOf f .ceilings in
-    let g = and-eq-true-iff (ltb (s .location) (policyOf f .locations)) _ .0 e .1 in
-    let i = good-inside (policyOf f) (asPlace s) e .clocks in
+    let cs = policyOf (l .reading) f .ceilings in
+    let g = and-eq-true-iff (ltb (s .location) (policyOf (l .reading) f .locations)) _ .0 e .1 in
+    let i = good-inside (policyOf (l .reading) f) (asPlace s) e .clocks in
     ap (λ (vs : List ℕ). record { location = s .location; clocks = vs }) (rw (laid-clocks k, i, ← n) (clocks-back cs (s .clocks) g))
 
+-- Past 10, 14 and 16 only 15 is left to ask; l is the layout under the reading that was named.
+pub run-past : (reading : ℕ) (file marks events out : List ℕ) (s : Place) (l : Layout) → l .reading ≡ reading → marksRefusal reading file marks ≡ 0 →
+    length events ≤ length out → stateRefusal (l .reading) file marks s ≡ 0 →
+    runRefusal reading file marks s events out ≡ unless (all (eventGood (l .reading) file) events) 15
+unfolding runRefusal
+run-past reading file marks events out s l e m n z =
+    let w : stateRefusal reading file marks s ≡ 0 = rw e at z in
+    rw (m, le-leb _ _ n, e, w)
+
 -- A refusal is answered with the state that was given, and nothing is written.
-pub run-refused : {file marks events out : List ℕ} {s : State} {r : Ran} {n : ℕ} → r ≡ record { refusal = n; count = 0; state = s } → (n ≡ 0 → ⊥) →
-    runRefusal file marks (asPlace s) events out ≡ n → RunPromise file marks s events out r out
+pub run-refused : {reading : ℕ} {file marks events out : List ℕ} {s : State} {r : Ran} {n : ℕ} → r ≡ record { refusal = n; count = 0; state = s } → (n ≡ 0 → ⊥) →
+    runRefusal reading file marks (asPlace s) events out ≡ n → RunPromise reading file marks s events out r out
 unfolding runOf
 run-refused {out = out} {s = s} {n = n} e h k = record { said = rw (e, k) (go n h _) }
   where

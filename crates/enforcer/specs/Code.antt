@@ -1,12 +1,14 @@
 -- What the code's own types stand for, and the definitions that its leaves meet.
 use mathlib.Core.Bool.{true, false, cond}
 use mathlib.Core.List.{List, [], _∷_}
-use mathlib.Core.Option.{Option, none, some, Option·map}
+use mathlib.Core.Option.{Option, none, some, Option·map, bind}
 use Prim.Native.Nat.{ℕ, suc}
+use lib.Dec.{eqb}
 use lib.ListN.{take}
 use Rattle.streams.specs.Stream.{Event}
-use Rattle.policy.specs.Rules.{Rule, Policy, Place, fires}
+use Rattle.policy.specs.Rules.{Rule, Policy, Place, fires, decides, stopped, advance, taken}
 use Rattle.policy.specs.Number.{four, locationFrom, clocksFrom}
+use Rattle.policy.specs.declared.Layout.{Layout}
 use Rattle.enforcer.specs.declared.state.State.{State}
 use Rattle.enforcer.specs.declared.state.Limits.{Limits}
 use Rattle.enforcer.specs.declared.next.Step.{Step}
@@ -39,6 +41,10 @@ startState = record { location = 0; clocks = 0 ∷ 0 ∷ 0 ∷ 0 ∷ [] }
 abbrev pub stateAt : List ℕ → ℕ → ℕ → State
 stateAt cs clocks n = stateFrom (record { location = locationFrom cs clocks n; clocks = clocksFrom cs clocks n })
 
+-- The state that bounds see. All four clocks go on: an unused one stays at its ceiling 0.
+abbrev pub seenBy : Layout → State → State
+seenBy l s = cond (eqb (l .reading) 2) (record { location = s .location; clocks = advance stopped 0 (l .ceilings) (s .clocks) }) s
+
 -- The number of the first rule that fires: the one that decides.
 unfoldable pub decider : List Rule → Place → Event → Option ℕ
 decider [] s e = none
@@ -50,7 +56,11 @@ foundSaid Found.Nothing = none
 
 -- A policy of which only the clocks and the rules are asked.
 abbrev pub bare : List ℕ → List Rule → Policy
-bare cs rs = record { inputs = []; outputs = []; ceilings = cs; locations = 0; left = []; rules = rs }
+bare cs rs = record { reading = 1; inputs = []; outputs = []; ceilings = cs; locations = 0; left = []; rules = rs }
+
+-- One tick from the place s, if the bounds see the place v.
+abbrev pub stepBy : Policy → Place → Place → Event → Option Place
+stepBy p v s e = bind (decides (p .rules) v e) (taken stopped p s)
 
 -- The state after a step, or a violation and the state before it.
 abbrev pub stepFrom : State → Option Place → Step

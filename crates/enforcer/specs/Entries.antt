@@ -10,7 +10,7 @@ use Rattle.streams.specs.Answer.{Answer, refused, gives, _orElse_, unless, answ
 use Rattle.streams.specs.Stream.{Event}
 use Rattle.policy.specs.Rules.{Place, inputValues, outputValues}
 use Rattle.policy.specs.File.{policyOf}
-use Rattle.policy.specs.Check.{refusalOf, all}
+use Rattle.policy.specs.Check.{refusalUnder, all}
 use Rattle.policy.specs.Number.{states, numberOf}
 use Rattle.enforcer.specs.State.{placeIn, stateOf, stateGood, isMarked}
 use Rattle.enforcer.specs.Tick.{Tick, Ran, inputChoice, outputTick, ran}
@@ -57,50 +57,50 @@ runFrom s out zero r =
       out = map byteOf (r .released) ++ drop (length (r .released)) out;
     }
 
-module _ (file : List ℕ) where
+module _ (reading : ℕ) (file : List ℕ) where
   -- 15: "an event, x or y has a bit beyond its signals".
   abbrev pub xGood : ℕ → Bool
-  xGood x = ltb x (inputValues (policyOf file))
+  xGood x = ltb x (inputValues (policyOf reading file))
 
   abbrev pub yGood : ℕ → Bool
-  yGood y = ltb y (outputValues (policyOf file))
+  yGood y = ltb y (outputValues (policyOf reading file))
 
   abbrev pub eventGood : ℕ → Bool
   eventGood b = xGood (b % 16) && yGood (b / 16)
 
-module _ (file marks : List ℕ) where
+module _ (reading : ℕ) (file marks : List ℕ) where
   -- 10: "the mark slice is shorter than the number of states".
   unfoldable pub marksRefusal : ℕ
-  marksRefusal = refusalOf file orElse unless (leb (states (policyOf file)) (length marks)) 10
+  marksRefusal = refusalUnder reading file orElse unless (leb (states (policyOf reading file)) (length marks)) 10
 
   module _ (s : Place) where
     -- 16: "a state has a location or clock value out of range, an unused clock not 0, or a mark other than 1".
     unfoldable pub stateRefusal : ℕ
     stateRefusal =
-        unless (stateGood (policyOf file) s) 16
-        orElse unless (isMarked marks (numberOf (policyOf file) (placeIn (policyOf file) s))) 16
+        unless (stateGood (policyOf reading file) s) 16
+        orElse unless (isMarked marks (numberOf (policyOf reading file) (placeIn (policyOf reading file) s))) 16
 
     -- The input half.
     unfoldable pub inputRefusal : ℕ → ℕ
-    inputRefusal x = marksRefusal orElse stateRefusal orElse unless (xGood file x) 15
+    inputRefusal x = marksRefusal orElse stateRefusal orElse unless (xGood reading file x) 15
 
     unfoldable pub inputOf : ℕ → Answer ℕ
-    inputOf x = chosen (inputRefusal x) (inputChoice (policyOf file) marks (placeIn (policyOf file) s) x)
+    inputOf x = chosen (inputRefusal x) (inputChoice (policyOf reading file) marks (placeIn (policyOf reading file) s) x)
 
     -- The output half.
     unfoldable pub outputRefusal : ℕ → ℕ → ℕ
-    outputRefusal x y = marksRefusal orElse stateRefusal orElse unless (xGood file x && yGood file y) 15
+    outputRefusal x y = marksRefusal orElse stateRefusal orElse unless (xGood reading file x && yGood reading file y) 15
 
     unfoldable pub outputOf : ℕ → ℕ → OutputAnswer
     outputOf x y =
-        outputFrom s (chosen (outputRefusal x y) (outputTick (policyOf file) marks (placeIn (policyOf file) s) x y))
+        outputFrom s (chosen (outputRefusal x y) (outputTick (policyOf reading file) marks (placeIn (policyOf reading file) s) x y))
 
     -- The run. 14: "the slice to be written is too short". "A run checks all events for 15 before the first is released".
     unfoldable pub runRefusal : List ℕ → List ℕ → ℕ
     runRefusal events out =
         marksRefusal orElse unless (leb (length events) (length out)) 14 orElse stateRefusal
-        orElse unless (all (eventGood file) events) 15
+        orElse unless (all (eventGood reading file) events) 15
 
     unfoldable pub runOf : List ℕ → List ℕ → RunAnswer
     runOf events out =
-        runFrom s out (runRefusal events out) (ran (policyOf file) marks (placeIn (policyOf file) s) (map eventOf events))
+        runFrom s out (runRefusal events out) (ran (policyOf reading file) marks (placeIn (policyOf reading file) s) (map eventOf events))

@@ -1,34 +1,36 @@
 -- What the layout of a checked file makes sure of: its counts are the policy's, a location's own rules lie within the file, and a step by them alone is the
 -- policy's.
 use mathlib.Core.Path.{_≡_, refl, sym, ap, _∙_, subst}
-use mathlib.Core.Bool.{Bool, true, false≢true}
+use mathlib.Core.Bool.{Bool, true, false, cond, false≢true}
 use mathlib.Core.List.{List}
 use mathlib.Core.Option.{Option, none, some}
 use Prim.Native.Nat.{ℕ, zero, suc, _+_, _-_, _*_, _^_, _≤_, _<_}
 use native.Mathlib.Nat.{add-zero, div-one, mod-one, pow-le-pow-right}
 use native.Mathlib.Omega.{arith}
+use lib.Dec.{eqb}
 use lib.ListN.{length, getD, take, replicate, length-append}
 use lib.Seq.{append-snoc, take-at, getD-take, getD-append-add}
 use Rattle.streams.specs.Stream.{Event}
-use Rattle.policy.specs.Rules.{Rule, Policy, Place, inputValues, outputValues, stopped, decides, taken, step}
+use Rattle.policy.specs.Rules.{Rule, Policy, Place, inputValues, outputValues, stopped, decides, advance, tested, looked, taken, step}
 use Rattle.policy.specs.File.{part, ruleSize, rulesFrom, rulesOf, ceilingsOf, clocksAt, clockCount, ruleCount, rulesStart, policyOf}
-use Rattle.policy.specs.Check.{refusalOf}
+use Rattle.policy.specs.Check.{refusalOf, refusalUnder, under-none}
 use Rattle.policy.specs.Number.{four, states, numberFrom, locationFrom, clocksFrom, numberOf, placeOf}
 use Rattle.policy.specs.Numbered.{number-take, number-ceilings, location-ceilings, clocks-ceilings, clocks-length, numberOf-below}
 use Rattle.policy.specs.Sound.{WellFormed, Inside}
 use Rattle.policy.specs.Checked.{Framed, frame, checked-file, inputs-length, outputs-length, pairs-length, well-sound, well-rising}
-use Rattle.policy.specs.Stays.{Of, step-inside}
+use Rattle.policy.specs.Stays.{Of, advance-take, step-inside}
 use Rattle.policy.specs.Parts.{rules-part}
 use Rattle.policy.specs.Own.{level, own, ownOf, level-own, own-ends, own-reads, decides-own}
-use Rattle.policy.specs.Layout.{layoutOf, checkedFrom, checkedOf}
+use Rattle.policy.specs.Layout.{layoutOf, checkedUnder, under-says}
 use Rattle.policy.specs.declared.Layout.{Layout}
 use Rattle.policy.specs.declared.Checked.{Checked}
 use Rattle.policy.specs.declared.own.Own.{Own}
 use Rattle.enforcer.specs.State.{placeIn, stateOf, isMarked}
 use Rattle.enforcer.specs.Tick.{arrives, reaches}
-use Rattle.enforcer.specs.Code.{eventXY, asPlace, place, stateFrom, stateAt, bare, stepFrom}
-use Rattle.enforcer.specs.Ready.{Laid}
+use Rattle.enforcer.specs.Code.{eventXY, asPlace, place, stateFrom, stateAt, seenBy, bare, stepBy, stepFrom}
+use Rattle.enforcer.specs.Ready.{Laid, HereOf}
 use Rattle.enforcer.specs.declared.state.State.{State}
+use Rattle.enforcer.specs.declared.reach.Here.{Here}
 use Rattle.enforcer.specs.declared.next.Step.{Step}
 
 -- The number of a state, as the code works it out.
@@ -36,8 +38,8 @@ abbrev pub stateNumber : Layout → State → ℕ
 stateNumber l s = numberFrom (l .ceilings) (l .clocks) (s .location) (s .clocks)
 
 -- n is the number of a state, and m says whether that is marked.
-pub record Numbered (f marks : List ℕ) (n : ℕ) (m : Bool) : Type 0 where
-  pub number : n < states (policyOf f)
+pub record Numbered (reading : ℕ) (f marks : List ℕ) (n : ℕ) (m : Bool) : Type 0 where
+  pub number : n < states (policyOf reading f)
   pub mark : isMarked marks n ≡ m
 
 -- An unused clock, with the ceiling 0 and the value 0, leaves the number as it is.
@@ -73,33 +75,35 @@ four-past vs i h =
     zeros (suc n) zero = refl
     zeros (suc n) (suc j) = zeros n j
 
--- What the check answers without a refusal is the layout.
-pub laid-of : (f : List ℕ) (r : Checked) → r ≡ checkedOf f → r .refusal ≡ 0 → Laid f (r .layout)
-unfolding checkedOf policyOf
-laid-of f r e z = go (refusalOf f) refl e
-  where
-    go : (n : ℕ) → refusalOf f ≡ n → r ≡ checkedFrom n (layoutOf f) → Laid f (r .layout)
-    go zero p q =
-        subst (Laid f) (ap (λ (c : Checked). c .layout) (sym q))
-        (record {
-          passes = p;
-          inputs = refl;
-          outputs = refl;
-          clocks = refl;
-          locations = refl;
-          rules = refl;
-          start = refl;
-          end = refl;
-          ceilings = refl;
-          states = rw pairs-length;
-        })
-    go (suc n) p q = absurd (omega (arith, ap (λ (c : Checked). c .refusal) q))
+-- The layout of a file that passes the check.
+pub laid-out : (reading : ℕ) (f : List ℕ) → refusalOf f ≡ 0 → Laid f (layoutOf reading f)
+unfolding policyOf
+laid-out reading f p =
+    record {
+      passes = p;
+      inputs = refl;
+      outputs = refl;
+      clocks = refl;
+      locations = refl;
+      rules = refl;
+      start = refl;
+      end = refl;
+      ceilings = refl;
+      states = rw pairs-length;
+    }
+
+-- What the check answers without a refusal is the layout, under the reading that was named.
+pub laid-of : (reading : ℕ) (f : List ℕ) (r : Checked) → r ≡ checkedUnder reading f → r .refusal ≡ 0 → Laid f (r .layout) × (r .layout .reading ≡ reading)
+laid-of reading f r e z =
+    let n : refusalUnder reading f ≡ 0 = sym (under-says reading f .0) ∙ sym (ap (λ (c : Checked). c .refusal) e) ∙ z in
+    let l : r .layout ≡ layoutOf reading f = ap (λ (c : Checked). c .layout) e ∙ under-says reading f .1 n in
+    (subst (Laid f) (sym l) (laid-out reading f (under-none reading f .0 n .1)), ap (λ (c : Layout). c .reading) l)
 
 -- Where the clocks and the decision are the same, the step is.
-step-bare : (on : ℕ → ℕ → ℕ) {cs : List ℕ} (rs : List Rule) (p : Policy) (s : Place) (e : Event) → cs ≡ p .ceilings →
-    decides rs s e ≡ decides (p .rules) s e → step on (bare cs rs) s e ≡ step on p s e
+step-bare : {cs : List ℕ} (rs : List Rule) (p : Policy) {v : Place} (s : Place) (e : Event) → cs ≡ p .ceilings → v ≡ looked stopped p s →
+    decides rs v e ≡ decides (p .rules) v e → stepBy (bare cs rs) v s e ≡ step stopped p s e
 unfolding step taken
-step-bare on rs p s e c d = rw (c, d)
+step-bare rs p s e c v d = rw (c, d, v)
 
 -- The state that a place of the policy is stands for that place.
 pub placeIn-stateOf : (p : Policy) {t : Place} → Inside p t → placeIn p (stateOf t) ≡ t
@@ -111,8 +115,8 @@ module _ {f : List ℕ} {l : Layout} (k : Laid f l) where
   framed = frame f (k .passes)
 
   -- The policy is as the check leaves it, and the numbers of the layout are within their limits.
-  pub laid-well : WellFormed (policyOf f)
-  laid-well = checked-file f (k .passes)
+  pub laid-well : WellFormed (policyOf (l .reading) f)
+  laid-well = checked-file (l .reading) f (k .passes)
 
   pub laid-limits : (l .inputs ≤ 4) × (l .outputs ≤ 4) × (l .clocks ≤ 4) × (l .rules ≤ 256) × (l .«rules_start» ≤ l .«rules_end») × (l .«rules_end» ≤ length f)
   laid-limits = omega (arith, framed, k)
@@ -122,19 +126,19 @@ module _ {f : List ℕ} {l : Layout} (k : Laid f l) where
   laid-section = rw (k .start, k .rules, k .clocks, k .end) (omega (arith, framed))
 
   -- Of inputs and outputs there are as many values as the code counts, at most 16.
-  pub laid-inputs : (2 ^ l .inputs ≡ inputValues (policyOf f)) × (2 ^ l .inputs ≤ 16)
+  pub laid-inputs : (2 ^ l .inputs ≡ inputValues (policyOf (l .reading) f)) × (2 ^ l .inputs ≤ 16)
   unfolding policyOf
   laid-inputs = rw (k .inputs) (sym (ap (λ (n : ℕ). 2 ^ n) (inputs-length f framed)), pow-le-pow-right {n = 2} (omega arith) (framed .inputs))
 
-  pub laid-outputs : (2 ^ l .outputs ≡ outputValues (policyOf f)) × (2 ^ l .outputs ≤ 16)
+  pub laid-outputs : (2 ^ l .outputs ≡ outputValues (policyOf (l .reading) f)) × (2 ^ l .outputs ≤ 16)
   unfolding policyOf
   laid-outputs = rw (k .outputs) (sym (ap (λ (n : ℕ). 2 ^ n) (outputs-length f framed)), pow-le-pow-right {n = 2} (omega arith) (framed .outputs))
 
-  pub laid-clocks : l .clocks ≡ length (policyOf f .ceilings)
+  pub laid-clocks : l .clocks ≡ length (policyOf (l .reading) f .ceilings)
   unfolding policyOf
   laid-clocks = k .clocks ∙ sym (pairs-length f (clocksAt f + 1) (clockCount f))
 
-  pub laid-ceilings : take (l .clocks) (l .ceilings) ≡ policyOf f .ceilings
+  pub laid-ceilings : take (l .clocks) (l .ceilings) ≡ policyOf (l .reading) f .ceilings
   unfolding policyOf
   laid-ceilings = rw (k .ceilings) (take-at (ceilingsOf f) _ (l .clocks) (sym laid-clocks))
 
@@ -147,7 +151,7 @@ module _ {f : List ℕ} {l : Layout} (k : Laid f l) where
   unfolding policyOf
   unused-ceiling i g = rw (k .ceilings) (four-past (ceilingsOf f) i (omega (arith, laid-clocks)))
 
-  laid-ceiling : (i : ℕ) → i < l .clocks → getD (l .ceilings) i 0 ≡ getD (policyOf f .ceilings) i 0
+  laid-ceiling : (i : ℕ) → i < l .clocks → getD (l .ceilings) i 0 ≡ getD (policyOf (l .reading) f .ceilings) i 0
   laid-ceiling i g = sym (getD-take (l .clocks) (l .ceilings) i 0 g) ∙ ap (λ (cs : List ℕ). getD cs i 0) laid-ceilings
 
   -- The rule section, as the part of the file between its ends, reads as the rules.
@@ -177,35 +181,48 @@ module _ {f : List ℕ} {l : Layout} (k : Laid f l) where
     own-level = ap (level a) own-rules ∙ level-own a (rulesOf f) ∙ sym (ap (λ (z : Own). z .count) e)
 
   -- A step by the location's own rules is the policy's.
-  pub own-step : {o : Own} (s : State) (e : Event) → o ≡ ownOf (l .clocks) (s .location) (rulesOf f) →
-      step stopped
+  pub own-step : {h : Here} (s : State) (e : Event) → HereOf f l s h →
+      stepBy
       (bare (take (l .clocks) (l .ceilings))
-      (rulesFrom (l .clocks) (part f (l .«rules_start» + o .start) (o .count * ruleSize (l .clocks))) 0 (o .count)))
-      (place (l .clocks) s) e
-      ≡ step stopped (policyOf f) (place (l .clocks) s) e
+      (rulesFrom (l .clocks) (part f (l .«rules_start» + h .own .start) (h .own .count * ruleSize (l .clocks))) 0 (h .own .count)))
+      (place (l .clocks) (h .seen)) (place (l .clocks) s) e
+      ≡ step stopped (policyOf (l .reading) f) (place (l .clocks) s) e
   unfolding policyOf
   own-step s e h =
-      step-bare stopped _ (policyOf f) (place (l .clocks) s) e laid-ceilings
-      (rw (own-rules (s .location) h) (decides-own (place (l .clocks) s) e (well-rising (policyOf f) laid-well)))
+      step-bare _ (policyOf (l .reading) f) (place (l .clocks) s) e laid-ceilings (h .seen)
+      (rw (h .seen, own-rules (s .location) (h .own)) (decides-own (looked stopped (policyOf (l .reading) f) (place (l .clocks) s)) e (well-rising (policyOf (l .reading) f) laid-well)))
+
+  -- The state that bounds see, as the code works it out, stands for the place looked at.
+  pub laid-seen : (s : State) → place (l .clocks) (seenBy l s) ≡ looked stopped (policyOf (l .reading) f) (place (l .clocks) s)
+  unfolding tested policyOf
+  laid-seen s = go (eqb (l .reading) 2)
+    where
+      go : (t : Bool) →
+          place (l .clocks) (cond t (record { location = s .location; clocks = advance stopped 0 (l .ceilings) (s .clocks) }) s)
+          ≡ record { location = s .location; clocks = cond t (advance stopped 0 (ceilingsOf f) (take (l .clocks) (s .clocks))) (take (l .clocks) (s .clocks)) }
+      go true =
+          ap (λ (vs : List ℕ). record { location = s .location; clocks = vs })
+          (advance-take stopped 0 (l .clocks) (l .ceilings) (s .clocks) ∙ ap (λ (cs : List ℕ). advance stopped 0 cs (take (l .clocks) (s .clocks))) laid-ceilings)
+      go false = refl
 
   -- The place that a state is, and its number, by the layout alone.
-  pub laid-place : (s : State) → place (l .clocks) s ≡ placeIn (policyOf f) (asPlace s)
+  pub laid-place : (s : State) → place (l .clocks) s ≡ placeIn (policyOf (l .reading) f) (asPlace s)
   laid-place s = rw laid-clocks
 
-  pub laid-number : (s : State) → stateNumber l s ≡ numberOf (policyOf f) (place (l .clocks) s)
+  pub laid-number : (s : State) → stateNumber l s ≡ numberOf (policyOf (l .reading) f) (place (l .clocks) s)
   laid-number s =
       rw (← number-take (l .ceilings) (l .clocks) (s .location) (s .clocks), ← laid-clocks)
-      (number-ceilings (l .ceilings) (l .clocks) (s .location) (take (l .clocks) (s .clocks)) (policyOf f .ceilings) laid-ceiling)
+      (number-ceilings (l .ceilings) (l .clocks) (s .location) (take (l .clocks) (s .clocks)) (policyOf (l .reading) f .ceilings) laid-ceiling)
 
   -- The state that a place is stands for that place by the layout too, and has its number.
-  pub place-back : {t : Place} → Inside (policyOf f) t → place (l .clocks) (stateFrom t) ≡ t
-  place-back {t} h = laid-place (stateFrom t) ∙ placeIn-stateOf (policyOf f) h
+  pub place-back : {t : Place} → Inside (policyOf (l .reading) f) t → place (l .clocks) (stateFrom t) ≡ t
+  place-back {t} h = laid-place (stateFrom t) ∙ placeIn-stateOf (policyOf (l .reading) f) h
 
-  pub next-number : {t : Place} → Inside (policyOf f) t → stateNumber l (stateFrom t) ≡ numberOf (policyOf f) t
-  next-number {t} h = laid-number (stateFrom t) ∙ ap (numberOf (policyOf f)) (place-back h)
+  pub next-number : {t : Place} → Inside (policyOf (l .reading) f) t → stateNumber l (stateFrom t) ≡ numberOf (policyOf (l .reading) f) t
+  next-number {t} h = laid-number (stateFrom t) ∙ ap (numberOf (policyOf (l .reading) f)) (place-back h)
 
   -- So has it if all four clocks are taken in.
-  pub four-number : {t : Place} → Inside (policyOf f) t → numberFrom (l .ceilings) 4 (t .location) (four (t .clocks)) ≡ numberOf (policyOf f) t
+  pub four-number : {t : Place} → Inside (policyOf (l .reading) f) t → numberFrom (l .ceilings) 4 (t .location) (four (t .clocks)) ≡ numberOf (policyOf (l .reading) f) t
   unfolding policyOf
   four-number {t} h =
       let e : 4 ≡ l .clocks + (4 - l .clocks) = omega (arith, laid-limits) in
@@ -221,31 +238,31 @@ module _ {f : List ℕ} {l : Layout} (k : Laid f l) where
       ap (λ (c : ℕ). stateAt (l .ceilings) c n) e ∙ state-unused (l .ceilings) (l .clocks) (4 - l .clocks) n (omega (arith, laid-limits)) unused-ceiling
 
   -- The state with a number stands for the place with that number.
-  pub numbered-place : (n : ℕ) → place (l .clocks) (stateAt (l .ceilings) (l .clocks) n) ≡ placeOf (policyOf f) n
+  pub numbered-place : (n : ℕ) → place (l .clocks) (stateAt (l .ceilings) (l .clocks) n) ≡ placeOf (policyOf (l .reading) f) n
   numbered-place n =
       rw (
         take-at (clocksFrom (l .ceilings) (l .clocks) n) _ (l .clocks) (clocks-length (l .ceilings) (l .clocks) n),
-        location-ceilings (l .ceilings) (l .clocks) n (policyOf f .ceilings) laid-ceiling,
-        clocks-ceilings (l .ceilings) (l .clocks) n (policyOf f .ceilings) laid-ceiling,
+        location-ceilings (l .ceilings) (l .clocks) n (policyOf (l .reading) f .ceilings) laid-ceiling,
+        clocks-ceilings (l .ceilings) (l .clocks) n (policyOf (l .reading) f .ceilings) laid-ceiling,
         laid-clocks,
       )
 
   -- A step leads to a place of the policy.
-  pub next-inside : (s : State) (e : Event) → Inside (policyOf f) (place (l .clocks) s) →
-      Of (Inside (policyOf f)) (step stopped (policyOf f) (place (l .clocks) s) e)
-  next-inside s e h = step-inside (policyOf f) (well-sound (policyOf f) laid-well) (place (l .clocks) s) h e
+  pub next-inside : (s : State) (e : Event) → Inside (policyOf (l .reading) f) (place (l .clocks) s) →
+      Of (Inside (policyOf (l .reading) f)) (step stopped (policyOf (l .reading) f) (place (l .clocks) s) e)
+  next-inside s e h = step-inside (policyOf (l .reading) f) (well-sound (policyOf (l .reading) f) laid-well) (place (l .clocks) s) h e
 
   -- By the answer r of a step that has a next state: whether the event reaches a marked place is said by the mark of that state's number.
   module _ (marks : List ℕ) (s : State) (x y : ℕ) {r : Step}
-      (e : r ≡ stepFrom s (step stopped (policyOf f) (place (l .clocks) s) (eventXY x y))) where
-    pub reaches-next : Inside (policyOf f) (place (l .clocks) s) → r .permitted ≡ true →
-        Numbered f marks (numberFrom (l .ceilings) 4 (r .state .location) (r .state .clocks)) (reaches (policyOf f) marks (place (l .clocks) s) x y)
+      (e : r ≡ stepFrom s (step stopped (policyOf (l .reading) f) (place (l .clocks) s) (eventXY x y))) where
+    pub reaches-next : Inside (policyOf (l .reading) f) (place (l .clocks) s) → r .permitted ≡ true →
+        Numbered (l .reading) f marks (numberFrom (l .ceilings) 4 (r .state .location) (r .state .clocks)) (reaches (policyOf (l .reading) f) marks (place (l .clocks) s) x y)
     unfolding reaches
-    reaches-next h p = go (step stopped (policyOf f) (place (l .clocks) s) (eventXY x y)) e (next-inside s (eventXY x y) h)
+    reaches-next h p = go (step stopped (policyOf (l .reading) f) (place (l .clocks) s) (eventXY x y)) e (next-inside s (eventXY x y) h)
       where
-        go : (d : Option Place) → r ≡ stepFrom s d → Of (Inside (policyOf f)) d →
-            Numbered f marks (numberFrom (l .ceilings) 4 (r .state .location) (r .state .clocks)) (arrives (policyOf f) marks d)
+        go : (d : Option Place) → r ≡ stepFrom s d → Of (Inside (policyOf (l .reading) f)) d →
+            Numbered (l .reading) f marks (numberFrom (l .ceilings) 4 (r .state .location) (r .state .clocks)) (arrives (policyOf (l .reading) f) marks d)
         go none q i = absurd (false≢true (sym (ap (λ (z : Step). z .permitted) q) ∙ p))
         go (some t) q i =
             let n = ap (λ (z : Step). numberFrom (l .ceilings) 4 (z .state .location) (z .state .clocks)) q ∙ four-number i in
-            record { number = rw n (numberOf-below (policyOf f) i); mark = ap (isMarked marks) n }
+            record { number = rw n (numberOf-below (policyOf (l .reading) f) i); mark = ap (isMarked marks) n }

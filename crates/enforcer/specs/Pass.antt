@@ -10,7 +10,7 @@ use lib.Bits.{bitAnd, bitOr, bitXor, or-zero-r, xor-zero-r}
 use lib.ListN.{length, getD, take, drop, replicate}
 use borrow.Author.Tests.{lt-ltb, le-ltb, ltb-true, ltb-false, eqb-true}
 use Rattle.streams.specs.Choose.{any, any-from, any-none, any-has, any-fails}
-use Rattle.policy.specs.Rules.{Rule, Policy, Place, inputValues, outputValues}
+use Rattle.policy.specs.Rules.{Rule, Policy, Place, inputValues, outputValues, stopped, looked}
 use Rattle.policy.specs.File.{ruleSize, ruleFrom, rulesFrom, rulesOf, clockCount, policyOf}
 use Rattle.policy.specs.Sound.{WellFormed, Each, each-none, each-more, Formed}
 use Rattle.policy.specs.Checked.{frame, well-sound}
@@ -40,16 +40,16 @@ zeros (suc n) (suc x) = zeros n x
 module _ (s : Place) (p : Policy) (marks : List ℕ) where
   -- What the rule r takes of the first n sets, and whether it takes something and leads to a marked place.
   pub record Went (r : Rule) (n : ℕ) (left rest : List ℕ) (found : Bool) : Type 0 where
-    pub changed : Changed (λ x. bitXor (getD left x 0) (takes s r x (getD left x 0))) n left rest
-    pub says : found ≡ (any (λ x. ltb 0 (takes s r x (getD left x 0))) n && leads s p marks r)
+    pub changed : Changed (λ x. bitXor (getD left x 0) (takes (looked stopped p s) r x (getD left x 0))) n left rest
+    pub says : found ≡ (any (λ x. ltb 0 (takes (looked stopped p s) r x (getD left x 0))) n && leads s p marks r)
 
   -- A rule whose bounds do not hold takes nothing.
-  pub went-not : {r : Rule} {n : ℕ} {left : List ℕ} → holds s r ≡ false → Went r n left left false
+  pub went-not : {r : Rule} {n : ℕ} {left : List ℕ} → holds (looked stopped p s) r ≡ false → Went r n left left false
   unfolding takes
   went-not {r} {n} {left} e =
       record { changed = record { at = λ z. rw (e, xor-zero-r) (sym (cond-same (ltb z n) (getD left z 0))) }; says = rw (e, none-any n) }
 
-  pub went-took : {r : Rule} {n : ℕ} {left rest : List ℕ} {some found : Bool} → holds s r ≡ true →
+  pub went-took : {r : Rule} {n : ℕ} {left rest : List ℕ} {some found : Bool} → holds (looked stopped p s) r ≡ true →
       Took (r .inCare) (r .inValue) (outs (r .outCare) (r .outValue)) n left rest some → found ≡ (some && leads s p marks r) → Went r n left rest found
   unfolding takes
   went-took {r} {n} {left} {rest} e k f =
@@ -82,21 +82,21 @@ module _ (s : Place) (p : Policy) (marks : List ℕ) where
     unfolding gathered
     gathering-more c = record { within = within; past = λ x h. c .at x ∙ rw (le-ltb x (inputValues p) h) (g .past x h) }
       where
-        left-now : (x : ℕ) → x < inputValues p → getD rest x 0 ≡ bitXor (getD left x 0) (takes s r x (getD left x 0))
+        left-now : (x : ℕ) → x < inputValues p → getD rest x 0 ≡ bitXor (getD left x 0) (takes (looked stopped p s) r x (getD left x 0))
         left-now x h = w .changed .at x ∙ rw (lt-ltb x (inputValues p) h)
 
-        found-now : (x : ℕ) → x < inputValues p → getD more x 0 ≡ cond t (bitOr (getD found x 0) (takes s r x (getD left x 0))) (getD found x 0)
+        found-now : (x : ℕ) → x < inputValues p → getD more x 0 ≡ cond t (bitOr (getD found x 0) (takes (looked stopped p s) r x (getD left x 0))) (getD found x 0)
         found-now x h = c .at x ∙ rw (lt-ltb x (inputValues p) h, left-now x h, xor-twice)
 
         -- What takes nothing finds nothing.
-        same : (x : ℕ) → x < inputValues p → (a : Bool) → any (λ z. ltb 0 (takes s r z (getD left z 0))) (inputValues p) ≡ a → (b : Bool) →
-            cond b (bitOr (getD found x 0) (takes s r x (getD left x 0))) (getD found x 0)
-            ≡ cond (a && b) (bitOr (getD found x 0) (takes s r x (getD left x 0))) (getD found x 0)
+        same : (x : ℕ) → x < inputValues p → (a : Bool) → any (λ z. ltb 0 (takes (looked stopped p s) r z (getD left z 0))) (inputValues p) ≡ a → (b : Bool) →
+            cond b (bitOr (getD found x 0) (takes (looked stopped p s) r x (getD left x 0))) (getD found x 0)
+            ≡ cond (a && b) (bitOr (getD found x 0) (takes (looked stopped p s) r x (getD left x 0))) (getD found x 0)
         same x h true e b = refl
         same x h false e false = refl
         same x h false e true =
-            let n : takes s r x (getD left x 0) ≤ 0 = ltb-false _ _ (any-none _ (inputValues p) e x h) in
-            let z : takes s r x (getD left x 0) ≡ 0 = omega arith in
+            let n : takes (looked stopped p s) r x (getD left x 0) ≤ 0 = ltb-false _ _ (any-none _ (inputValues p) e x h) in
+            let z : takes (looked stopped p s) r x (getD left x 0) ≡ 0 = omega arith in
             rw (z, or-zero-r)
 
         within : (x : ℕ) → x < inputValues p → allowed p marks s x ≡ gathered s p marks rs x (getD rest x 0) (getD more x 0)
@@ -111,13 +111,13 @@ module _ (s : Place) (p : Policy) (marks : List ℕ) where
 
   -- What a rule that leads on takes is allowed.
   takes-found : {r : Rule} {rs : List Rule} {left found : List ℕ} → Gathering (r ∷ rs) left found → leads s p marks r ≡ true →
-      (x : ℕ) → x < inputValues p → 0 < takes s r x (getD left x 0) → 0 < allowed p marks s x
+      (x : ℕ) → x < inputValues p → 0 < takes (looked stopped p s) r x (getD left x 0) → 0 < allowed p marks s x
   unfolding gathered
   takes-found {r} {rs} {left} {found} g q x h n =
-      let b = has-some (takes s r x (getD left x 0)) (λ z. omega arith) in
+      let b = has-some (takes (looked stopped p s) r x (getD left x 0)) (λ z. omega arith) in
       let e = rw q at (g .within x h) in
-      let o : has (bitOr (getD found x 0) (takes s r x (getD left x 0))) (b .0) ≡ true =
-      has-or (getD found x 0) (takes s r x (getD left x 0)) (b .0) ∙ rw (b .1) (or-true (has (getD found x 0) (b .0))) in
+      let o : has (bitOr (getD found x 0) (takes (looked stopped p s) r x (getD left x 0))) (b .0) ≡ true =
+      has-or (getD found x 0) (takes (looked stopped p s) r x (getD left x 0)) (b .0) ∙ rw (b .1) (or-true (has (getD found x 0) (b .0))) in
       let f = ap (λ (z : ℕ). has z (b .0)) e ∙ gathered-keeps s p marks rs x _ _ (b .0) o in
       let d = has-not-empty (allowed p marks s x) (b .0) f in
       omega arith
@@ -126,7 +126,7 @@ module _ (s : Place) (p : Policy) (marks : List ℕ) where
   pub gathering-found : WellFormed p → {r : Rule} {rs : List Rule} {left rest found : List ℕ} →
       Gathering (r ∷ rs) left found → Went r (inputValues p) left rest true → any (mayStand p marks s) (inputValues p) ≡ true
   gathering-found k {r} {left = left} g w =
-      let q = and-eq-true-iff (any (λ x. ltb 0 (takes s r x (getD left x 0))) (inputValues p)) _ .0 (sym (w .says)) in
+      let q = and-eq-true-iff (any (λ x. ltb 0 (takes (looked stopped p s) r x (getD left x 0))) (inputValues p)) _ .0 (sym (w .says)) in
       let a = any-from _ (inputValues p) (q .0) in
       allowed-any p k marks s ∙ any-has _ (inputValues p) (a .0) (a .1) (lt-ltb 0 _ (takes-found g (q .1) (a .0) (a .1) (ltb-true _ _ (a .2))))
 
@@ -139,8 +139,8 @@ module _ (s : Place) (p : Policy) (marks : List ℕ) where
       go true e = sym (g .within x (ltb-true _ _ e))
       go false e = g .past x (ltb-false _ _ e) ∙ sym (rw e (empty (p .rules)))
         where
-          takes-none : (r : Rule) → takes s r x 0 ≡ 0
-          takes-none r = cases (holds s r) (eqb (bitAnd x (r .inCare)) (r .inValue))
+          takes-none : (r : Rule) → takes (looked stopped p s) r x 0 ≡ 0
+          takes-none r = cases (holds (looked stopped p s) r) (eqb (bitAnd x (r .inCare)) (r .inValue))
             where
               cases : (a b : Bool) → cond a (cond b (bitAnd 0 (outs (r .outCare) (r .outValue))) 0) 0 ≡ 0
               cases true true = refl
@@ -172,10 +172,10 @@ module _ (s : Place) (p : Policy) where
   pub turned-as : {r : Rule} {n m : ℕ} {left rest : List ℕ} {some : Bool} {to : ℕ} → n ≡ m → Turned r n left rest some to → Turned r m left rest some to
   turned-as {r} {left = left} {rest = rest} {some = some} {to = to} e w = subst (λ (k : ℕ). Turned r k left rest some to) e w
 
-  pub turned-not : {r : Rule} {n : ℕ} {left : List ℕ} {to : ℕ} → holds s r ≡ false → Turned r n left left false to
+  pub turned-not : {r : Rule} {n : ℕ} {left : List ℕ} {to : ℕ} → holds (looked stopped p s) r ≡ false → Turned r n left left false to
   turned-not e = record { went = λ marks. went-not s p marks e; below = λ q. absurd (false≢true q) }
 
-  module _ {r : Rule} {n : ℕ} {left rest : List ℕ} {some : Bool} (e : holds s r ≡ true)
+  module _ {r : Rule} {n : ℕ} {left rest : List ℕ} {some : Bool} (e : holds (looked stopped p s) r ≡ true)
       (k : Took (r .inCare) (r .inValue) (outs (r .outCare) (r .outValue)) n left rest some) where
     pub turned-nothing : {to : ℕ} → some ≡ false → Turned r n left rest false to
     turned-nothing q = record { went = λ marks. went-took s p marks e k (rw q); below = λ d. absurd (false≢true d) }
@@ -222,13 +222,13 @@ module _ (s : Place) (p : Policy) (marks : List ℕ) (x : ℕ) where
   unfolding row
   rowing-start k rs e left c = record { is = sym (gathered-own s p marks x (allBelow (outputValues p)) k) ∙ rw (e, c) }
 
-  module _ {r : Rule} {rs : List Rule} {left found took kept : ℕ} (g : Rowing (r ∷ rs) left found) (t : took ≡ takes s r x left)
+  module _ {r : Rule} {rs : List Rule} {left found took kept : ℕ} (g : Rowing (r ∷ rs) left found) (t : took ≡ takes (looked stopped p s) r x left)
       (e : kept ≡ cond (leads s p marks r) took 0) where
     pub rowing-more : Rowing rs (bitXor left took) (bitOr found kept)
     unfolding gathered
-    rowing-more = record { is = g .is ∙ rw (e, t) (ap (gathered s p marks rs x (bitXor left (takes s r x left))) (go (leads s p marks r))) }
+    rowing-more = record { is = g .is ∙ rw (e, t) (ap (gathered s p marks rs x (bitXor left (takes (looked stopped p s) r x left))) (go (leads s p marks r))) }
       where
-        go : (b : Bool) → cond b (bitOr found (takes s r x left)) found ≡ bitOr found (cond b (takes s r x left) 0)
+        go : (b : Bool) → cond b (bitOr found (takes (looked stopped p s) r x left)) found ≡ bitOr found (cond b (takes (looked stopped p s) r x left) 0)
         go true = refl
         go false = sym (or-zero-r found)
 
@@ -277,7 +277,7 @@ module _ {f : List ℕ} {l : Layout} (k : Laid f l) where
   laid-short = let g = frame f (k .passes) in omega (arith, mul-le-mul-right (ruleSize (clockCount f)) (g .rules))
 
   module _ (a : ℕ) {o : Own} (e : o ≡ ownOf (l .clocks) a (rulesOf f)) where
-    pub own-here : rulesFrom (l .clocks) f (l .«rules_start» + o .start) (o .count) ≡ own a (policyOf f .rules)
+    pub own-here : rulesFrom (l .clocks) f (l .«rules_start» + o .start) (o .count) ≡ own a (policyOf (l .reading) f .rules)
     unfolding policyOf
     own-here = sym (rules-part f (l .clocks) (l .«rules_start» + o .start) (o .count)) ∙ own-rules k a e
 
@@ -285,7 +285,7 @@ module _ {f : List ℕ} {l : Layout} (k : Laid f l) where
     unfolding policyOf
     own-ahead =
         record {
-          each = rw (own-here, k .locations, laid-clocks k) (each-own _ _ a (well-sound (policyOf f) (laid-well k) .rules));
+          each = rw (own-here, k .locations, laid-clocks k) (each-own _ _ a (well-sound (policyOf (l .reading) f) (laid-well k) .rules));
           ends = own-fits k a e .0;
         }
 

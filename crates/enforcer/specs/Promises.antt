@@ -24,15 +24,15 @@ outputSaid r = record { answer = answerSaid (r .answer); state = asPlace (r .sta
 abbrev pub ranSaid : Ran → List ℕ → RunAnswer
 ranSaid r out = record { refusal = r .refusal; count = r .count; state = asPlace (r .state); out = out }
 
-pub record InputPromise (file marks : List ℕ) (s : State) (x : ℕ) (r : Answer) : Type 0 where
-  pub said : answerSaid r ≡ inputOf file marks (asPlace s) x
+pub record InputPromise (reading : ℕ) (file marks : List ℕ) (s : State) (x : ℕ) (r : Answer) : Type 0 where
+  pub said : answerSaid r ≡ inputOf reading file marks (asPlace s) x
 
-pub record OutputPromise (file marks : List ℕ) (s : State) (x y : ℕ) (r : Output) : Type 0 where
-  pub said : outputSaid r ≡ outputOf file marks (asPlace s) x y
+pub record OutputPromise (reading : ℕ) (file marks : List ℕ) (s : State) (x y : ℕ) (r : Output) : Type 0 where
+  pub said : outputSaid r ≡ outputOf reading file marks (asPlace s) x y
 
 -- `before` and `after` are what the slice for the released events holds.
-pub record RunPromise (file marks : List ℕ) (s : State) (events before : List ℕ) (r : Ran) (after : List ℕ) : Type 0 where
-  pub said : ranSaid r after ≡ runOf file marks (asPlace s) events before
+pub record RunPromise (reading : ℕ) (file marks : List ℕ) (s : State) (events before : List ℕ) (r : Ran) (after : List ℕ) : Type 0 where
+  pub said : ranSaid r after ≡ runOf reading file marks (asPlace s) events before
 
 -- Two answers that say the same are the same.
 pub answer-one : (r q : Answer) → answerSaid r ≡ answerSaid q → r ≡ q
@@ -46,18 +46,18 @@ abbrev stateSaid : Place → State
 stateSaid s = record { location = s .location; clocks = s .clocks }
 
 -- Each promise is met by one answer only, and that of the run by one slice.
-pub input-one : {file marks : List ℕ} {s : State} {x : ℕ} {r q : Answer} → InputPromise file marks s x r → InputPromise file marks s x q → r ≡ q
+pub input-one : {reading : ℕ} {file marks : List ℕ} {s : State} {x : ℕ} {r q : Answer} → InputPromise reading file marks s x r → InputPromise reading file marks s x q → r ≡ q
 input-one {r} {q} h g = answer-one r q (h .said ∙ sym (g .said))
 
-pub output-one : {file marks : List ℕ} {s : State} {x y : ℕ} {r q : Output} → OutputPromise file marks s x y r → OutputPromise file marks s x y q → r ≡ q
+pub output-one : {reading : ℕ} {file marks : List ℕ} {s : State} {x y : ℕ} {r q : Output} → OutputPromise reading file marks s x y r → OutputPromise reading file marks s x y q → r ≡ q
 output-one {r} {q} h g =
     let e = h .said ∙ sym (g .said) in
     let a = answer-one (r .answer) (q .answer) (ap (λ (z : OutputAnswer). z .answer) e) in
     let s = ap (λ (z : OutputAnswer). stateSaid (z .state)) e in
     λ i. record { answer = a i; state = s i }
 
-pub run-one : {file marks : List ℕ} {s : State} {events before after also : List ℕ} {r q : Ran} →
-    RunPromise file marks s events before r after → RunPromise file marks s events before q also → (r ≡ q) × (after ≡ also)
+pub run-one : {reading : ℕ} {file marks : List ℕ} {s : State} {events before after also : List ℕ} {r q : Ran} →
+    RunPromise reading file marks s events before r after → RunPromise reading file marks s events before q also → (r ≡ q) × (after ≡ also)
 run-one h g =
     let e = h .said ∙ sym (g .said) in (
       ap (λ (z : RunAnswer). record { refusal = z .refusal; count = z .count; state = stateSaid (z .state) }) e,

@@ -3,15 +3,16 @@ use mathlib.Core.Path.{_≡_}
 use mathlib.Core.List.{List}
 use Prim.Native.Nat.{ℕ, _≤_}
 use lib.ListN.{length}
+use Rattle.policy.specs.Rules.{stopped, looked}
 use Rattle.policy.specs.File.{policyOf, rulesOf, inputCount, outputCount, clockCount, locationCount, ruleCount, rulesStart, rulesEnd, ceilingsOf}
 use Rattle.policy.specs.Number.{four, states}
 use Rattle.policy.specs.Check.{refusalOf}
 use Rattle.policy.specs.Sound.{Inside}
 use Rattle.policy.specs.Own.{ownOf}
 use Rattle.policy.specs.declared.Layout.{Layout}
-use Rattle.policy.specs.declared.own.Own.{Own}
 use Rattle.enforcer.specs.Code.{place}
 use Rattle.enforcer.specs.declared.state.State.{State}
+use Rattle.enforcer.specs.declared.reach.Here.{Here}
 
 -- The file passes the check, and this is its layout.
 pub record Laid (f : List ℕ) (l : Layout) : Type 0 where
@@ -24,15 +25,19 @@ pub record Laid (f : List ℕ) (l : Layout) : Type 0 where
   pub start : l .«rules_start» ≡ rulesStart f
   pub end : l .«rules_end» ≡ rulesEnd f
   pub ceilings : l .ceilings ≡ four (ceilingsOf f)
-  pub states : l .states ≡ states (policyOf f)
+  pub states : l .states ≡ states (policyOf (l .reading) f)
 
 -- There is a mark for each state, and the state is in range.
 pub record Standing (f : List ℕ) (l : Layout) (marks : List ℕ) (s : State) : Type 0 where
   pub laid : Laid f l
-  pub enough : states (policyOf f) ≤ length marks
-  pub inside : Inside (policyOf f) (place (l .clocks) s)
+  pub enough : states (policyOf (l .reading) f) ≤ length marks
+  pub inside : Inside (policyOf (l .reading) f) (place (l .clocks) s)
 
--- The state's own rules are known.
-pub record Ready (f : List ℕ) (l : Layout) (o : Own) (marks : List ℕ) (s : State) : Type 0 where
+-- The state's own rules are known, and the state that their bounds see.
+pub record HereOf (f : List ℕ) (l : Layout) (s : State) (h : Here) : Type 0 where
+  pub own : h .own ≡ ownOf (l .clocks) (s .location) (rulesOf f)
+  pub seen : place (l .clocks) (h .seen) ≡ looked stopped (policyOf (l .reading) f) (place (l .clocks) s)
+
+pub record Ready (f : List ℕ) (l : Layout) (h : Here) (marks : List ℕ) (s : State) : Type 0 where
   pub standing : Standing f l marks s
-  pub own : o ≡ ownOf (l .clocks) (s .location) (rulesOf f)
+  pub here : HereOf f l s h

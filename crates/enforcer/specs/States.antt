@@ -13,10 +13,10 @@ use Rattle.streams.specs.Answer.{refused, _orElse_, unless, none-refused, none-
 use Rattle.policy.specs.Rules.{Policy, Place}
 use Rattle.policy.specs.Number.{states, numberOf}
 use Rattle.policy.specs.File.{ceilingsOf, policyOf}
-use Rattle.policy.specs.Check.{refusalOf, all}
+use Rattle.policy.specs.Check.{refusalUnder, all}
 use Rattle.policy.specs.Sound.{Inside}
 use Rattle.policy.specs.Numbered.{numberOf-below}
-use Rattle.policy.specs.Layout.{checkedOf, checked-says}
+use Rattle.policy.specs.Layout.{checkedUnder, under-says}
 use Rattle.policy.specs.declared.Layout.{Layout}
 use Rattle.policy.specs.declared.Checked.{Checked}
 use Rattle.enforcer.specs.State.{placeIn, stateOf, clocksGood, stateGood, isMarked}
@@ -92,49 +92,67 @@ padded-good (c ∷ cs) (v ∷ vs) n e = ap (_&&_ (leb v c)) (padded-good cs vs n
 
 -- The layout decides the same: in it an unused clock has the ceiling 0.
 pub laid-good : {f : List ℕ} {l : Layout} → Laid f l → (s : State) → length (s .clocks) ≡ 4 →
-    stateGood (policyOf f) (asPlace s) ≡ (ltb (s .location) (l .locations) && clocksGood (l .ceilings) (s .clocks))
+    stateGood (policyOf (l .reading) f) (asPlace s) ≡ (ltb (s .location) (l .locations) && clocksGood (l .ceilings) (s .clocks))
 unfolding stateGood policyOf
 laid-good {f} k s e =
     rw (k .locations, k .ceilings, padded-good (ceilingsOf f) (s .clocks) (4 - length (ceilingsOf f)) (omega (arith, laid-well k .clocks)))
 
 -- A state that is not out of range has a number, by the layout, and its mark is the mark of the place.
-pub good-numbered : {f : List ℕ} {l : Layout} → Laid f l → (marks : List ℕ) (s : State) → stateGood (policyOf f) (asPlace s) ≡ true →
-    Numbered f marks (stateNumber l s) (isMarked marks (numberOf (policyOf f) (placeIn (policyOf f) (asPlace s))))
-good-numbered {f} k marks s g =
-    let n = laid-number k s ∙ ap (numberOf (policyOf f)) (laid-place k s) in
-    record { number = rw n (numberOf-below (policyOf f) (good-inside (policyOf f) (asPlace s) g)); mark = ap (isMarked marks) n }
+pub good-numbered : {f : List ℕ} {l : Layout} → Laid f l → (marks : List ℕ) (s : State) → stateGood (policyOf (l .reading) f) (asPlace s) ≡ true →
+    Numbered (l .reading) f marks (stateNumber l s) (isMarked marks (numberOf (policyOf (l .reading) f) (placeIn (policyOf (l .reading) f) (asPlace s))))
+good-numbered {f} {l} k marks s g =
+    let n = laid-number k s ∙ ap (numberOf (policyOf (l .reading) f)) (laid-place k s) in
+    record { number = rw n (numberOf-below (policyOf (l .reading) f) (good-inside (policyOf (l .reading) f) (asPlace s) g)); mark = ap (isMarked marks) n }
 
 -- No refusal up to 10, and no 16, as the facts that they test.
-module _ (file marks : List ℕ) where
-  pub marks-granted : (marksRefusal file marks ≡ 0) ↔ ((refusalOf file ≡ 0) × (states (policyOf file) ≤ length marks))
+module _ (reading : ℕ) (file marks : List ℕ) where
+  pub marks-granted : (marksRefusal reading file marks ≡ 0) ↔ ((refusalUnder reading file ≡ 0) × (states (policyOf reading file) ≤ length marks))
   unfolding marksRefusal
   marks-granted = (
-    λ e. let k = none-refused (refusalOf file) _ .0 e in (k .0, leb-true _ _ (none-unless _ 9 .0 (k .1))),
-    λ k. none-refused (refusalOf file) _ .1 (k .0, none-unless _ 9 .1 (le-leb _ _ (k .1))),
+    λ e. let k = none-refused (refusalUnder reading file) _ .0 e in (k .0, leb-true _ _ (none-unless _ 9 .0 (k .1))),
+    λ k. none-refused (refusalUnder reading file) _ .1 (k .0, none-unless _ 9 .1 (le-leb _ _ (k .1))),
   )
 
   pub state-granted :
       (s : Place)
-      → (stateRefusal file marks s ≡ 0)
-      ↔ ((stateGood (policyOf file) s ≡ true) × (isMarked marks (numberOf (policyOf file) (placeIn (policyOf file) s)) ≡ true))
+      → (stateRefusal reading file marks s ≡ 0)
+      ↔ ((stateGood (policyOf reading file) s ≡ true) × (isMarked marks (numberOf (policyOf reading file) (placeIn (policyOf reading file) s)) ≡ true))
   unfolding stateRefusal
   state-granted s = (
-    λ e. let k = none-refused (unless (stateGood (policyOf file) s) 16) _ .0 e in (none-unless _ 15 .0 (k .0), none-unless _ 15 .0 (k .1)),
-    λ k. none-refused (unless (stateGood (policyOf file) s) 16) _ .1 (none-unless _ 15 .1 (k .0), none-unless _ 15 .1 (k .1)),
+    λ e. let k = none-refused (unless (stateGood (policyOf reading file) s) 16) _ .0 e in (none-unless _ 15 .0 (k .0), none-unless _ 15 .0 (k .1)),
+    λ k. none-refused (unless (stateGood (policyOf reading file) s) 16) _ .1 (none-unless _ 15 .1 (k .0), none-unless _ 15 .1 (k .1)),
   )
 
--- Past the refusals up to 10 what the check answers has the layout, and there is a mark for each state.
-pub granted-laid : {file : List ℕ} (marks : List ℕ) {r : Checked} → r ≡ checkedOf file → marksRefusal file marks ≡ 0 →
-    Laid file (r .layout) × (states (policyOf file) ≤ length marks)
-granted-laid {file} marks {r} e z =
-    let k = marks-granted file marks .0 z in (laid-of file r e (ap (λ (c : Checked). c .refusal) e ∙ checked-says file .0 ∙ k .0), k .1)
+-- The code finds them by what the check answers.
+pub marks-by : (reading : ℕ) (file marks : List ℕ) {r : Checked} → r ≡ checkedUnder reading file →
+    (r .refusal orElse unless (leb (r .layout .states) (length marks)) 10) ≡ marksRefusal reading file marks
+unfolding marksRefusal
+marks-by reading file marks {r} e = go (refusalUnder reading file) refl (ap (λ (c : Checked). c .refusal) e ∙ under-says reading file .0)
+  where
+    go : (n : ℕ) → refusalUnder reading file ≡ n → r .refusal ≡ n →
+        (r .refusal orElse unless (leb (r .layout .states) (length marks)) 10) ≡ (n orElse unless (leb (states (policyOf reading file)) (length marks)) 10)
+    go zero z q = let l = laid-of reading file r e q in rw (q, l .0 .states, l .1)
+    go (suc n) z q = rw q
+
+-- Past the refusals up to 10 what the check answers has the layout under the reading that was named, and there is a mark for each state.
+pub record Granted (reading : ℕ) (file marks : List ℕ) (l : Layout) : Type 0 where
+  pub laid : Laid file l
+  pub named : l .reading ≡ reading
+  pub enough : states (policyOf (l .reading) file) ≤ length marks
+
+pub granted-laid : {reading : ℕ} {file : List ℕ} (marks : List ℕ) {r : Checked} → r ≡ checkedUnder reading file → marksRefusal reading file marks ≡ 0 →
+    Granted reading file marks (r .layout)
+granted-laid {reading} {file} marks {r} e z =
+    let k = marks-granted reading file marks .0 z in
+    let l = laid-of reading file r e (ap (λ (c : Checked). c .refusal) e ∙ under-says reading file .0 ∙ k .0) in
+    record { laid = l .0; named = l .1; enough = rw (l .1) (k .1) }
 
 -- Past 16 the state is in range too.
-pub granted-standing : {file marks : List ℕ} {l : Layout} {s : State} → Laid file l × (states (policyOf file) ≤ length marks) →
-    stateRefusal file marks (asPlace s) ≡ 0 → Standing file l marks s
-granted-standing {file} {marks} {s = s} k z =
+pub granted-standing : {file marks : List ℕ} {l : Layout} {s : State} → Laid file l → states (policyOf (l .reading) file) ≤ length marks →
+    stateRefusal (l .reading) file marks (asPlace s) ≡ 0 → Standing file l marks s
+granted-standing {file} {marks} {l = l} {s = s} k e z =
     record {
-      laid = k .0;
-      enough = k .1;
-      inside = rw (laid-place (k .0) s) (good-inside (policyOf file) (asPlace s) (state-granted file marks (asPlace s) .0 z .0));
+      laid = k;
+      enough = e;
+      inside = rw (laid-place k s) (good-inside (policyOf (l .reading) file) (asPlace s) (state-granted (l .reading) file marks (asPlace s) .0 z .0));
     }

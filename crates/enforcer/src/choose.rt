@@ -2,11 +2,11 @@
 use crate::pass::allowed;
 use crate::pass::may_stand;
 use crate::pass::row;
+use crate::reach::Here;
 use crate::reach::values;
 use crate::state::State;
 use crate::table::NEAREST_FIRST;
 use policy::Layout;
-use policy::Own;
 ghost use mathlib.Core.Path.{_≡_};
 ghost use Prim.Native.Nat.{ℕ, _≤_, _<_};
 ghost use lib.Dec.{eqb, ltb};
@@ -85,18 +85,18 @@ fn standing(sets: [u16; 16]) -> u16
 pub(crate) fn choose_input(
     file: &[u8],
     layout: Layout,
-    own: Own,
+    here: Here,
     marks: &[u8],
     state: State,
     x: u8,
 ) -> Choice
-    requires { ⌜ Ready (now file) layout own (now marks) state × (x < inputValues (policyOf (now file))) ⌝ }
-    ensures { λ r. ⌜ choiceSaid r ≡ inputChoice (policyOf (now (file .entry))) (now (marks .entry)) (place (layout .clocks) state) x ⌝ }
+    requires { ⌜ Ready (now file) layout here (now marks) state × (x < inputValues (policyOf (layout .reading) (now file))) ⌝ }
+    ensures { λ r. ⌜ choiceSaid r ≡ inputChoice (policyOf (layout .reading) (now (file .entry))) (now (marks .entry)) (place (layout .clocks) state) x ⌝ }
 {
-    if may_stand(file, layout, own, marks, state, x) {
+    if may_stand(file, layout, here, marks, state, x) {
         return Choice::Value(x);
     }
-    let sets = allowed(file, layout, own, marks, state);
+    let sets = allowed(file, layout, here, marks, state);
     nearest(standing(sets), x, values(layout.inputs))
 }
 
@@ -104,17 +104,17 @@ pub(crate) fn choose_input(
 pub(crate) fn choose_output(
     file: &[u8],
     layout: Layout,
-    own: Own,
+    here: Here,
     marks: &[u8],
     state: State,
     x: u8,
     y: u8,
 ) -> Choice
-    requires { ⌜ Ready (now file) layout own (now marks) state × (y < outputValues (policyOf (now file))) ⌝ }
-    ensures { λ r. ⌜ choiceSaid r ≡ outputChoice (policyOf (now (file .entry))) (now (marks .entry)) (place (layout .clocks) state) x y ⌝ }
+    requires { ⌜ Ready (now file) layout here (now marks) state × (y < outputValues (policyOf (layout .reading) (now file))) ⌝ }
+    ensures { λ r. ⌜ choiceSaid r ≡ outputChoice (policyOf (layout .reading) (now (file .entry))) (now (marks .entry)) (place (layout .clocks) state) x y ⌝ }
 {
     nearest(
-        row(file, layout, own, marks, state, x),
+        row(file, layout, here, marks, state, x),
         y,
         values(layout.outputs),
     )

@@ -1,7 +1,7 @@
 // The input half, and the output half by value.
 use crate::choose::Choice;
 use crate::choose::choose_input;
-use crate::reach::own_of;
+use crate::reach::here_of;
 use crate::reach::values;
 use crate::state::State;
 use crate::tick::output_tick;
@@ -9,12 +9,13 @@ use policy::Checked;
 use policy::Layout;
 ghost use mathlib.Core.Path.{_≡_};
 ghost use Prim.Native.Nat.{_≤_};
+ghost use lib.Dec.{leb};
 ghost use lib.ListN.{length};
+ghost use Rattle.streams.specs.Answer.{_orElse_, unless};
 ghost use Rattle.policy.specs.Number.{states};
 ghost use Rattle.policy.specs.File.{policyOf};
-ghost use Rattle.policy.specs.Layout.{checkedOf};
 ghost use Rattle.enforcer.specs.State.{stateGood};
-ghost use Rattle.enforcer.specs.Entries.{marksRefusal, stateRefusal};
+ghost use Rattle.enforcer.specs.Entries.{stateRefusal};
 ghost use Rattle.enforcer.specs.Code.{asPlace};
 ghost use Rattle.enforcer.specs.Ready.{Laid};
 ghost use Rattle.enforcer.specs.Promises.{InputPromise, OutputPromise};
@@ -30,10 +31,9 @@ pub struct Output {
     pub state: State,
 }
 
-// 1 to 9 as the check has it, then 10.
-pub fn marks_refusal(file: &[u8], checked: Checked, marks: &[u8]) -> u8
-    requires { ⌜ checked ≡ checkedOf (now file) ⌝ }
-    ensures { λ r. ⌜ r ≡ marksRefusal (now (file .entry)) (now (marks .entry)) ⌝ }
+// 22 and 1 to 9 as the check has them, then 10.
+pub fn marks_refusal(checked: Checked, marks: &[u8]) -> u8
+    ensures { λ r. ⌜ r ≡ (checked .refusal orElse unless (leb (checked .layout .states) (length (now (marks .entry)))) 10) ⌝ }
 {
     if checked.refusal != 0 {
         return checked.refusal;
@@ -48,7 +48,7 @@ pub fn marks_refusal(file: &[u8], checked: Checked, marks: &[u8]) -> u8
 // The location and the clock values are in range. An unused clock has the ceiling 0.
 fn state_good(file: &[u8], layout: Layout, state: State) -> bool
     requires { ⌜ Laid (now file) layout ⌝ }
-    ensures { λ r. ⌜ r ≡ stateGood (policyOf (now (file .entry))) (asPlace state) ⌝ }
+    ensures { λ r. ⌜ r ≡ stateGood (policyOf (layout .reading) (now (file .entry))) (asPlace state) ⌝ }
 {
     if layout.locations <= state.location as usize {
         return false;
@@ -67,8 +67,8 @@ fn state_good(file: &[u8], layout: Layout, state: State) -> bool
 
 // 16 where the state is not in range or not marked, else 0.
 pub(crate) fn state_refusal(file: &[u8], layout: Layout, marks: &[u8], state: State) -> u8
-    requires { ⌜ Laid (now file) layout × (states (policyOf (now file)) ≤ length (now marks)) ⌝ }
-    ensures { λ r. ⌜ r ≡ stateRefusal (now (file .entry)) (now (marks .entry)) (asPlace state) ⌝ }
+    requires { ⌜ Laid (now file) layout × (states (policyOf (layout .reading) (now file)) ≤ length (now marks)) ⌝ }
+    ensures { λ r. ⌜ r ≡ stateRefusal (layout .reading) (now (file .entry)) (now (marks .entry)) (asPlace state) ⌝ }
 {
     if !state_good(file, layout, state) {
         return 16;
@@ -78,11 +78,11 @@ pub(crate) fn state_refusal(file: &[u8], layout: Layout, marks: &[u8], state: St
     if marks[number] == 1 { 0 } else { 16 }
 }
 
-pub fn input_half(file: &[u8], marks: &[u8], state: State, x: u8) -> Answer
-    ensures { λ r. ⌜ InputPromise (now (file .entry)) (now (marks .entry)) state x r ⌝ }
+pub fn input_half(reading: u8, file: &[u8], marks: &[u8], state: State, x: u8) -> Answer
+    ensures { λ r. ⌜ InputPromise reading (now (file .entry)) (now (marks .entry)) state x r ⌝ }
 {
-    let checked = policy::check(file);
-    let r = marks_refusal(file, checked, marks);
+    let checked = policy::check_under(reading, file);
+    let r = marks_refusal(checked, marks);
     if r != 0 {
         return Answer::Refused(r);
     }
@@ -94,8 +94,8 @@ pub fn input_half(file: &[u8], marks: &[u8], state: State, x: u8) -> Answer
     if values(layout.inputs) <= x as usize {
         return Answer::Refused(15);
     }
-    let own = own_of(file, layout, state);
-    match choose_input(file, layout, own, marks, state, x) {
+    let here = here_of(file, layout, state);
+    match choose_input(file, layout, here, marks, state, x) {
         Choice::Value(z) => Answer::Value(z),
         Choice::Nothing => Answer::Refused(17),
     }
@@ -103,11 +103,11 @@ pub fn input_half(file: &[u8], marks: &[u8], state: State, x: u8) -> Answer
 
 impl State {
     // The state takes the x that was passed to the controller and its answer y, and hands back the next state.
-    pub fn output(self, file: &[u8], marks: &[u8], x: u8, y: u8) -> Output
-        ensures { λ r. ⌜ OutputPromise (now (file .entry)) (now (marks .entry)) self x y r ⌝ }
+    pub fn output(self, reading: u8, file: &[u8], marks: &[u8], x: u8, y: u8) -> Output
+        ensures { λ r. ⌜ OutputPromise reading (now (file .entry)) (now (marks .entry)) self x y r ⌝ }
     {
-        let checked = policy::check(file);
-        let r = marks_refusal(file, checked, marks);
+        let checked = policy::check_under(reading, file);
+        let r = marks_refusal(checked, marks);
         if r != 0 {
             return refused(self, r);
         }
@@ -122,8 +122,8 @@ impl State {
         if values(layout.outputs) <= y as usize {
             return refused(self, 15);
         }
-        let own = own_of(file, layout, self);
-        let t = output_tick(file, layout, own, marks, self, x, y);
+        let here = here_of(file, layout, self);
+        let t = output_tick(file, layout, here, marks, self, x, y);
         if !t.released {
             return refused(self, 17);
         }

@@ -4,10 +4,17 @@ use crate::state::State;
 ghost use Rattle.enforcer.specs.Promises.{OutputPromise};
 
 // The same in place: the lent state becomes the next one, and only the answer is handed back.
-pub fn output_half(state: &mut State, file: &[u8], marks: &[u8], x: u8, y: u8) -> Answer
-    ensures { λ r. ⌜ OutputPromise (now (file .entry)) (now (marks .entry)) (now (state .entry)) x y (record { answer = r; state = now (state .exit) }) ⌝ }
+pub fn output_half(
+    state: &mut State,
+    reading: u8,
+    file: &[u8],
+    marks: &[u8],
+    x: u8,
+    y: u8,
+) -> Answer
+    ensures { λ r. ⌜ OutputPromise reading (now (file .entry)) (now (marks .entry)) (now (state .entry)) x y (record { answer = r; state = now (state .exit) }) ⌝ }
 {
-    let next = (*state).output(file, marks, x, y);
+    let next = (*state).output(reading, file, marks, x, y);
     *state = next.state;
     next.answer
 }

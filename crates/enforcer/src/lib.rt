@@ -21,6 +21,8 @@ pub use pass::To;
 pub use pass::Way;
 pub use pass::goes_on;
 pub use pass::way_by;
+pub use reach::Here;
+pub use reach::here_by;
 pub use reach::own_of;
 pub use reach::values;
 pub use runs::Ran;

@@ -6,11 +6,11 @@ use policy::bytes::byte_within;
 ghost use mathlib.Core.Path.{_≡_};
 ghost use Prim.Native.Nat.{_*_, _≤_};
 ghost use lib.ListN.{length, take};
-ghost use Rattle.policy.specs.Rules.{stopped, advance, step};
+ghost use Rattle.policy.specs.Rules.{stopped, advance};
 ghost use Rattle.policy.specs.Number.{four};
 ghost use Rattle.policy.specs.File.{ruleSize, rulesFrom};
 ghost use Rattle.policy.specs.Own.{level};
-ghost use Rattle.enforcer.specs.Code.{eventXY, place, bare, stepFrom};
+ghost use Rattle.enforcer.specs.Code.{eventXY, place, bare, stepBy, stepFrom};
 
 // What an event does: the state after it, or a violation and the state before it.
 pub struct Step {
@@ -46,9 +46,10 @@ pub(crate) fn advanced(
 }
 
 impl State {
-    // The next state by the location's own rules: the first that fires decides, and no such rule means violation.
+    // The next state by the location's own rules, whose bounds see another: the first that fires decides, and no such rule means violation.
     pub(crate) fn step(
         self,
+        seen: State,
         rules: &[u8],
         count: usize,
         ceilings: [u16; State::CLOCKS],
@@ -57,11 +58,11 @@ impl State {
         y: u8,
     ) -> Step
         requires { ⌜ (count ≤ 256) × (clocks ≤ 4) × (count * ruleSize clocks ≤ length (now rules)) ⌝ }
-        requires { ⌜ level (self .location) (rulesFrom clocks (now rules) 0 count) ≡ count ⌝ }
+        requires { ⌜ level (seen .location) (rulesFrom clocks (now rules) 0 count) ≡ count ⌝ }
         requires { ⌜ ceilings ≡ four (take clocks ceilings) ⌝ }
-        ensures { λ r. ⌜ r ≡ stepFrom self (step stopped (bare (take clocks ceilings) (rulesFrom clocks (now (rules .entry)) 0 count)) (place clocks self) (eventXY x y)) ⌝ }
+        ensures { λ r. ⌜ r ≡ stepFrom self (stepBy (bare (take clocks ceilings) (rulesFrom clocks (now (rules .entry)) 0 count)) (place clocks seen) (place clocks self) (eventXY x y)) ⌝ }
     {
-        match first_rule(rules, count, clocks, self, x, y) {
+        match first_rule(rules, count, clocks, seen, x, y) {
             Found::Nothing => Step {
                 permitted: false,
                 state: self,

@@ -1,5 +1,6 @@
 // Which events take a state to a marked one.
 use crate::next::Step;
+use crate::next::advanced;
 use crate::state::State;
 use policy::Layout;
 use policy::Own;
@@ -10,9 +11,15 @@ ghost use Rattle.policy.specs.Rules.{stopped, step};
 ghost use Rattle.policy.specs.File.{policyOf, rulesOf};
 ghost use Rattle.policy.specs.Own.{ownOf};
 ghost use Rattle.enforcer.specs.Tick.{reaches};
-ghost use Rattle.enforcer.specs.Code.{eventXY, place, stepFrom};
+ghost use Rattle.enforcer.specs.Code.{eventXY, place, seenBy, stepFrom};
 ghost use Rattle.enforcer.specs.Arrived.{arrival};
-ghost use Rattle.enforcer.specs.Ready.{Laid, Ready};
+ghost use Rattle.enforcer.specs.Ready.{Laid, HereOf, Ready};
+
+// What is worked out once for a state: the rules of its location, and the state that their bounds see.
+pub struct Here {
+    pub own: Own,
+    pub seen: State,
+}
 
 // How many values so many signals have, one bit a signal.
 pub fn values(signals: usize) -> usize
@@ -37,32 +44,74 @@ pub fn own_of(file: &[u8], layout: Layout, state: State) -> Own
     )
 }
 
-// The state after the event x, y, by the rules of its own location.
-pub(crate) fn step_of(file: &[u8], layout: Layout, own: Own, state: State, x: u8, y: u8) -> Step
+// The state that bounds see: under reading 2 each clock has gone on by one.
+fn seen_of(layout: Layout, state: State) -> State
+    ensures { λ r. ⌜ r ≡ seenBy layout state ⌝ }
+{
+    if layout.reading != 2 {
+        return state;
+    }
+    let ceilings = layout.ceilings;
+    let values = state.clocks;
+    State {
+        location: state.location,
+        clocks: advanced(0, ceilings, values),
+    }
+}
+
+// The same where the location's rules are known.
+pub fn here_by(file: &[u8], layout: Layout, own: Own, state: State) -> Here
     requires { ⌜ Laid (now file) layout × (own ≡ ownOf (layout .clocks) (state .location) (rulesOf (now file))) ⌝ }
-    ensures { λ r. ⌜ r ≡ stepFrom state (step stopped (policyOf (now (file .entry))) (place (layout .clocks) state) (eventXY x y)) ⌝ }
+    ensures { λ r. ⌜ HereOf (now (file .entry)) layout state r ⌝ }
+{
+    Here {
+        own,
+        seen: seen_of(layout, state),
+    }
+}
+
+pub(crate) fn here_of(file: &[u8], layout: Layout, state: State) -> Here
+    requires { ⌜ Laid (now file) layout ⌝ }
+    ensures { λ r. ⌜ HereOf (now (file .entry)) layout state r ⌝ }
+{
+    let own = own_of(file, layout, state);
+    here_by(file, layout, own, state)
+}
+
+// The state after the event x, y, by the rules of its own location.
+pub(crate) fn step_of(file: &[u8], layout: Layout, here: Here, state: State, x: u8, y: u8) -> Step
+    requires { ⌜ Laid (now file) layout × HereOf (now file) layout state here ⌝ }
+    ensures { λ r. ⌜ r ≡ stepFrom state (step stopped (policyOf (layout .reading) (now (file .entry))) (place (layout .clocks) state) (eventXY x y)) ⌝ }
 {
     let clocks = layout.clocks;
     let ceilings = layout.ceilings;
-    let from = layout.rules_start + own.start;
-    let to = from + own.count * (7 + 4 * clocks);
-    state.step(&file[from..to], own.count, ceilings, clocks, x, y)
+    let from = layout.rules_start + here.own.start;
+    let to = from + here.own.count * (7 + 4 * clocks);
+    state.step(
+        here.seen,
+        &file[from..to],
+        here.own.count,
+        ceilings,
+        clocks,
+        x,
+        y,
+    )
 }
 
 // What the event x, y does; a next state that is not marked counts as none.
 pub(crate) fn arrival(
     file: &[u8],
     layout: Layout,
-    own: Own,
+    here: Here,
     marks: &[u8],
     state: State,
     x: u8,
     y: u8,
 ) -> Step
-    requires { ⌜ Ready (now file) layout own (now marks) state ⌝ }
-    ensures { λ r. ⌜ r ≡ stepFrom state (arrival (policyOf (now (file .entry))) (now (marks .entry)) (place (layout .clocks) state) x y) ⌝ }
+    requires { ⌜ Ready (now file) layout here (now marks) state ⌝ }
+    ensures { λ r. ⌜ r ≡ stepFrom state (arrival (policyOf (layout .reading) (now (file .entry))) (now (marks .entry)) (place (layout .clocks) state) x y) ⌝ }
 {
-    let step = step_of(file, layout, own, state, x, y);
+    let step = step_of(file, layout, here, state, x, y);
     if !step.permitted {
         return step;
     }
@@ -83,15 +132,15 @@ pub(crate) fn arrival(
 pub(crate) fn reaches(
     file: &[u8],
     layout: Layout,
-    own: Own,
+    here: Here,
     marks: &[u8],
     state: State,
     x: u8,
     y: u8,
 ) -> bool
-    requires { ⌜ Ready (now file) layout own (now marks) state ⌝ }
-    ensures { λ r. ⌜ r ≡ reaches (policyOf (now (file .entry))) (now (marks .entry)) (place (layout .clocks) state) x y ⌝ }
+    requires { ⌜ Ready (now file) layout here (now marks) state ⌝ }
+    ensures { λ r. ⌜ r ≡ reaches (policyOf (layout .reading) (now (file .entry))) (now (marks .entry)) (place (layout .clocks) state) x y ⌝ }
 {
-    let step = arrival(file, layout, own, marks, state, x, y);
+    let step = arrival(file, layout, here, marks, state, x, y);
     step.permitted
 }

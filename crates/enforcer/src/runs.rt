@@ -28,7 +28,7 @@ pub struct Ran {
 // No event has a bit beyond its signals.
 fn events_good(file: &[u8], layout: Layout, events: &[u8]) -> bool
     requires { ⌜ Laid (now file) layout ⌝ }
-    ensures { λ r. ⌜ r ≡ all (eventGood (now (file .entry))) (now (events .entry)) ⌝ }
+    ensures { λ r. ⌜ r ≡ all (eventGood (layout .reading) (now (file .entry))) (now (events .entry)) ⌝ }
 {
     let inputs = values(layout.inputs);
     let outputs = values(layout.outputs);
@@ -56,8 +56,8 @@ fn release(
     out: &mut [u8],
 ) -> Ran
     requires { ⌜ Standing (now file) layout (now marks) start × (stateFrom (place (layout .clocks) start) ≡ start) ⌝ }
-    requires { ⌜ (length (now events) ≤ length (now out)) × (all (eventGood (now file)) (now events) ≡ true) ⌝ }
-    ensures { λ r. ⌜ ranSaid r (now (out .exit)) ≡ runFrom (asPlace start) (now (out .entry)) 0 (ran (policyOf (now (file .entry))) (now (marks .entry)) (place (layout .clocks) start) (map eventOf (now (events .entry)))) ⌝ }
+    requires { ⌜ (length (now events) ≤ length (now out)) × (all (eventGood (layout .reading) (now file)) (now events) ≡ true) ⌝ }
+    ensures { λ r. ⌜ ranSaid r (now (out .exit)) ≡ runFrom (asPlace start) (now (out .entry)) 0 (ran (policyOf (layout .reading) (now (file .entry))) (now (marks .entry)) (place (layout .clocks) start) (map eventOf (now (events .entry)))) ⌝ }
 {
     let mut state = start;
     let mut i = 0;
@@ -83,11 +83,18 @@ fn release(
     }
 }
 
-pub fn run(file: &[u8], marks: &[u8], state: State, events: &[u8], out: &mut [u8]) -> Ran
-    ensures { λ r. ⌜ RunPromise (now (file .entry)) (now (marks .entry)) state (now (events .entry)) (now (out .entry)) r (now (out .exit)) ⌝ }
+pub fn run(
+    reading: u8,
+    file: &[u8],
+    marks: &[u8],
+    state: State,
+    events: &[u8],
+    out: &mut [u8],
+) -> Ran
+    ensures { λ r. ⌜ RunPromise reading (now (file .entry)) (now (marks .entry)) state (now (events .entry)) (now (out .entry)) r (now (out .exit)) ⌝ }
 {
-    let checked = policy::check(file);
-    let r = marks_refusal(file, checked, marks);
+    let checked = policy::check_under(reading, file);
+    let r = marks_refusal(checked, marks);
     if r != 0 {
         return refused(state, r);
     }

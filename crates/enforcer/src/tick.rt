@@ -2,12 +2,12 @@
 use crate::choose::Choice;
 use crate::choose::choose_input;
 use crate::choose::choose_output;
+use crate::reach::Here;
 use crate::reach::arrival;
-use crate::reach::own_of;
+use crate::reach::here_of;
 use crate::reach::step_of;
 use crate::state::State;
 use policy::Layout;
-use policy::Own;
 ghost use mathlib.Core.Path.{_≡_};
 ghost use mathlib.Core.Bool.{true};
 ghost use mathlib.Core.Option.{none};
@@ -31,23 +31,23 @@ pub struct Ticked {
 pub(crate) fn output_tick(
     file: &[u8],
     layout: Layout,
-    own: Own,
+    here: Here,
     marks: &[u8],
     state: State,
     x: u8,
     y: u8,
 ) -> Ticked
-    requires { ⌜ Ready (now file) layout own (now marks) state × (y < outputValues (policyOf (now file))) ⌝ }
-    ensures { λ r. ⌜ r ≡ tickFrom state (outputTick (policyOf (now (file .entry))) (now (marks .entry)) (place (layout .clocks) state) x y) ⌝ }
+    requires { ⌜ Ready (now file) layout here (now marks) state × (y < outputValues (policyOf (layout .reading) (now file))) ⌝ }
+    ensures { λ r. ⌜ r ≡ tickFrom state (outputTick (policyOf (layout .reading) (now (file .entry))) (now (marks .entry)) (place (layout .clocks) state) x y) ⌝ }
 {
-    let read = arrival(file, layout, own, marks, state, x, y);
+    let read = arrival(file, layout, here, marks, state, x, y);
     if read.permitted {
         return released(x, y, read.state);
     }
-    match choose_output(file, layout, own, marks, state, x, y) {
+    match choose_output(file, layout, here, marks, state, x, y) {
         Choice::Nothing => stuck(state),
         Choice::Value(z) => {
-            let step = step_of(file, layout, own, state, x, z);
+            let step = step_of(file, layout, here, state, x, z);
             released(x, z, step.state)
         }
     }
@@ -77,16 +77,16 @@ fn stuck(state: State) -> Ticked
 
 // Both halves.
 pub(crate) fn tick(file: &[u8], layout: Layout, marks: &[u8], state: State, x: u8, y: u8) -> Ticked
-    requires { ⌜ Standing (now file) layout (now marks) state × (x < inputValues (policyOf (now file))) × (y < outputValues (policyOf (now file))) ⌝ }
-    ensures { λ r. ⌜ r ≡ tickFrom state (tick (policyOf (now (file .entry))) (now (marks .entry)) (place (layout .clocks) state) (eventXY x y)) ⌝ }
+    requires { ⌜ Standing (now file) layout (now marks) state × (x < inputValues (policyOf (layout .reading) (now file))) × (y < outputValues (policyOf (layout .reading) (now file))) ⌝ }
+    ensures { λ r. ⌜ r ≡ tickFrom state (tick (policyOf (layout .reading) (now (file .entry))) (now (marks .entry)) (place (layout .clocks) state) (eventXY x y)) ⌝ }
 {
-    let own = own_of(file, layout, state);
-    let read = arrival(file, layout, own, marks, state, x, y);
+    let here = here_of(file, layout, state);
+    let read = arrival(file, layout, here, marks, state, x, y);
     if read.permitted {
         return released(x, y, read.state);
     }
-    match choose_input(file, layout, own, marks, state, x) {
+    match choose_input(file, layout, here, marks, state, x) {
         Choice::Nothing => stuck(state),
-        Choice::Value(z) => output_tick(file, layout, own, marks, state, z, y),
+        Choice::Value(z) => output_tick(file, layout, here, marks, state, z, y),
     }
 }

@@ -7,23 +7,23 @@ use Rattle.join.specs.Entry.{joinedOut}
 use Rattle.groovepawn.specs.Words.{prepareWord, inputWord, outputWord, outputState, runWord, runState, runOut, joinWord, ticksWord}
 
 -- r is what the call returns, and `after` what the slice for the marks holds then.
-pub record PrepareCall (file before : List ℕ) (r : ℕ) (after : List ℕ) : Type 0 where
-  pub said : r ≡ prepareWord file before
-  pub marks : after ≡ preparedMarks file before
+pub record PrepareCall (reading : ℕ) (file before : List ℕ) (r : ℕ) (after : List ℕ) : Type 0 where
+  pub said : r ≡ prepareWord reading file before
+  pub marks : after ≡ preparedMarks reading file before
 
-pub record InputCall (file marks state : List ℕ) (x r : ℕ) : Type 0 where
-  pub said : r ≡ inputWord file marks state x
+pub record InputCall (reading : ℕ) (file marks state : List ℕ) (x r : ℕ) : Type 0 where
+  pub said : r ≡ inputWord reading file marks state x
 
 -- `after` is what the lent state holds then.
-pub record OutputCall (file marks state : List ℕ) (x y r : ℕ) (after : List ℕ) : Type 0 where
-  pub said : r ≡ outputWord file marks state x y
-  pub next : after ≡ outputState file marks state x y
+pub record OutputCall (reading : ℕ) (file marks state : List ℕ) (x y r : ℕ) (after : List ℕ) : Type 0 where
+  pub said : r ≡ outputWord reading file marks state x y
+  pub next : after ≡ outputState reading file marks state x y
 
 -- `after` is what the lent state holds then, and `written` what the slice for the released events does.
-pub record RunCall (file marks state events before : List ℕ) (r : ℕ) (after written : List ℕ) : Type 0 where
-  pub said : r ≡ runWord file marks state events before
-  pub next : after ≡ runState file marks state events before
-  pub released : written ≡ runOut file marks state events before
+pub record RunCall (reading : ℕ) (file marks state events before : List ℕ) (r : ℕ) (after written : List ℕ) : Type 0 where
+  pub said : r ≡ runWord reading file marks state events before
+  pub next : after ≡ runState reading file marks state events before
+  pub released : written ≡ runOut reading file marks state events before
 
 -- `after` is what the slice for the joined file holds then.
 pub record JoinCall (a b before : List ℕ) (r : ℕ) (after : List ℕ) : Type 0 where
@@ -33,19 +33,19 @@ pub record JoinCall (a b before : List ℕ) (r : ℕ) (after : List ℕ) : Type 
 pub record TicksCall (time tick up r : ℕ) : Type 0 where
   pub said : r ≡ ticksWord time tick up
 
-pub prepare-one : {file before after also : List ℕ} {r q : ℕ} →
-    PrepareCall file before r after → PrepareCall file before q also → (r ≡ q) × (after ≡ also)
+pub prepare-one : {reading : ℕ} {file before after also : List ℕ} {r q : ℕ} →
+    PrepareCall reading file before r after → PrepareCall reading file before q also → (r ≡ q) × (after ≡ also)
 prepare-one h g = (h .said ∙ sym (g .said), h .marks ∙ sym (g .marks))
 
-pub input-one : {file marks state : List ℕ} {x r q : ℕ} → InputCall file marks state x r → InputCall file marks state x q → r ≡ q
+pub input-one : {reading : ℕ} {file marks state : List ℕ} {x r q : ℕ} → InputCall reading file marks state x r → InputCall reading file marks state x q → r ≡ q
 input-one h g = h .said ∙ sym (g .said)
 
-pub output-one : {file marks state after also : List ℕ} {x y r q : ℕ} →
-    OutputCall file marks state x y r after → OutputCall file marks state x y q also → (r ≡ q) × (after ≡ also)
+pub output-one : {reading : ℕ} {file marks state after also : List ℕ} {x y r q : ℕ} →
+    OutputCall reading file marks state x y r after → OutputCall reading file marks state x y q also → (r ≡ q) × (after ≡ also)
 output-one h g = (h .said ∙ sym (g .said), h .next ∙ sym (g .next))
 
-pub run-one : {file marks state events before after also written too : List ℕ} {r q : ℕ} →
-    RunCall file marks state events before r after written → RunCall file marks state events before q also too →
+pub run-one : {reading : ℕ} {file marks state events before after also written too : List ℕ} {r q : ℕ} →
+    RunCall reading file marks state events before r after written → RunCall reading file marks state events before q also too →
     (r ≡ q) × (after ≡ also) × (written ≡ too)
 run-one h g = (h .said ∙ sym (g .said), h .next ∙ sym (g .next), h .released ∙ sym (g .released))
 

@@ -56,43 +56,43 @@ summary-back (refused (suc n)) k l h f = let e : suc n % 256 ≡ suc n = omega a
 summary-back (gives s) k l h f = let g = summary-fields s (f s refl) in rw (g .none, g .verdict, g .states, g .live)
 
 -- What each function of the C interface answers comes back from the word that it returns, whatever it is handed.
-pub prepare-fields : (file marks : List ℕ) → summaryIn (prepareWord file marks) ≡ prepareOf file marks
+pub prepare-fields : (reading : ℕ) (file marks : List ℕ) → summaryIn (prepareWord reading file marks) ≡ prepareOf reading file marks
 unfolding prepareWord
-prepare-fields file marks = summary-back (prepareOf file marks) 11 (omega arith) (prepare-up-to file marks) (summary-small file marks)
+prepare-fields reading file marks = summary-back (prepareOf reading file marks) 22 (omega arith) (prepare-up-to reading file marks) (summary-small reading file marks)
 
-module _ (file marks state : List ℕ) where
+module _ (reading : ℕ) (file marks state : List ℕ) where
   -- By a half: `a` of a state that is five numbers, and a refusal of one that is not.
-  half-back : (t : Bool) (a : Answer ℕ) → UpTo 17 a →
-      answerIn (cond t (answerWord a) (oddRefusal file marks true)) ≡ cond t a (refused (oddRefusal file marks true))
-  half-back true a h = answer-back a 17 (omega arith) h
-  half-back false a h = answer-back (refused (oddRefusal file marks true)) 16 (omega arith) (odd-some file marks true, odd-le file marks true)
+  half-back : (t : Bool) (a : Answer ℕ) → UpTo 22 a →
+      answerIn (cond t (answerWord a) (oddRefusal reading file marks true)) ≡ cond t a (refused (oddRefusal reading file marks true))
+  half-back true a h = answer-back a 22 (omega arith) h
+  half-back false a h = answer-back (refused (oddRefusal reading file marks true)) 22 (omega arith) (odd-some reading file marks true, odd-le reading file marks true)
 
   pub input-fields : (x : ℕ) →
-      answerIn (inputWord file marks state x) ≡ cond (isState state) (inputOf file marks (stateIn state) x) (refused (oddRefusal file marks true))
+      answerIn (inputWord reading file marks state x) ≡ cond (isState state) (inputOf reading file marks (stateIn state) x) (refused (oddRefusal reading file marks true))
   unfolding inputWord
-  input-fields x = half-back (isState state) (inputOf file marks (stateIn state) x) (input-up-to file marks (stateIn state) x)
+  input-fields x = half-back (isState state) (inputOf reading file marks (stateIn state) x) (input-up-to reading file marks (stateIn state) x)
 
   pub output-fields : (x y : ℕ) →
-      answerIn (outputWord file marks state x y)
-      ≡ cond (isState state) (outputOf file marks (stateIn state) x y .answer) (refused (oddRefusal file marks true))
+      answerIn (outputWord reading file marks state x y)
+      ≡ cond (isState state) (outputOf reading file marks (stateIn state) x y .answer) (refused (oddRefusal reading file marks true))
   unfolding outputWord
-  output-fields x y = half-back (isState state) (outputOf file marks (stateIn state) x y .answer) (output-up-to file marks (stateIn state) x y)
+  output-fields x y = half-back (isState state) (outputOf reading file marks (stateIn state) x y .answer) (output-up-to reading file marks (stateIn state) x y)
 
   pub run-fields : (events out : List ℕ) →
-      let r = runOf file marks (stateIn state) events out in
-      RunFields events (cond (isState state) (r .refusal) (oddRefusal file marks (leb (length events) (length out)))) (cond (isState state) (r .count) 0)
-      (runWord file marks state events out)
+      let r = runOf reading file marks (stateIn state) events out in
+      RunFields events (cond (isState state) (r .refusal) (oddRefusal reading file marks (leb (length events) (length out)))) (cond (isState state) (r .count) 0)
+      (runWord reading file marks state events out)
   unfolding runWord
   run-fields events out =
       let s = stateIn state in
-      go (isState state) (runOf file marks s events out) (run-up-to file marks s events out) (run-few file marks s events out)
+      go (isState state) (runOf reading file marks s events out) (run-up-to reading file marks s events out) (run-few reading file marks s events out)
     where
-      go : (t : Bool) (r : RunAnswer) → r .refusal ≤ 17 → r .count ≤ length events →
-          let odd = oddRefusal file marks (leb (length events) (length out)) in
+      go : (t : Bool) (r : RunAnswer) → r .refusal ≤ 22 → r .count ≤ length events →
+          let odd = oddRefusal reading file marks (leb (length events) (length out)) in
           RunFields events (cond t (r .refusal) odd) (cond t (r .count) 0) (cond t (ranWord r) odd)
       go true r h l = record { refusal = omega arith; count = omega arith; whole = λ f. omega arith }
       go false r h l =
-          let k = odd-le file marks (leb (length events) (length out)) in
+          let k = odd-le reading file marks (leb (length events) (length out)) in
           record { refusal = omega arith; count = omega arith; whole = λ f. omega arith }
 
 pub join-fields : (a b out : List ℕ) → answerIn (joinWord a b out) ≡ joinOf a b out

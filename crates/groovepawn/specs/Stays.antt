@@ -20,17 +20,17 @@ ended : (t : Bool) (k : ℕ) → ((cond t 17 0 + k * 256) % 256 ≡ 0 → ⊥) �
 ended true k h g = g (omega arith)
 ended false k h g = h (omega arith)
 
-module _ (file marks state : List ℕ) where
+module _ (reading : ℕ) (file marks state : List ℕ) where
   -- "the by-value half also hands back the state it was given": with a refusal the lent state stays.
-  pub output-stays : (x y : ℕ) → (outputWord file marks state x y % 256 ≡ 0 → ⊥) → outputState file marks state x y ≡ state
+  pub output-stays : (x y : ℕ) → (outputWord reading file marks state x y % 256 ≡ 0 → ⊥) → outputState reading file marks state x y ≡ state
   unfolding outputWord outputState outputOf
   output-stays x y =
-      let p = policyOf file in
+      let p = policyOf reading file in
       let s = stateIn state in
-      go (isState state) refl (chosen (outputRefusal file marks s x y) (outputTick p marks (placeIn p s) x y))
+      go (isState state) refl (chosen (outputRefusal reading file marks s x y) (outputTick p marks (placeIn p s) x y))
     where
       go : (t : Bool) → isState state ≡ t → (a : Answer Tick) →
-          (cond t (answerWord (outputFrom (stateIn state) a .answer)) (oddRefusal file marks true) % 256 ≡ 0 → ⊥) →
+          (cond t (answerWord (outputFrom (stateIn state) a .answer)) (oddRefusal reading file marks true) % 256 ≡ 0 → ⊥) →
           cond t (stateWords (outputFrom (stateIn state) a .state)) state ≡ state
       go false e a h = refl
       go true e (refused n) h = words-back state (eqb-true _ _ e)
@@ -38,18 +38,18 @@ module _ (file marks state : List ℕ) where
 
   -- "count 0 and the state given, unless it is 17"; and nothing is written.
   pub run-stays : (events out : List ℕ) →
-      (runWord file marks state events out % 256 ≡ 0 → ⊥) → (runWord file marks state events out % 256 ≡ 17 → ⊥) →
-      (runState file marks state events out ≡ state) × (runOut file marks state events out ≡ out)
+      (runWord reading file marks state events out % 256 ≡ 0 → ⊥) → (runWord reading file marks state events out % 256 ≡ 17 → ⊥) →
+      (runState reading file marks state events out ≡ state) × (runOut reading file marks state events out ≡ out)
   unfolding runWord runState runOut runOf
   run-stays events out =
-      let p = policyOf file in
+      let p = policyOf reading file in
       let s = stateIn state in
-      go (isState state) refl (runRefusal file marks s events out) (ran p marks (placeIn p s) (map eventOf events))
+      go (isState state) refl (runRefusal reading file marks s events out) (ran p marks (placeIn p s) (map eventOf events))
     where
       go : (t : Bool) → isState state ≡ t → (n : ℕ) (r : Ran) →
           let a = runFrom (stateIn state) out n r in
-          (cond t (ranWord a) (oddRefusal file marks (leb (length events) (length out))) % 256 ≡ 0 → ⊥) →
-          (cond t (ranWord a) (oddRefusal file marks (leb (length events) (length out))) % 256 ≡ 17 → ⊥) →
+          (cond t (ranWord a) (oddRefusal reading file marks (leb (length events) (length out))) % 256 ≡ 0 → ⊥) →
+          (cond t (ranWord a) (oddRefusal reading file marks (leb (length events) (length out))) % 256 ≡ 17 → ⊥) →
           (cond t (stateWords (a .state)) state ≡ state) × (cond t (a .out) out ≡ out)
       go false e n r h g = (refl, refl)
       go true e (suc n) r h g = (words-back state (eqb-true _ _ e), refl)

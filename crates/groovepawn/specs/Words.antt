@@ -34,35 +34,35 @@ stateIn s = record { location = getD s 0 0; clocks = getD s 1 0 ∷ getD s 2 0 �
 abbrev pub isState : List ℕ → Bool
 isState s = eqb (length s) 5
 
--- Numbers that are not five are no state: 16 in its place in the order, after 1 to 10 and, where there is no room for what is released, 14.
-unfoldable pub oddRefusal : List ℕ → List ℕ → Bool → ℕ
-oddRefusal file marks room = marksRefusal file marks orElse unless room 14 orElse 16
+-- Numbers that are not five are no state: 16 in its place in the order, after 22, 1 to 10 and, where there is no room for what is released, 14.
+unfoldable pub oddRefusal : ℕ → List ℕ → List ℕ → Bool → ℕ
+oddRefusal reading file marks room = marksRefusal reading file marks orElse unless room 14 orElse 16
 
-unfoldable pub prepareWord : List ℕ → List ℕ → ℕ
-prepareWord file marks = summaryWord (prepareOf file marks)
+unfoldable pub prepareWord : ℕ → List ℕ → List ℕ → ℕ
+prepareWord reading file marks = summaryWord (prepareOf reading file marks)
 
 -- The halves and the run: what each returns, and what the lent slices hold then.
-module _ (file marks state : List ℕ) where
+module _ (reading : ℕ) (file marks state : List ℕ) where
   unfoldable pub inputWord : ℕ → ℕ
-  inputWord x = cond (isState state) (answerWord (inputOf file marks (stateIn state) x)) (oddRefusal file marks true)
+  inputWord x = cond (isState state) (answerWord (inputOf reading file marks (stateIn state) x)) (oddRefusal reading file marks true)
 
   unfoldable pub outputWord : ℕ → ℕ → ℕ
-  outputWord x y = cond (isState state) (answerWord (outputOf file marks (stateIn state) x y .answer)) (oddRefusal file marks true)
+  outputWord x y = cond (isState state) (answerWord (outputOf reading file marks (stateIn state) x y .answer)) (oddRefusal reading file marks true)
 
   unfoldable pub outputState : ℕ → ℕ → List ℕ
-  outputState x y = cond (isState state) (stateWords (outputOf file marks (stateIn state) x y .state)) state
+  outputState x y = cond (isState state) (stateWords (outputOf reading file marks (stateIn state) x y .state)) state
 
   module _ (events out : List ℕ) where
     unfoldable pub runWord : ℕ
     runWord =
-        cond (isState state) (ranWord (runOf file marks (stateIn state) events out))
-        (oddRefusal file marks (leb (length events) (length out)))
+        cond (isState state) (ranWord (runOf reading file marks (stateIn state) events out))
+        (oddRefusal reading file marks (leb (length events) (length out)))
 
     unfoldable pub runState : List ℕ
-    runState = cond (isState state) (stateWords (runOf file marks (stateIn state) events out .state)) state
+    runState = cond (isState state) (stateWords (runOf reading file marks (stateIn state) events out .state)) state
 
     unfoldable pub runOut : List ℕ
-    runOut = cond (isState state) (runOf file marks (stateIn state) events out .out) out
+    runOut = cond (isState state) (runOf reading file marks (stateIn state) events out .out) out
 
 unfoldable pub joinWord : List ℕ → List ℕ → List ℕ → ℕ
 joinWord a b out = answerWord (joinOf a b out)

@@ -47,10 +47,10 @@ fn put_state(state: &mut [u16], next: State)
 }
 
 // What is refused where the state is not five numbers.
-fn odd_refusal(file: &[u8], marks: &[u8], room: bool) -> u8
-    ensures { λ r. ⌜ r ≡ oddRefusal (now (file .entry)) (now (marks .entry)) room ⌝ }
+fn odd_refusal(reading: u8, file: &[u8], marks: &[u8], room: bool) -> u8
+    ensures { λ r. ⌜ r ≡ oddRefusal reading (now (file .entry)) (now (marks .entry)) room ⌝ }
 {
-    let r = marks_refusal(file, policy::check(file), marks);
+    let r = marks_refusal(policy::check_under(reading, file), marks);
     if r != 0 {
         return r;
     }
@@ -67,11 +67,11 @@ fn answer_word(answer: Answer) -> u32
 }
 
 // The state is held here while it is lent to the output half, and is handed back as the half left it.
-fn lend(given: State, file: &[u8], marks: &[u8], x: u8, y: u8) -> Output
-    ensures { λ r. ⌜ OutputPromise (now (file .entry)) (now (marks .entry)) given x y r ⌝ }
+fn lend(given: State, reading: u8, file: &[u8], marks: &[u8], x: u8, y: u8) -> Output
+    ensures { λ r. ⌜ OutputPromise reading (now (file .entry)) (now (marks .entry)) given x y r ⌝ }
 {
     let mut held = given;
-    let answer = output_half(&mut held, file, marks, x, y);
+    let answer = output_half(&mut held, reading, file, marks, x, y);
     Output {
         answer,
         state: held,
@@ -79,10 +79,10 @@ fn lend(given: State, file: &[u8], marks: &[u8], x: u8, y: u8) -> Output
 }
 
 #[no_mangle]
-pub extern "C" fn groovepawn_prepare(file: &[u8], marks: &mut [u8]) -> u64
-    ensures { λ r. ⌜ PrepareCall (now (file .entry)) (now (marks .entry)) r (now (marks .exit)) ⌝ }
+pub extern "C" fn groovepawn_prepare(reading: u8, file: &[u8], marks: &mut [u8]) -> u64
+    ensures { λ r. ⌜ PrepareCall reading (now (file .entry)) (now (marks .entry)) r (now (marks .exit)) ⌝ }
 {
-    match prepare::prepare(file, marks) {
+    match prepare::prepare(reading, file, marks) {
         Prepared::Gives(s) => s.verdict as u64 * 256
             + s.states as u64 * 65536
             + s.live as u64 * 1099511627776,
@@ -91,30 +91,37 @@ pub extern "C" fn groovepawn_prepare(file: &[u8], marks: &mut [u8]) -> u64
 }
 
 #[no_mangle]
-pub extern "C" fn groovepawn_input(file: &[u8], marks: &[u8], state: &[u16], x: u8) -> u32
-    ensures { λ r. ⌜ InputCall (now (file .entry)) (now (marks .entry)) (now (state .entry)) x r ⌝ }
+pub extern "C" fn groovepawn_input(
+    reading: u8,
+    file: &[u8],
+    marks: &[u8],
+    state: &[u16],
+    x: u8,
+) -> u32
+    ensures { λ r. ⌜ InputCall reading (now (file .entry)) (now (marks .entry)) (now (state .entry)) x r ⌝ }
 {
     if state.len() != NUMBERS {
-        return odd_refusal(file, marks, true) as u32;
+        return odd_refusal(reading, file, marks, true) as u32;
     }
-    answer_word(input_half(file, marks, state_of(state), x))
+    answer_word(input_half(reading, file, marks, state_of(state), x))
 }
 
 #[no_mangle]
 pub extern "C" fn groovepawn_output(
+    reading: u8,
     file: &[u8],
     marks: &[u8],
     state: &mut [u16],
     x: u8,
     y: u8,
 ) -> u32
-    ensures { λ r. ⌜ OutputCall (now (file .entry)) (now (marks .entry)) (now (state .entry)) x y r (now (state .exit)) ⌝ }
+    ensures { λ r. ⌜ OutputCall reading (now (file .entry)) (now (marks .entry)) (now (state .entry)) x y r (now (state .exit)) ⌝ }
 {
     if state.len() != NUMBERS {
-        return odd_refusal(file, marks, true) as u32;
+        return odd_refusal(reading, file, marks, true) as u32;
     }
     let given = state_of(state);
-    let output = lend(given, file, marks, x, y);
+    let output = lend(given, reading, file, marks, x, y);
     let next = output.state;
     put_state(state, next);
     let answer = output.answer;
@@ -123,19 +130,20 @@ pub extern "C" fn groovepawn_output(
 
 #[no_mangle]
 pub extern "C" fn groovepawn_run(
+    reading: u8,
     file: &[u8],
     marks: &[u8],
     state: &mut [u16],
     events: &[u8],
     released: &mut [u8],
 ) -> u64
-    ensures { λ r. ⌜ RunCall (now (file .entry)) (now (marks .entry)) (now (state .entry)) (now (events .entry)) (now (released .entry)) r (now (state .exit)) (now (released .exit)) ⌝ }
+    ensures { λ r. ⌜ RunCall reading (now (file .entry)) (now (marks .entry)) (now (state .entry)) (now (events .entry)) (now (released .entry)) r (now (state .exit)) (now (released .exit)) ⌝ }
 {
     if state.len() != NUMBERS {
-        return odd_refusal(file, marks, events.len() <= released.len()) as u64;
+        return odd_refusal(reading, file, marks, events.len() <= released.len()) as u64;
     }
     let given = state_of(state);
-    let ran = run(file, marks, given, events, released);
+    let ran = run(reading, file, marks, given, events, released);
     let after = ran.state;
     put_state(state, after);
     ran.refusal as u64 + ran.count as u64 % 72057594037927936 * 256

@@ -25,7 +25,7 @@ use Rattle.policy.specs.Layout.{layoutOf, CheckPromise, checked-says}
 use Rattle.policy.specs.declared.Checked.{Checked}
 use Rattle.policy.specs.declared.Layout.{Layout}
 use Rattle.join.specs.Join.{leftAt, join}
-use Rattle.join.specs.Entry.{sameTags, sameSignals, joinFits, joinedFile, writtenOver, joinRefusal, joinOf, joinedOut}
+use Rattle.join.specs.Entry.{sameTags, sameSignals, joinFits, said, joinedFile, writtenOver, joinRefusal, joinOf, joinedOut}
 use Rattle.join.specs.Again.{sameTags-is}
 use Rattle.join.specs.declared.Joined.the-variants.{Length, Refused}
 use Rattle.join.specs.Promise.{JoinPromise}
@@ -107,20 +107,20 @@ checks {f} {c} p e =
     record { passes = h; is = ap (λ (d : Checked). d .layout) (p .said) ∙ checked-says f .1 h }
 
 -- What the join counts, by the two files.
-clocks-joined : (f g : List ℕ) → length (join (policyOf f) (policyOf g) .ceilings) ≡ clockCount f + clockCount g
+clocks-joined : (f g : List ℕ) → length (join (said f) (said g) .ceilings) ≡ clockCount f + clockCount g
 unfolding policyOf
 clocks-joined f g =
-    join-clocks (policyOf f) (policyOf g) ∙ ap₂ _+_ (pairs-length f (clocksAt f + 1) (clockCount f)) (pairs-length g (clocksAt g + 1) (clockCount g))
+    join-clocks (said f) (said g) ∙ ap₂ _+_ (pairs-length f (clocksAt f + 1) (clockCount f)) (pairs-length g (clocksAt g + 1) (clockCount g))
 
-places-joined : (f g : List ℕ) → join (policyOf f) (policyOf g) .locations ≡ locationCount f * locationCount g
+places-joined : (f g : List ℕ) → join (said f) (said g) .locations ≡ locationCount f * locationCount g
 unfolding policyOf join
 places-joined f g = refl
 
-places-read : (f : List ℕ) → policyOf f .locations ≡ locationCount f
+places-read : (f : List ℕ) → said f .locations ≡ locationCount f
 unfolding policyOf
 places-read f = refl
 
-states-read : (f : List ℕ) → states (policyOf f) ≡ layoutOf f .states
+states-read : (f : List ℕ) → states (said f) ≡ layoutOf 1 f .states
 unfolding policyOf
 states-read f = rw (pairs-length f (clocksAt f + 1) (clockCount f))
 
@@ -129,11 +129,11 @@ pub rules-section : {f : List ℕ} {x : Layout} → LayoutOf f x → Section x (
 unfolding policyOf
 rules-section {f} l =
     let z = sizes l in
-    let w = checked-file f (l .passes) in
+    let w = checked-file 1 f (l .passes) in
     let c = pairs-length f (clocksAt f + 1) (clockCount f) in
     record {
-      whole = record { few = z .rules; ends = z .whole; formed = rw (l .is) (rw c at (well-sound (policyOf f) w .rules)) };
-      rising = rw (l .is) (well-rising (policyOf f) w);
+      whole = record { few = z .rules; ends = z .whole; formed = rw (l .is) (rw c at (well-sound (said f) w .rules)) };
+      rising = rw (l .is) (well-rising (said f) w);
     }
 
 -- The limits of the join, and its rules.
@@ -160,12 +160,13 @@ module _ {f g : List ℕ} {x y : Layout} (r : Ready f x g y) where
   second-place m h =
       (ap (λ (l : Layout). l .locations) (r .second .is), ap (λ (l : Layout). l .«rules_start») (r .second .is), mod-lt m (sizes (r .second) .start))
 
-  pub left-by : (m : ℕ) {t u v : Bool} → t ≡ rests (policyOf f) (m / y .locations) → u ≡ rests (policyOf g) (m % y .locations) → (t && u) ≡ v →
-      leftAt (policyOf f) (policyOf g) m ≡ cond v 0 1
+  pub left-by : (m : ℕ) {t u v : Bool} → t ≡ rests (policyOf (x .reading) f) (m / y .locations) →
+      u ≡ rests (policyOf (y .reading) g) (m % y .locations) → (t && u) ≡ v →
+      leftAt (said f) (said g) m ≡ cond v 0 1
   unfolding leftAt rests
   left-by m e h k =
-      let n : policyOf g .locations ≡ y .locations = places-read g ∙ sym (ap (λ (l : Layout). l .locations) (r .second .is)) in
-      rw (n, ← e, ← h, k)
+      let n : said g .locations ≡ y .locations = places-read g ∙ sym (ap (λ (l : Layout). l .locations) (r .second .is)) in
+      rw (n, ← rw (ap (λ (l : Layout). l .reading) (r .first .is)) at e, ← rw (ap (λ (l : Layout). l .reading) (r .second .is)) at h, k)
 
   pub rules-joined : rowsBytes x y (rulesIn x (ruleSection f)) (rulesIn y (ruleSection g)) (x .locations * y .locations) ≡ joinedRules f g
   unfolding policyOf join
@@ -174,9 +175,9 @@ module _ {f g : List ℕ} {x y : Layout} (r : Ready f x g y) where
   -- Each rule takes as many bytes as any other.
   pub joined-length : length (joinedRules f g) ≡ joinedCount f g * ruleSize (x .clocks + y .clocks)
   joined-length =
-      let a = well-sound (policyOf f) (checked-file f (r .first .passes)) in
-      let b = well-sound (policyOf g) (checked-file g (r .second .passes)) in
-      let k = each-weak (λ s h. h .bounds) (join-sound (policyOf f) (policyOf g) a b .rules) in
+      let a = well-sound (said f) (checked-file 1 f (r .first .passes)) in
+      let b = well-sound (said g) (checked-file 1 g (r .second .passes)) in
+      let k = each-weak (λ s h. h .bounds) (join-sound (said f) (said g) a b .rules) in
       rw (r .first .is, r .second .is) (rw (clocks-joined f g) at (rules-length _ k))
 
 -- The bytes of a file, part by part.
@@ -217,7 +218,7 @@ signals-laid f k =
 module _ {f g : List ℕ} {x y : Layout} (r : Ready f x g y) where
   -- The bytes before the rules are those of the joined policy.
   pub counts-joined : ((i : ℕ) → byteAt f i < 256) → ((i : ℕ) → byteAt g i < 256) → {n : ℕ} → n ≡ joinedCount f g →
-      countsFrom f x g y n ≡ countsBytes (join (policyOf f) (policyOf g))
+      countsFrom f x g y n ≡ countsBytes (join (said f) (said g))
   unfolding countsBytes policyOf join
   counts-joined a b e =
       let k = frame f (r .first .passes) in
@@ -255,20 +256,20 @@ regroup true true true true = refl
 regroup true true true false = refl
 
 pub fits-joined : {f g : List ℕ} {x y : Layout} → LayoutOf f x → LayoutOf g y →
-    joinFits (join (policyOf f) (policyOf g)) ≡ (limits x y && leb (joinedCount f g) 256)
+    joinFits (join (said f) (said g)) ≡ (limits x y && leb (joinedCount f g) 256)
 unfolding joinFits limits
 fits-joined {f} {g} l m =
     rw (
       l .is,
       m .is,
-      states-join (policyOf f) (policyOf g),
+      states-join (said f) (said g),
       places-joined f g,
       clocks-joined f g,
       states-read f,
       states-read g,
     )
     (regroup (leb (locationCount f * locationCount g) 64) (leb (clockCount f + clockCount g) 4) (leb (joinedCount f g) 256)
-    (leb (layoutOf f .states * layoutOf g .states) 65536))
+    (leb (layoutOf 1 f .states * layoutOf 1 g .states) 65536))
 
 -- The answers: a refusal leaves the slice as it was.
 module _ {f g : List ℕ} (out : List ℕ) where
@@ -290,11 +291,11 @@ module _ {f g : List ℕ} (out : List ℕ) where
   refused-second {n} l e h = refuses-some n h (rw (l, ← e) (first-refused n _ h))
 
   module _ {x y : Layout} (l : LayoutOf f x) (m : LayoutOf g y) where
-    pub refused-12 : sameSignals (policyOf f) (policyOf g) ≡ false → JoinPromise f g out (Refused 12) out
+    pub refused-12 : sameSignals (said f) (said g) ≡ false → JoinPromise f g out (Refused 12) out
     unfolding joinRefusal
     refused-12 e = refuses (rw (l .passes, m .passes, e))
 
-    module _ (s : sameSignals (policyOf f) (policyOf g) ≡ true) where
+    module _ (s : sameSignals (said f) (said g) ≡ true) where
       pub refused-13 : (limits x y && leb (joinedCount f g) 256) ≡ false → JoinPromise f g out (Refused 13) out
       unfolding joinRefusal
       refused-13 e = refuses (rw (l .passes, m .passes, s, fits-joined l m, e))
@@ -317,7 +318,7 @@ module _ {f g : List ℕ} {x y : Layout} (r : Ready f x g y) where
     pub file-length : length (joinedFile f g out) ≡ countsLength x y + length (joinedRules f g)
     unfolding joinedFile bytesOf
     file-length =
-        length-append (countsBytes (join (policyOf f) (policyOf g))) _
+        length-append (countsBytes (join (said f) (said g))) _
         ∙ ap (λ (n : ℕ). n + length (joinedRules f g)) (ap length (sym (counts-joined r a b refl)) ∙ counts-long r _)
 
     pub file-laid : countsLength x y + length (joinedRules f g) ≤ length out → {n : ℕ} → n ≡ joinedCount f g → {m w : List ℕ} {i j : ℕ} →

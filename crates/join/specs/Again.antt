@@ -49,14 +49,21 @@ fitting p e =
     let r = and-eq-true-iff (leb (length (p .rules)) 256) _ .0 (c .1) in
     (leb-true _ _ (l .0), leb-true _ _ (c .0), leb-true _ _ (r .0), leb-true _ _ (r .1))
 
--- Where neither 12 nor 13 is given, the laws' premise holds.
-pub joins-of : (a b : Policy) → sameSignals a b ≡ true → joinFits (join a b) ≡ true → Joins a b
-unfolding sameSignals join
-joins-of a b s f =
+same-signals : (a b : Policy) → sameSignals a b ≡ true → (a .inputs ≡ b .inputs) × (a .outputs ≡ b .outputs)
+unfolding sameSignals
+same-signals a b s =
     let t = and-eq-true-iff (sameTags (a .inputs) (b .inputs)) _ .0 s in
+    (sameTags-is (a .inputs) (b .inputs) .0 (t .0), sameTags-is (a .outputs) (b .outputs) .0 (t .1))
+
+-- Where neither 12 nor 13 is given, the laws' premise holds of two policies that are read alike.
+pub joins-of : (a b : Policy) → a .reading ≡ b .reading → sameSignals a b ≡ true → joinFits (join a b) ≡ true → Joins a b
+unfolding join
+joins-of a b r s f =
+    let t = same-signals a b s in
     record {
-      inputs = sameTags-is (a .inputs) (b .inputs) .0 (t .0);
-      outputs = sameTags-is (a .outputs) (b .outputs) .0 (t .1);
+      reading = r;
+      inputs = t .0;
+      outputs = t .1;
       locations = fitting (join a b) f .0;
     }
 
@@ -141,17 +148,18 @@ module _ (i o : ℕ) (cs : List ℕ) (l : ℕ) where
   rules-pass rising-none each-none = refl
   rules-pass {before} (rising-more {r = r} b bs) (each-more g gs) = rw (rule-passes before r b g) (rules-pass bs gs)
 
-joined-rules : (a b : Policy) → WellFormed a → WellFormed b → Joins a b →
+joined-rules : (a b : Policy) → WellFormed a → WellFormed b → sameSignals a b ≡ true →
     rulesRefusal (length (a .inputs)) (length (a .outputs)) (join a b .ceilings) (join a b .locations) 0 (join a b .rules) ≡ 0
 unfolding join
-joined-rules a b g h j =
+joined-rules a b g h s =
+    let t = same-signals a b s in
     let i = length (a .inputs) in
     let o = length (a .outputs) in
     let k = length (a .ceilings) in
     let n = b .locations in
     let m = a .locations * n in
     rules-pass i o (join a b .ceilings) m (rows-rising k n (a .rules) (b .rules) m)
-    (each-rows k n m (both-ruled i o (a .ceilings) (b .ceilings) (a .locations) n) (well-ruled a g) (rw (j .inputs, j .outputs) (well-ruled b h)))
+    (each-rows k n m (both-ruled i o (a .ceilings) (b .ceilings) (a .locations) n) (well-ruled a g) (rw (t .0, t .1) (well-ruled b h)))
 
 pub join-well : (a b : Policy) → WellFormed a → WellFormed b → sameSignals a b ≡ true → joinFits (join a b) ≡ true → WellFormed (join a b)
 unfolding join
@@ -169,6 +177,6 @@ join-well a b g h s f =
       bytes = left-length a b (a .locations * b .locations);
       left = left-good a b (a .locations * b .locations);
       ruleCount = t .2;
-      rules = joined-rules a b g h (joins-of a b s f);
+      rules = joined-rules a b g h s;
       states = t .3;
     }

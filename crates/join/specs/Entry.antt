@@ -28,16 +28,20 @@ unfoldable pub joinFits : Policy → Bool
 joinFits p =
     leb (p .locations) 64 && (leb (length (p .ceilings)) 4 && (leb (length (p .rules)) 256 && leb (states p) 65536))
 
+-- What a file says, for the join: it takes no reading, and the bytes that it writes are the same under each (`Written.joined-bytes`).
+abbrev pub said : List ℕ → Policy
+said f = policyOf 1 f
+
 module _ (a b out : List ℕ) where
   -- The joined file.
   unfoldable pub joinedFile : List ℕ
-  joinedFile = bytesOf (join (policyOf a) (policyOf b))
+  joinedFile = bytesOf (join (said a) (said b))
 
   -- 14: "the slice to be written is too short".
   unfoldable pub joinRefusal : ℕ
   joinRefusal =
-      refusalOf a orElse refusalOf b orElse unless (sameSignals (policyOf a) (policyOf b)) 12
-      orElse unless (joinFits (join (policyOf a) (policyOf b))) 13 orElse unless (leb (length joinedFile) (length out)) 14
+      refusalOf a orElse refusalOf b orElse unless (sameSignals (said a) (said b)) 12
+      orElse unless (joinFits (join (said a) (said b))) 13 orElse unless (leb (length joinedFile) (length out)) 14
 
   -- "the length written is returned"
   unfoldable pub joinOf : Answer ℕ

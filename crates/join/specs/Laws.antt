@@ -38,7 +38,7 @@ equal p q f g =
 
 module _ (a b : Policy) (g : Sound a) (h : Sound b) (j : Joins a b) where
   pub joins-swap : Joins b a
-  joins-swap = record { inputs = sym (j .inputs); outputs = sym (j .outputs); locations = rw (mul-comm (b .locations) (a .locations)) (j .locations) }
+  joins-swap = record { reading = sym (j .reading); inputs = sym (j .inputs); outputs = sym (j .outputs); locations = rw (mul-comm (b .locations) (a .locations)) (j .locations) }
 
   to-first : Permits (join a b) ⊆ Permits a
   to-first = ⊆-trans (within-both a b g h j) (∩-first (Permits a) (Permits b))
@@ -70,6 +70,7 @@ module _ (a b c : Policy) (g : Sound a) (h : Sound b) (k : Sound c) (j : Joins a
   unfolding join
   joins-right =
       record {
+        reading = sym (j .reading) ∙ i .reading;
         inputs = sym (j .inputs) ∙ i .inputs;
         outputs = sym (j .outputs) ∙ i .outputs;
         locations =
@@ -83,7 +84,7 @@ module _ (a b c : Policy) (g : Sound a) (h : Sound b) (k : Sound c) (j : Joins a
 
   pub joins-whole : Joins a (join b c)
   unfolding join
-  joins-whole = record { inputs = j .inputs; outputs = j .outputs; locations = rw (← mul-assoc (a .locations) (b .locations) (c .locations)) (i .locations) }
+  joins-whole = record { reading = j .reading; inputs = j .inputs; outputs = j .outputs; locations = rw (← mul-assoc (a .locations) (b .locations) (c .locations)) (i .locations) }
 
   pub associates : Equal (join (join a b) c) (join a (join b c))
   associates =
@@ -100,23 +101,26 @@ module _ (a b c : Policy) (g : Sound a) (h : Sound b) (k : Sound c) (j : Joins a
 pub idempotent : (a : Policy) → Sound a → Joins a a → Equal (join a a) a
 idempotent a g j = equal (join a a) a (to-first a a g g j) (into a a g g j (⊆-refl (Permits a)) (⊆-refl (Permits a)))
 
-pub joins-free : (a : Policy) → a .locations ≤ 64 → Joins a (free (a .inputs) (a .outputs))
-joins-free a l = record { inputs = refl; outputs = refl; locations = rw (mul-one (a .locations)) l }
+-- The policy that permits all, over the signals of a and read as a is.
+abbrev pub freeFor : Policy → Policy
+freeFor a = free (a .reading) (a .inputs) (a .outputs)
+
+pub joins-free : (a : Policy) → a .locations ≤ 64 → Joins a (freeFor a)
+joins-free a l = record { reading = refl; inputs = refl; outputs = refl; locations = rw (mul-one (a .locations)) l }
 
 -- It permits whatever a permits.
-pub all-free : (a : Policy) → Permits a ⊆ Permits (free (a .inputs) (a .outputs))
+pub all-free : (a : Policy) → Permits a ⊆ Permits (freeFor a)
 unfolding Runs
 all-free a =
-    let u = free (a .inputs) (a .outputs) in
     record {
-      permits = λ w p. free-permits (a .inputs) (a .outputs) w (fits-same a u refl refl (p .0));
-      rests = λ w p. free-rests (a .inputs) (a .outputs) w;
+      permits = λ w p. free-permits (a .reading) (a .inputs) (a .outputs) w (fits-same a (freeFor a) refl refl (p .0));
+      rests = λ w p. free-rests (a .reading) (a .inputs) (a .outputs) w;
     }
 
 -- Demand 3: "A with the policy that permits all".
-pub unit : (a : Policy) → Sound a → a .locations ≤ 64 → Equal (join a (free (a .inputs) (a .outputs))) a
+pub unit : (a : Policy) → Sound a → a .locations ≤ 64 → Equal (join a (freeFor a)) a
 unit a g l =
-    let u = free (a .inputs) (a .outputs) in
-    let h = free-sound (a .inputs) (a .outputs) in
+    let u = freeFor a in
+    let h = free-sound (a .reading) (a .inputs) (a .outputs) in
     let j = joins-free a l in
     equal (join a u) a (to-first a u g h j) (into a u g h j (⊆-refl (Permits a)) (all-free a))

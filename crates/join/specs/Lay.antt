@@ -8,7 +8,7 @@ use lib.Dec.{leb}
 use lib.ListN.{length}
 use lib.Seq.{sets}
 use Rattle.policy.specs.Rules.{Rule}
-use Rattle.policy.specs.File.{byteAt, ruleSize, ruleFrom, rulesFrom, policyOf}
+use Rattle.policy.specs.File.{byteAt, ruleSize, ruleFrom, rulesFrom}
 use Rattle.policy.specs.Check.{refusalOf}
 use Rattle.policy.specs.Bytes.{pairBytes, rulesBytes}
 use Rattle.policy.specs.Layout.{layoutOf}
@@ -17,7 +17,7 @@ use Rattle.policy.specs.Checked.{Rising}
 use Rattle.policy.specs.declared.Layout.{Layout}
 use Rattle.join.specs.Masks.{alike}
 use Rattle.join.specs.Join.{both, pair, each, cell, rows, leftBelow, join}
-use Rattle.join.specs.Entry.{sameSignals}
+use Rattle.join.specs.Entry.{sameSignals, said}
 
 -- n bytes from a position on. Past the end stands 0.
 unfoldable pub bytesFrom : List ℕ → ℕ → ℕ → List ℕ
@@ -90,10 +90,10 @@ module _ (x y : Layout) where
   abbrev pub rowsBytes : List Rule → List Rule → ℕ → List ℕ
   rowsBytes rs ss m = rulesBytes (rows (x .clocks) (y .locations) rs ss m)
 
--- The layout of a file that is not refused.
+-- The layout of a file that is not refused, as the check without a reading gives it.
 pub record LayoutOf (f : List ℕ) (x : Layout) : Type 0 where
   pub passes : refusalOf f ≡ 0
-  pub is : x ≡ layoutOf f
+  pub is : x ≡ layoutOf 1 f
 
 -- 13, but for the rules: "a join has over 64 locations, 4 clocks, .. or 65,536 states".
 unfoldable pub limits : Layout → Layout → Bool
@@ -103,15 +103,15 @@ limits x y = leb (x .locations * y .locations) 64 && (leb (x .clocks + y .clocks
 pub record Ready (f : List ℕ) (x : Layout) (g : List ℕ) (y : Layout) : Type 0 where
   pub first : LayoutOf f x
   pub second : LayoutOf g y
-  pub signals : sameSignals (policyOf f) (policyOf g) ≡ true
+  pub signals : sameSignals (said f) (said g) ≡ true
   pub within : limits x y ≡ true
 
 -- How many rules the join has, and their bytes.
 abbrev pub joinedCount : List ℕ → List ℕ → ℕ
-joinedCount f g = length (join (policyOf f) (policyOf g) .rules)
+joinedCount f g = length (join (said f) (said g) .rules)
 
 abbrev pub joinedRules : List ℕ → List ℕ → List ℕ
-joinedRules f g = rulesBytes (join (policyOf f) (policyOf g) .rules)
+joinedRules f g = rulesBytes (join (said f) (said g) .rules)
 
 -- Where the clock count stands.
 abbrev pub clocksFor : Layout → ℕ
@@ -122,7 +122,7 @@ abbrev pub clocksPart : List ℕ → ℕ → ℕ → List ℕ → ℕ → ℕ �
 clocksPart f p k g q j = (k + j) ∷ bytesFrom f (p + 1) (2 * k) ++ bytesFrom g (q + 1) (2 * j)
 
 abbrev pub leftPart : List ℕ → Layout → List ℕ → Layout → List ℕ
-leftPart f x g y = leftBelow (policyOf f) (policyOf g) (x .locations * y .locations)
+leftPart f x g y = leftBelow (said f) (said g) (x .locations * y .locations)
 
 abbrev pub placesPart : List ℕ → Layout → List ℕ → Layout → ℕ → List ℕ
 placesPart f x g y rules = (x .locations * y .locations) ∷ leftPart f x g y ++ pairBytes rules

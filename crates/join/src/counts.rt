@@ -10,8 +10,7 @@ use policy::may_rest;
 ghost use mathlib.Core.Path.{_≡_};
 ghost use Prim.Native.Nat.{_+_, _*_, _≤_, _<_, _^_};
 ghost use lib.ListN.{length};
-ghost use Rattle.policy.specs.File.{policyOf};
-ghost use Rattle.join.specs.Entry.{sameTags, sameSignals};
+ghost use Rattle.join.specs.Entry.{sameTags, sameSignals, said};
 ghost use Rattle.join.specs.Join.{leftAt};
 ghost use Rattle.join.specs.Lay.{Laid, LayoutOf, Ready, limits, clocksPart, leftPart, placesPart, countsFrom, countsLength};
 
@@ -34,7 +33,7 @@ fn same_tags(a: &[u8], b: &[u8]) -> bool
 
 pub(crate) fn same_signals(a: &[u8], x: Layout, b: &[u8], y: Layout) -> bool
     requires { ⌜ LayoutOf (now a) x × LayoutOf (now b) y ⌝ }
-    ensures { λ r. ⌜ r ≡ sameSignals (policyOf (now (a .entry))) (policyOf (now (b .entry))) ⌝ }
+    ensures { λ r. ⌜ r ≡ sameSignals (said (now (a .entry))) (said (now (b .entry))) ⌝ }
 {
     let a_end = 1 + x.inputs;
     let b_end = 1 + y.inputs;
@@ -93,7 +92,7 @@ fn lay_clocks(
 // The byte of one location: it must be left if either part must.
 fn left_at(a: &[u8], x: Layout, b: &[u8], y: Layout, location: usize) -> usize
     requires { ⌜ Ready (now a) x (now b) y × (location < x .locations * y .locations) ⌝ }
-    ensures { λ r. ⌜ (r ≡ leftAt (policyOf (now (a .entry))) (policyOf (now (b .entry))) location) × (r < 256) ⌝ }
+    ensures { λ r. ⌜ (r ≡ leftAt (said (now (a .entry))) (said (now (b .entry))) location) × (r < 256) ⌝ }
 {
     let first = may_rest(a, x, location / y.locations);
     let second = may_rest(b, y, location % y.locations);

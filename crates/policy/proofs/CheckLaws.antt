@@ -76,7 +76,7 @@ module _ (f : List ℕ) where
   refused-here a b e h n = refused-by (e ∙ first-refused a b (λ z. n (h ∙ z)) ∙ sym h) n
 
   -- All are none.
-  pub passed-by : {l : Layout} → refusalOf f ≡ 0 → l ≡ layoutOf f → CheckPromise f (record { refusal = 0; layout = l })
+  pub passed-by : {l : Layout} → refusalOf f ≡ 0 → l ≡ layoutOf 1 f → CheckPromise f (record { refusal = 0; layout = l })
   passed-by e g = record { said = rw g (sym (rw e at (checked-passed f e))) }
 
 -- What the code has read, count by count.
@@ -145,6 +145,7 @@ module _ (f : List ℕ) (s : Shape) (h : ShapeOf f s) where
 
   pub layout-read : {n states : ℕ} → n ≡ pairAt f (countAt s) → states ≡ statesOf (s .ceilings) (s .clocks) (s .locations) →
       record {
+        reading = 1;
         inputs = s .inputs;
         outputs = s .outputs;
         clocks = s .clocks;
@@ -155,6 +156,6 @@ module _ (f : List ℕ) (s : Shape) (h : ShapeOf f s) where
         ceilings = s .ceilings;
         states = states;
       }
-      ≡ layoutOf f
+      ≡ layoutOf 1 f
   unfolding rulesStart
   layout-read e g = cc (count-at, rules-end e, states-read)

@@ -143,9 +143,9 @@ locations-length f k = part-length f (locationsAt f + 1) (locationCount f) (omeg
 pub section-length : (f : List ℕ) → Framed f → length (ruleSection f) ≡ ruleCount f * ruleSize (clockCount f)
 section-length f k = part-length f (rulesStart f) (ruleCount f * ruleSize (clockCount f)) (omega arith)
 
-pub checked-file : (f : List ℕ) → refusalOf f ≡ 0 → WellFormed (policyOf f)
+pub checked-file : (reading : ℕ) (f : List ℕ) → refusalOf f ≡ 0 → WellFormed (policyOf reading f)
 unfolding policyOf
-checked-file f e =
+checked-file reading f e =
     let p = passed f e in
     let k = p .frame in
     let i = inputs-length f k in

@@ -104,13 +104,15 @@ module _ (f : List ℕ) where
   abbrev pub rulesOf : List Rule
   rulesOf = rulesFrom clockCount ruleSection 0 ruleCount
 
-  unfoldable pub policyOf : Policy
-  policyOf =
-      record {
-        inputs = inputTags;
-        outputs = outputTags;
-        ceilings = ceilingsOf;
-        locations = locationCount;
-        left = locationBytes;
-        rules = rulesOf;
-      }
+-- The policy that the file f is under a reading.
+unfoldable pub policyOf : ℕ → List ℕ → Policy
+policyOf reading f =
+    record {
+      reading = reading;
+      inputs = inputTags f;
+      outputs = outputTags f;
+      ceilings = ceilingsOf f;
+      locations = locationCount f;
+      left = locationBytes f;
+      rules = rulesOf f;
+    }

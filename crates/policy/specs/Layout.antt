@@ -5,14 +5,15 @@ use Prim.Native.Nat.{ℕ, zero, suc, _≤_}
 use native.Mathlib.Omega.{arith}
 use Rattle.policy.specs.File
 use Rattle.policy.specs.Number.{four, statesOf}
-use Rattle.policy.specs.Check.{refusalOf}
+use Rattle.policy.specs.Check.{refusalOf, refusalUnder}
 use Rattle.policy.specs.declared.Layout.{Layout}
 use Rattle.policy.specs.declared.Checked.{Checked}
 use Rattle.policy.specs.declared.rules.Shape.{Shape}
 
-abbrev pub layoutOf : List ℕ → Layout
-layoutOf f =
+abbrev pub layoutOf : ℕ → List ℕ → Layout
+layoutOf reading f =
     record {
+      reading = reading;
       inputs = File.inputCount f;
       outputs = File.outputCount f;
       clocks = File.clockCount f;
@@ -27,6 +28,7 @@ layoutOf f =
 abbrev pub noLayout : Layout
 noLayout =
     record {
+      reading = 0;
       inputs = 0;
       outputs = 0;
       clocks = 0;
@@ -42,8 +44,12 @@ abbrev pub checkedFrom : ℕ → Layout → Checked
 checkedFrom zero l = record { refusal = 0; layout = l }
 checkedFrom (suc n) l = record { refusal = suc n; layout = noLayout }
 
+-- A check that names no reading lays the file out under the first.
 unfoldable pub checkedOf : List ℕ → Checked
-checkedOf f = checkedFrom (refusalOf f) (layoutOf f)
+checkedOf f = checkedFrom (refusalOf f) (layoutOf 1 f)
+
+unfoldable pub checkedUnder : ℕ → List ℕ → Checked
+checkedUnder reading f = checkedFrom (refusalUnder reading f) (layoutOf reading f)
 
 -- All that is promised of what the check of the file f gives, and that no other result is allowed.
 pub record CheckPromise (f : List ℕ) (r : Checked) : Type 0 where
@@ -66,17 +72,31 @@ from-number (suc n) l = refl
 
 -- The refusal is the file's. Without one the layout is the file's too, and with one there is none.
 module _ (f : List ℕ) where
-  pub checked-passed : refusalOf f ≡ 0 → checkedOf f ≡ record { refusal = refusalOf f; layout = layoutOf f }
+  pub checked-passed : refusalOf f ≡ 0 → checkedOf f ≡ record { refusal = refusalOf f; layout = layoutOf 1 f }
   unfolding checkedOf
-  checked-passed = from-none (refusalOf f) (layoutOf f)
+  checked-passed = from-none (refusalOf f) (layoutOf 1 f)
 
   pub checked-refused : (refusalOf f ≡ 0 → ⊥) → checkedOf f ≡ record { refusal = refusalOf f; layout = noLayout }
   unfolding checkedOf
-  checked-refused = from-some (refusalOf f) (layoutOf f)
+  checked-refused = from-some (refusalOf f) (layoutOf 1 f)
 
-  pub checked-says : (checkedOf f .refusal ≡ refusalOf f) × (refusalOf f ≡ 0 → checkedOf f .layout ≡ layoutOf f)
+  pub checked-says : (checkedOf f .refusal ≡ refusalOf f) × (refusalOf f ≡ 0 → checkedOf f .layout ≡ layoutOf 1 f)
   unfolding checkedOf
-  checked-says = (from-number (refusalOf f) (layoutOf f), λ e. ap (λ (c : Checked). c .layout) (checked-passed e))
+  checked-says = (from-number (refusalOf f) (layoutOf 1 f), λ e. ap (λ (c : Checked). c .layout) (checked-passed e))
+
+-- Under a reading too.
+module _ (reading : ℕ) (f : List ℕ) where
+  pub under-passed : refusalUnder reading f ≡ 0 → checkedUnder reading f ≡ record { refusal = 0; layout = layoutOf reading f }
+  unfolding checkedUnder
+  under-passed e = from-none _ _ e ∙ ap (λ (n : ℕ). record { refusal = n; layout = layoutOf reading f }) e
+
+  pub under-refused : (refusalUnder reading f ≡ 0 → ⊥) → checkedUnder reading f ≡ record { refusal = refusalUnder reading f; layout = noLayout }
+  unfolding checkedUnder
+  under-refused = from-some _ _
+
+  pub under-says : (checkedUnder reading f .refusal ≡ refusalUnder reading f) × (refusalUnder reading f ≡ 0 → checkedUnder reading f .layout ≡ layoutOf reading f)
+  unfolding checkedUnder
+  under-says = (from-number _ _, λ e. ap (λ (c : Checked). c .layout) (under-passed e))
 
 -- How much the sections before the rules may hold.
 pub record Shaped (s : Shape) : Type 0 where

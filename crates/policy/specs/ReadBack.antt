@@ -18,7 +18,7 @@ use Rattle.policy.specs.File.{inputCount, outputsAt, outputCount, clocks
 use Rattle.policy.specs.File.{rulesStart, rulesEnd, inputTags, outputTags, ceilingsOf, locationBytes, rulesOf, policyOf}
 use Rattle.policy.specs.Check.{all, tagsGood, ceilingGood, locationGood}
 use Rattle.policy.specs.Check.{sectionRefusal, inputsRefusal, outputsRefusal, clocksRefusal, locationsRefusal, rulesSectionRefusal}
-use Rattle.policy.specs.Check.{refusalOf, checkOf}
+use Rattle.policy.specs.Check.{refusalOf}
 use Rattle.policy.specs.Parts.{rules-part}
 use Rattle.policy.specs.Bytes.{pairBytes, pairsBytes, boundsBytes, ruleBytes, rulesBytes, countsBytes, bytesOf}
 use Rattle.policy.specs.Stopped.{AllLawful, lawful-none, lawful-more}
@@ -218,11 +218,12 @@ module _ (p : Policy) (w : WellFormed p) where
       (rules-read (bytesOf p) (length (p .ceilings)) (rulesStart (bytesOf p)) bounded [] (at-first-rule ∙ sym (append-nil _)))
 
   -- No bound on the numbers is used, only that each location has a byte and each rule a bound for each clock.
-  pub read-back : policyOf (bytesOf p) ≡ p
+  pub read-back : policyOf (p .reading) (bytesOf p) ≡ p
   unfolding policyOf
   read-back =
       λ i.
       record {
+        reading = p .reading;
         inputs = inputs-back p i;
         outputs = outputs-back p i;
         ceilings = ceilings-back p i;
@@ -333,10 +334,6 @@ module _ (p : Policy) (w : WellFormed p) where
         count-locations p,
         le-leb (states p) 65536 (w .states),
       )
-
-  pub written-checks : checkOf (bytesOf p) ≡ gives p
-  unfolding checkOf
-  written-checks = rw (written-passes, read-back p w)
 
 -- Each element is a byte.
 abbrev pub AllBytes : List ℕ → Type 0

@@ -7,11 +7,11 @@ use mathlib.Core.Option.{Option, none, some, bind, bind-eq-some-iff, Option·non
 use Prim.Native.Nat.{ℕ, zero, suc, _/_, _%_, _≤_, _<_, min}
 use native.Mathlib.Omega.{arith}
 use lib.Dec.{eqb}
-use lib.ListN.{length, getD, length-replicate}
+use lib.ListN.{length, getD, take, length-replicate}
 use borrow.Author.Tests.{eqb-false}
 use Rattle.streams.specs.Stream.{Event, Stream, _after_, GoesOn, Ends}
 use Rattle.streams.specs.Laws.{_⊆_, Closed, goes-on, ends}
-use Rattle.policy.specs.Rules.{Rule, Policy, Place, start, fires, decides, unlimited, stopped, advance, taken, step, steps, Fits, fits-none, fits-more, rests, Runs, Rests, from, Live, Dead}
+use Rattle.policy.specs.Rules.{Rule, Policy, Place, start, fires, decides, unlimited, stopped, advance, looked, taken, step, steps, Fits, fits-none, fits-more, rests, Runs, Rests, from, Live, Dead}
 use Rattle.policy.specs.Stopped.{Checked, mins, stop, shown, steps-same, start-stops}
 use Rattle.policy.specs.Sound.{Each, each-none, each-more, Formed, Sound, In, Inside}
 
@@ -44,13 +44,21 @@ module _ (on : ℕ → ℕ → ℕ) where
   advance-length mask (c ∷ cs) [] e = e
   advance-length mask (c ∷ cs) (v ∷ vs) e = ap suc (advance-length (mask / 2) cs vs (omega arith))
 
+  -- The first k clocks go on by themselves.
+  pub advance-take : (mask k : ℕ) (cs vs : List ℕ) → take k (advance on mask cs vs) ≡ advance on mask (take k cs) (take k vs)
+  unfolding advance
+  advance-take mask zero cs vs = refl
+  advance-take mask (suc k) [] vs = refl
+  advance-take mask (suc k) (c ∷ cs) [] = refl
+  advance-take mask (suc k) (c ∷ cs) (v ∷ vs) = ap (λ (us : List ℕ). cond (eqb (mask % 2) 1) 0 (on c v) ∷ us) (advance-take (mask / 2) k cs vs)
+
   module _ (p : Policy) where
     -- What holds at each location once the clocks have gone on holds of the next place.
     pub step-of : (P : Place → Type 0) → Sound p → (s : Place) →
         ((to mask : ℕ) → to < p .locations → P (record { location = to; clocks = advance on mask (p .ceilings) (s .clocks) })) →
         (e : Event) → Of P (step on p s e)
     unfolding step bind taken
-    step-of P k s w e = go (decides (p .rules) s e) (decides-of (k .rules) s e)
+    step-of P k s w e = go (decides (p .rules) (looked on p s) e) (decides-of (k .rules) (looked on p s) e)
       where
         at : (r : Rule) → Formed (length (p .ceilings)) (p .locations) r → (t : Bool) → eqb (r .target) 255 ≡ t →
             Of P (cond t none (some (record { location = r .target; clocks = advance on (r .reset) (p .ceilings) (s .clocks) })))

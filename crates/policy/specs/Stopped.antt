@@ -10,7 +10,7 @@ use lib.Dec.{leb, eqb}
 use lib.ListN.{length, replicate}
 use borrow.Author.Tests.{le-leb, lt-leb, eq-eqb, leb-true, leb-false}
 use Rattle.streams.specs.Stream.{Event, Stream}
-use Rattle.policy.specs.Rules.{Bound, Rule, Policy, Place, start, within, hold, fires, decides, unlimited, stopped, advance, taken, step, steps}
+use Rattle.policy.specs.Rules.{Bound, Rule, Policy, Place, start, within, hold, fires, decides, unlimited, stopped, advance, tested, looked, taken, step, steps}
 
 -- The bounds of a checked file: low is at most the ceiling; high is below it, or is no bound.
 pub record Lawful (c : ℕ) (b : Bound) : Type 0 where
@@ -91,6 +91,21 @@ module _ (p : Policy) where
   decides-same checked-none s e = refl
   decides-same (checked-more {r = r} {rs = rs} l ls) s e = rw (hold-same l (s .clocks), decides-same ls s e)
 
+  -- Under either reading the values looked at are the stopped ones of those looked at without limit.
+  tested-same : (vs : List ℕ) → tested stopped p (mins (p .ceilings) vs) ≡ mins (p .ceilings) (tested unlimited p vs)
+  unfolding tested
+  tested-same vs = go (eqb (p .reading) 2)
+    where
+      go : (t : Bool) →
+          cond t (advance stopped 0 (p .ceilings) (mins (p .ceilings) vs)) (mins (p .ceilings) vs)
+          ≡ mins (p .ceilings) (cond t (advance unlimited 0 (p .ceilings) vs) vs)
+      go true = advance-same 0 (p .ceilings) vs
+      go false = refl
+
+  looked-same : Checked (p .ceilings) (p .rules) → (s : Place) (e : Event) →
+      decides (p .rules) (looked stopped p (stop p s)) e ≡ decides (p .rules) (looked unlimited p s) e
+  looked-same ok s e = rw (tested-same (s .clocks)) (decides-same ok (looked unlimited p s) e)
+
   taken-same : (s : Place) (r : Rule) → taken stopped p (stop p s) r ≡ shown p (taken unlimited p s r)
   unfolding taken shown
   taken-same s r = go (eqb (r .target) 255)
@@ -104,7 +119,7 @@ module _ (p : Policy) where
   -- One tick with stopped clocks shows what one tick without limit shows.
   pub step-same : Checked (p .ceilings) (p .rules) → (s : Place) (e : Event) → step stopped p (stop p s) e ≡ shown p (step unlimited p s e)
   unfolding step bind shown
-  step-same ok s e = rw (decides-same ok s e) (go (decides (p .rules) s e))
+  step-same ok s e = rw (looked-same ok s e) (go (decides (p .rules) (looked unlimited p s) e))
     where
       go : (d : Option Rule) → bind d (taken stopped p (stop p s)) ≡ shown p (bind d (taken unlimited p s))
       go none = refl

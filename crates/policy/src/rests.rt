@@ -9,7 +9,7 @@ ghost use Rattle.policy.specs.File.{locationCount, rulesStart, policyOf}
 // The location bytes stand before the two bytes that count the rules.
 pub fn may_rest(file: &[u8], layout: Layout, location: usize) -> bool
     requires { ⌜ (layout .locations ≡ locationCount (now file)) × (layout .«rules_start» ≡ rulesStart (now file)) × (location < layout .locations) ⌝ }
-    ensures { λ r. ⌜ r ≡ rests (policyOf (now (file .entry))) location ⌝ }
+    ensures { λ r. ⌜ r ≡ rests (policyOf (layout .reading) (now (file .entry))) location ⌝ }
 {
     byte_at(file, layout.rules_start - 2 - layout.locations + location) == 0
 }

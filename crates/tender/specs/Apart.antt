@@ -6,10 +6,10 @@ use Prim.Native.Nat.{ℕ}
 use lib.ListN.{take, replicate}
 use Rattle.streams.specs.Answer.{refused, gives}
 use Rattle.streams.specs.Choose.{any}
-use Rattle.policy.specs.Rules.{step, decides, fires, hold, within, taken, advance}
+use Rattle.policy.specs.Rules.{step, decides, fires, hold, within, tested, taken, advance}
 use Rattle.policy.specs.Number.{statesOf, numberFrom, locationFrom, clocksFrom}
 use Rattle.policy.specs.File.{policyOf, outputsAt, clocksAt, locationsAt, rulesAt, rulesStart, rulesEnd, pairsFrom, rulesFrom, ruleFrom, boundsFrom}
-use Rattle.policy.specs.Check.{refusalOf, inputsRefusal, outputsRefusal, clocksRefusal, locationsRefusal, rulesSectionRefusal, sectionRefusal, tagsGood, among, all, rulesRefusal, ruleRefusal, headGood, maskGood, boundsGood, boundGood}
+use Rattle.policy.specs.Check.{readingRefusal, refusalUnder, refusalOf, inputsRefusal, outputsRefusal, clocksRefusal, locationsRefusal, rulesSectionRefusal, sectionRefusal, tagsGood, among, all, rulesRefusal, ruleRefusal, headGood, maskGood, boundsGood, boundGood}
 use Rattle.policy.specs.Bytes.{bytesOf, countsBytes, pairsBytes, rulesBytes, ruleBytes, boundsBytes}
 use Rattle.enforcer.specs.Tick.{mayStand, reaches}
 use Rattle.enforcer.specs.Entries.{marksRefusal}
@@ -38,20 +38,21 @@ alwaysOff =
 -- Their join is made,
 pub apart-made : Joined alwaysOn alwaysOff (take 29 (joinedOut alwaysOn alwaysOff (replicate 29 0)))
 unfolding
-    joinOf joinRefusal joinedFile sameSignals sameTags joinFits join rows cell each pair both agree target of alike leftAt leftBelow Rules.rests bytesOf countsBytes pairsBytes
-    rulesBytes ruleBytes boundsBytes refusalOf inputsRefusal outputsRefusal clocksRefusal locationsRefusal rulesSectionRefusal sectionRefusal tagsGood
-    among all rulesRefusal ruleRefusal headGood maskGood boundsGood boundGood policyOf outputsAt clocksAt locationsAt rulesAt rulesStart rulesEnd
-    pairsFrom rulesFrom ruleFrom boundsFrom statesOf
+    joinOf joinRefusal joinedFile sameSignals sameTags joinFits join rows cell each pair both agree target of alike leftAt leftBelow Rules.rests
+    bytesOf countsBytes pairsBytes rulesBytes ruleBytes boundsBytes refusalOf inputsRefusal outputsRefusal clocksRefusal locationsRefusal
+    rulesSectionRefusal sectionRefusal tagsGood among all rulesRefusal ruleRefusal headGood maskGood boundsGood boundGood policyOf outputsAt clocksAt
+    locationsAt rulesAt rulesStart rulesEnd pairsFrom rulesFrom ruleFrom boundsFrom statesOf
 apart-made = record { slice = replicate 29 0; size = 29; given = refl; written = refl }
 
--- and wherever it is made: each part has its one state live, and nothing is trimmed; the join is hopeless.
+-- and wherever it is made, under reading 1: each part has its one state live, and nothing is trimmed; the join is hopeless.
 pub live-apart : {f : List ℕ} → Joined alwaysOn alwaysOff f →
-    (prepareOf alwaysOn (0 ∷ []) ≡ gives (record { verdict = 0; states = 1; live = 1 }))
-    × (prepareOf alwaysOff (0 ∷ []) ≡ gives (record { verdict = 0; states = 1; live = 1 }))
-    × (prepareOf f (0 ∷ []) ≡ refused 11)
+    (prepareOf 1 alwaysOn (0 ∷ []) ≡ gives (record { verdict = 0; states = 1; live = 1 }))
+    × (prepareOf 1 alwaysOff (0 ∷ []) ≡ gives (record { verdict = 0; states = 1; live = 1 }))
+    × (prepareOf 1 f (0 ∷ []) ≡ refused 11)
 unfolding
-    prepareOf marksRefusal joinedFile join rows cell each pair both agree target of alike leftAt leftBelow bytesOf countsBytes pairsBytes rulesBytes ruleBytes boundsBytes
-    refusalOf inputsRefusal outputsRefusal clocksRefusal locationsRefusal rulesSectionRefusal sectionRefusal tagsGood among all rulesRefusal ruleRefusal
-    headGood maskGood boundsGood boundGood policyOf outputsAt clocksAt locationsAt rulesAt rulesStart rulesEnd pairsFrom rulesFrom ruleFrom boundsFrom
-    statesOf numberFrom locationFrom clocksFrom mayStand reaches step decides fires hold within taken advance bind any roundsBy roundBy keeps leadsTo stays someEvent Rules.rests tab
-live-apart j = (refl, refl, ap (λ (f : List ℕ). prepareOf f (0 ∷ [])) (joined-is j))
+    prepareOf marksRefusal refusalUnder readingRefusal joinedFile join rows cell each pair both agree target of alike leftAt leftBelow bytesOf
+    countsBytes pairsBytes rulesBytes ruleBytes boundsBytes refusalOf inputsRefusal outputsRefusal clocksRefusal locationsRefusal rulesSectionRefusal
+    sectionRefusal tagsGood among all rulesRefusal ruleRefusal headGood maskGood boundsGood boundGood policyOf outputsAt clocksAt locationsAt rulesAt
+    rulesStart rulesEnd pairsFrom rulesFrom ruleFrom boundsFrom statesOf numberFrom locationFrom clocksFrom mayStand reaches step decides fires hold
+    within tested taken advance bind any roundsBy roundBy keeps leadsTo stays someEvent Rules.rests tab
+live-apart j = (refl, refl, ap (λ (f : List ℕ). prepareOf 1 f (0 ∷ [])) (joined-is j))

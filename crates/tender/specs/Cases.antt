@@ -1,5 +1,6 @@
 -- The twelve marked cases of 01, then those of 02: "when x is 0 and only 1 and 2 may stand, the answer is 2" and its like for outputs; "S with a second
--- location that no rule enters and that has no rules becomes 0", where "Sample T stays verdict 1". One list, one statement, by computation.
+-- location that no rule enters and that has no rules becomes 0", where "Sample T stays verdict 1"; "Under reading 2, D turns 01 00 00 00 00 into
+-- 01 00 00 10 00", and refusal 22. One list, one statement, by computation.
 use mathlib.Core.Path.{_≡_, refl}
 use mathlib.Core.List.{List, [], _∷_, map}
 use Prim.Native.Nat.{ℕ, zero, suc}
@@ -9,10 +10,10 @@ use mathlib.Core.Option.{bind}
 use lib.Count.{ones, onesIn}
 use Rattle.streams.specs.Choose.{any, nearest, better}
 use Rattle.streams.specs.Corrections.{distance, nearer, spares}
-use Rattle.policy.specs.Rules.{start, step, decides, fires, hold, within, taken, advance}
+use Rattle.policy.specs.Rules.{start, step, decides, fires, hold, within, tested, taken, advance}
 use Rattle.policy.specs.Number.{states, statesOf, numberFrom, locationFrom, clocksFrom}
 use Rattle.policy.specs.File.{policyOf, outputsAt, clocksAt, locationsAt, rulesAt, rulesStart, rulesEnd, pairsFrom, rulesFrom, ruleFrom, boundsFrom}
-use Rattle.policy.specs.Check.{refusalOf, inputsRefusal, outputsRefusal, clocksRefusal, locationsRefusal, rulesSectionRefusal, sectionRefusal, tagsGood, among, all, rulesRefusal, ruleRefusal, headGood, maskGood, boundsGood, boundGood}
+use Rattle.policy.specs.Check.{readingRefusal, refusalUnder, refusalOf, inputsRefusal, outputsRefusal, clocksRefusal, locationsRefusal, rulesSectionRefusal, sectionRefusal, tagsGood, among, all, rulesRefusal, ruleRefusal, headGood, maskGood, boundsGood, boundGood}
 use Rattle.enforcer.specs.State.{stateOf, stateGood, clocksGood}
 use Rattle.enforcer.specs.Tick.{ran, tick, outputTick, moved, outputChoice, inputChoice, mayStand, reaches}
 use Rattle.enforcer.specs.Entries.{RunAnswer, runOf, runRefusal, marksRefusal, stateRefusal}
@@ -34,6 +35,7 @@ pub data Said : Type 0 where
   refusal : ℕ → List ℕ → Said
 
 pub record Case : Type 0 where
+  pub reading : ℕ
   pub file : List ℕ
   pub asked : Asked
   pub expected : Said
@@ -42,8 +44,8 @@ pub record Case : Type 0 where
 abbrev pub lent : ℕ → List ℕ
 lent n = replicate n 99
 
-abbrev pub marks : List ℕ → List ℕ
-marks file = preparedMarks file (lent (states (policyOf file)))
+abbrev pub marks : ℕ → List ℕ → List ℕ
+marks reading file = preparedMarks reading file (lent (states (policyOf reading file)))
 
 abbrev pub saidOfPrepare : List ℕ → Answer Summary → Said
 saidOfPrepare marks (refused n) = refusal n marks
@@ -53,44 +55,55 @@ abbrev pub saidOfRun : ℕ → List ℕ → Said
 saidOfRun zero out = released out
 saidOfRun (suc n) out = refusal (suc n) out
 
-abbrev pub run : List ℕ → List ℕ → RunAnswer
-run file events = runOf file (marks file) (stateOf (start (policyOf file))) events (lent (length events))
+abbrev pub run : ℕ → List ℕ → List ℕ → RunAnswer
+run reading file events = runOf reading file (marks reading file) (stateOf (start (policyOf reading file))) events (lent (length events))
 
-abbrev pub said : List ℕ → Asked → Said
-said file prepared = saidOfPrepare (marks file) (prepareOf file (lent (states (policyOf file))))
-said file (enforced events) = saidOfRun (run file events .refusal) (run file events .out)
+abbrev pub said : ℕ → List ℕ → Asked → Said
+said reading file prepared = saidOfPrepare (marks reading file) (prepareOf reading file (lent (states (policyOf reading file))))
+said reading file (enforced events) = saidOfRun (run reading file events .refusal) (run reading file events .out)
 
 unfoldable pub cases : List Case
 cases =
-    record { file = S; asked = enforced (0x03 ∷ []); expected = released (0x01 ∷ []) }
-    ∷ record { file = S; asked = enforced (0x12 ∷ []); expected = released (0x02 ∷ []) }
-    ∷ record { file = S; asked = enforced (0x13 ∷ []); expected = released (0x11 ∷ []) }
-    ∷ record { file = S; asked = enforced (0x11 ∷ []); expected = released (0x11 ∷ []) }
-    ∷ record { file = S; asked = prepared; expected = summary 0 1 1 }
-    ∷ record { file = D; asked = prepared; expected = summary 0 8 8 }
+    record { reading = 1; file = S; asked = enforced (0x03 ∷ []); expected = released (0x01 ∷ []) }
+    ∷ record { reading = 1; file = S; asked = enforced (0x12 ∷ []); expected = released (0x02 ∷ []) }
+    ∷ record { reading = 1; file = S; asked = enforced (0x13 ∷ []); expected = released (0x11 ∷ []) }
+    ∷ record { reading = 1; file = S; asked = enforced (0x11 ∷ []); expected = released (0x11 ∷ []) }
+    ∷ record { reading = 1; file = S; asked = prepared; expected = summary 0 1 1 }
+    ∷ record { reading = 1; file = D; asked = prepared; expected = summary 0 8 8 }
     ∷ record {
+      reading = 1;
       file = D;
       asked = enforced (0x01 ∷ 0x00 ∷ 0x00 ∷ 0x00 ∷ 0x00 ∷ []);
       expected = released (0x01 ∷ 0x00 ∷ 0x00 ∷ 0x00 ∷ 0x10 ∷ []);
     }
-    ∷ record { file = T; asked = prepared; expected = summary 1 2 1 }
-    ∷ record { file = T; asked = enforced (0x01 ∷ 0x11 ∷ []); expected = released (0x00 ∷ 0x10 ∷ []) }
-    ∷ record { file = N; asked = prepared; expected = refusal 11 (0 ∷ []) }
-    ∷ record { file = K; asked = enforced (0x00 ∷ 0x00 ∷ 0x10 ∷ []); expected = released (0x00 ∷ 0x00 ∷ 0x10 ∷ []) }
+    ∷ record { reading = 1; file = T; asked = prepared; expected = summary 1 2 1 }
+    ∷ record { reading = 1; file = T; asked = enforced (0x01 ∷ 0x11 ∷ []); expected = released (0x00 ∷ 0x10 ∷ []) }
+    ∷ record { reading = 1; file = N; asked = prepared; expected = refusal 11 (0 ∷ []) }
+    ∷ record { reading = 1; file = K; asked = enforced (0x00 ∷ 0x00 ∷ 0x10 ∷ []); expected = released (0x00 ∷ 0x00 ∷ 0x10 ∷ []) }
     ∷ record {
+      reading = 1;
       file = K;
       asked = enforced (0x00 ∷ 0x00 ∷ 0x00 ∷ 0x10 ∷ []);
       expected = released (0x00 ∷ 0x00 ∷ 0x00 ∷ 0x00 ∷ []);
     }
-    ∷ record { file = OneInput; asked = enforced (0x00 ∷ []); expected = released (0x02 ∷ []) }
-    ∷ record { file = OneOutput; asked = enforced (0x00 ∷ []); expected = released (0x20 ∷ []) }
-    ∷ record { file = Unentered; asked = prepared; expected = summary 0 2 1 } ∷ []
+    ∷ record { reading = 1; file = OneInput; asked = enforced (0x00 ∷ []); expected = released (0x02 ∷ []) }
+    ∷ record { reading = 1; file = OneOutput; asked = enforced (0x00 ∷ []); expected = released (0x20 ∷ []) }
+    ∷ record { reading = 1; file = Unentered; asked = prepared; expected = summary 0 2 1 }
+    ∷ record {
+      reading = 2;
+      file = D;
+      asked = enforced (0x01 ∷ 0x00 ∷ 0x00 ∷ 0x00 ∷ 0x00 ∷ []);
+      expected = released (0x01 ∷ 0x00 ∷ 0x00 ∷ 0x10 ∷ 0x00 ∷ []);
+    }
+    -- "22 for any other number, before all else": before the 11 of N, and before the 1 of a file without a byte.
+    ∷ record { reading = 0; file = N; asked = prepared; expected = refusal 22 (99 ∷ []) }
+    ∷ record { reading = 3; file = []; asked = enforced (0xFF ∷ []); expected = refusal 22 (99 ∷ []) } ∷ []
 
-pub marked-cases : map (λ c. said (c .file) (c .asked)) cases ≡ map (λ c. c .expected) cases
+pub marked-cases : map (λ c. said (c .reading) (c .file) (c .asked)) cases ≡ map (λ c. c .expected) cases
 unfolding
-    cases runOf runRefusal marksRefusal stateRefusal stateGood clocksGood refusalOf inputsRefusal outputsRefusal clocksRefusal locationsRefusal
-    rulesSectionRefusal sectionRefusal tagsGood among all rulesRefusal ruleRefusal headGood maskGood boundsGood boundGood policyOf outputsAt clocksAt
-    locationsAt rulesAt rulesStart rulesEnd pairsFrom rulesFrom ruleFrom boundsFrom statesOf numberFrom locationFrom clocksFrom ran tick outputTick moved
-    outputChoice inputChoice mayStand reaches step decides fires hold within taken advance bind nearest better nearer distance spares any prepareOf preparedMarks
-    roundsBy roundBy keeps leadsTo stays someEvent Rules.rests tab ones onesIn
+    cases runOf runRefusal marksRefusal refusalUnder readingRefusal stateRefusal stateGood clocksGood refusalOf inputsRefusal outputsRefusal
+    clocksRefusal locationsRefusal rulesSectionRefusal sectionRefusal tagsGood among all rulesRefusal ruleRefusal headGood maskGood boundsGood
+    boundGood policyOf outputsAt clocksAt locationsAt rulesAt rulesStart rulesEnd pairsFrom rulesFrom ruleFrom boundsFrom statesOf numberFrom
+    locationFrom clocksFrom ran tick outputTick moved outputChoice inputChoice mayStand reaches step decides fires hold within tested taken advance
+    bind nearest better nearer distance spares any prepareOf preparedMarks roundsBy roundBy keeps leadsTo stays someEvent Rules.rests tab ones onesIn
 marked-cases = refl

@@ -1,5 +1,5 @@
--- Demands 2 and 3 over the promises of the code, those that stand in the `ensures` of the entries: nobody has to join a promise and a theorem over the
--- definitions himself. The two halves are in specs/Halves.antt, and the program is in specs/Program.antt.
+-- Demands 2 and 3 over the promises of the code, those that stand in the `ensures` of the entries, and for each reading: nobody has to join a promise
+-- and a theorem over the definitions himself. The two halves are in specs/Halves.antt, and the program is in specs/Program.antt.
 use mathlib.Core.Path.{_≡_, refl, sym, ap, ap₂, subst, _∙_}
 use mathlib.Core.Bool.{Bool, true, false, cond}
 use mathlib.Core.List.{List, [], _∷_, _++_, map}
@@ -14,10 +14,10 @@ use Rattle.streams.specs.Laws.{_≋_}
 use Rattle.policy.specs.Rules.{Policy, Place, stopped, step, Permits}
 use Rattle.policy.specs.Number.{four, states}
 use Rattle.policy.specs.File.{policyOf}
-use Rattle.policy.specs.Check.{refusalOf, all}
+use Rattle.policy.specs.Check.{readingRefusal, refusalUnder, all}
 use Rattle.policy.specs.Sound.{Inside}
 use Rattle.policy.specs.Stays.{of-some, step-inside}
-use Rattle.policy.specs.Checked.{checked-file, well-sound}
+use Rattle.policy.specs.Checked.{well-sound}
 use Rattle.enforcer.specs.State.{placeIn}
 use Rattle.enforcer.specs.States.{marks-granted}
 use Rattle.enforcer.specs.Tick.{Tick, outputChoice, moved, outputTick}
@@ -39,7 +39,7 @@ use Rattle.groovepawn.specs.Words.{stateWords, stateIn, isState, outputState, r
 use Rattle.groovepawn.specs.Calls.{PrepareCall, InputCall, OutputCall, RunCall, JoinCall}
 use Rattle.groovepawn.specs.Numbers.{words-back}
 use Rattle.groovepawn.specs.Fields.{summaryIn, answerIn, answer-fields, prepare-fields, input-fields, output-fields, run-fields, join-fields}
-use Rattle.tender.specs.Granted.{state-ready, given-passed}
+use Rattle.tender.specs.Granted.{well-formed, state-ready, given-passed}
 use Rattle.tender.specs.Demand2.{ReleasedFor, Released, releases, fromStart, hopeless-exactly}
 use Rattle.tender.specs.Halves.{Ticks, ticks-none, ticks-more, TicksReleased, ticks-release}
 use Rattle.tender.specs.Demand3.{Joined, Alike, permits-exactly, permitsAll, order, grouping, repetition, unit-law}
@@ -47,37 +47,38 @@ use Rattle.tender.specs.Demand3.{Joined, Alike, permits-exactly, permits
 -- "a policy is refused as hopeless exactly if, from its start, some length has no permitted stream": prepare's code, of a file that passes its checks and
 -- with a slice for the marks that is long enough.
 pub code-hopeless :
-    {file before marks : List ℕ} {r : Prepared} → PreparePromise file before r marks →
-    refusalOf file ≡ 0 → states (policyOf file) ≤ length before →
-    (r ≡ Prepared.Refused 11) ↔ Hopeless (Permits (policyOf file))
-code-hopeless {file} {before} {r = r} h passed long =
-    Iff·trans (λ e. sym (h .said) ∙ ap preparedSaid e, λ e. prepared-one r (Prepared.Refused 11) (h .said ∙ e)) (hopeless-exactly file before passed long)
+    {reading : ℕ} {file before marks : List ℕ} {r : Prepared} → PreparePromise reading file before r marks →
+    refusalUnder reading file ≡ 0 → states (policyOf reading file) ≤ length before →
+    (r ≡ Prepared.Refused 11) ↔ Hopeless (Permits (policyOf reading file))
+code-hopeless {reading} {file} {before} {r = r} h passed long =
+    Iff·trans (λ e. sym (h .said) ∙ ap preparedSaid e, λ e. prepared-one r (Prepared.Refused 11) (h .said ∙ e))
+    (hopeless-exactly reading file before passed long)
 
 -- The start of every policy, as a state: location 0 and four clocks at 0.
 from-start :
-    (file before events out : List ℕ) (s : Summary) → prepareOf file before ≡ gives s →
-    fromStart file before events out ≡ runOf file (preparedMarks file before) (asPlace startState) events out
-from-start file before events out s e =
-    ap (λ (z : Place). runOf file (preparedMarks file before) z events out)
-    (start-is (policyOf file) (checked-file file (given-passed file before s e) .clocks))
+    (reading : ℕ) (file before events out : List ℕ) (s : Summary) → prepareOf reading file before ≡ gives s →
+    fromStart reading file before events out ≡ runOf reading file (preparedMarks reading file before) (asPlace startState) events out
+from-start reading file before events out s e =
+    ap (λ (z : Place). runOf reading file (preparedMarks reading file before) z events out)
+    (start-is (policyOf reading file) (well-formed reading file (given-passed reading file before s e) .clocks))
 
 -- What run's code answered is what the definitions say of a run from the start with the marks of prepare.
 code-runs :
-    {file before marks events out after : List ℕ} {s : Given} {r : Ran} → PreparePromise file before (Prepared.Gives s) marks →
-    RunPromise file marks startState events out r after → fromStart file before events out ≡ ranSaid r after
-code-runs {file} {before} {events = events} {out = out} {s = s} h k =
-    from-start file before events out (summarySaid s) (sym (h .said))
-    ∙ ap (λ (m : List ℕ). runOf file m (asPlace startState) events out) (sym (h .marks))
+    {reading : ℕ} {file before marks events out after : List ℕ} {s : Given} {r : Ran} → PreparePromise reading file before (Prepared.Gives s) marks →
+    RunPromise reading file marks startState events out r after → fromStart reading file before events out ≡ ranSaid r after
+code-runs {reading} {file} {before} {events = events} {out = out} {s = s} h k =
+    from-start reading file before events out (summarySaid s) (sym (h .said))
+    ∙ ap (λ (m : List ℕ). runOf reading file m (asPlace startState) events out) (sym (h .marks))
     ∙ sym (k .said)
 
 -- "Otherwise" .. "one event is released for each one read": prepare's code gave a summary, and run's code ran from `State::start()` with those marks, over
 -- events within the signals and into a slice that holds as many.
 pub code-releases :
-    {file before marks events out after : List ℕ} {s : Given} {r : Ran} → PreparePromise file before (Prepared.Gives s) marks →
-    RunPromise file marks startState events out r after → all (eventGood file) events ≡ true → length events ≤ length out →
-    Released (policyOf file) events out (ranSaid r after)
-code-releases {file} {before} {events = events} {out = out} {s = s} h k good long =
-    subst (Released (policyOf file) events out) (code-runs h k) (releases file before (summarySaid s) (sym (h .said)) events out good long)
+    {reading : ℕ} {file before marks events out after : List ℕ} {s : Given} {r : Ran} → PreparePromise reading file before (Prepared.Gives s) marks →
+    RunPromise reading file marks startState events out r after → all (eventGood reading file) events ≡ true → length events ≤ length out →
+    Released (policyOf reading file) events out (ranSaid r after)
+code-releases {reading} {file} {before} {events = events} {out = out} {s = s} h k good long =
+    subst (Released (policyOf reading file) events out) (code-runs h k) (releases reading file before (summarySaid s) (sym (h .said)) events out good long)
 
 -- The same for a controller in C. "The start state is { 0, 0, 0, 0, 0 }": these five numbers are `State::start()`.
 abbrev pub cStart : List ℕ
@@ -104,30 +105,32 @@ abbrev codeSummary : Summary → Given
 codeSummary s = record { verdict = s .verdict; states = s .states; live = s .live }
 
 -- What the word of prepare holds is what prepare answers.
-prepare-read : {file before marks : List ℕ} {v : ℕ} → PrepareCall file before v marks → v % 256 ≡ 0 → (s : Summary) × (prepareOf file before ≡ gives s)
-prepare-read {file} {before} {v = v} h z =
+prepare-read : {reading : ℕ} {file before marks : List ℕ} {v : ℕ} → PrepareCall reading file before v marks → v % 256 ≡ 0 →
+    (s : Summary) × (prepareOf reading file before ≡ gives s)
+prepare-read {reading} {file} {before} {v = v} h z =
     let s : Summary = record { verdict = v / 256 % 256; states = v / 65536 % 16777216; live = v / 1099511627776 } in
     let e : summaryIn v ≡ gives s = rw z in
-    (s, sym (prepare-fields file before) ∙ ap summaryIn (sym (h .said)) ∙ e)
+    (s, sym (prepare-fields reading file before) ∙ ap summaryIn (sym (h .said)) ∙ e)
 
 -- groovepawn_prepare refused nothing, and groovepawn_run ran from there with those marks, over fewer than 2^56 events.
 pub c-releases :
-    {file before marks events out state written : List ℕ} {v r : ℕ} → PrepareCall file before v marks → v % 256 ≡ 0 →
-    RunCall file marks cStart events out r state written → all (eventGood file) events ≡ true → length events ≤ length out → length events < 2 ^ 56 →
-    Released (policyOf file) events out (runRead r state written)
+    {reading : ℕ} {file before marks events out state written : List ℕ} {v r : ℕ} → PrepareCall reading file before v marks → v % 256 ≡ 0 →
+    RunCall reading file marks cStart events out r state written →
+    all (eventGood reading file) events ≡ true → length events ≤ length out → length events < 2 ^ 56 →
+    Released (policyOf reading file) events out (runRead r state written)
 unfolding runState runOut
-c-releases {file} {before} {marks} {events} {out} {state} {written} {r = r} h z k good long few =
-    let p = policyOf file in
+c-releases {reading} {file} {before} {marks} {events} {out} {state} {written} {r = r} h z k good long few =
+    let p = policyOf reading file in
     let s = prepare-read h z in
-    let q = runOf file marks (stateIn cStart) events out in
-    let same : fromStart file before events out ≡ q =
-    from-start file before events out (s .0) (s .1) ∙ ap (λ (m : List ℕ). runOf file m (asPlace startState) events out) (sym (h .marks))
+    let q = runOf reading file marks (stateIn cStart) events out in
+    let same : fromStart reading file before events out ≡ q =
+    from-start reading file before events out (s .0) (s .1) ∙ ap (λ (m : List ℕ). runOf reading file m (asPlace startState) events out) (sym (h .marks))
     in
-    let a : Released p events out q = subst (Released p events out) same (releases file before (s .0) (s .1) events out good long) in
-    let f = run-fields file marks cStart events out in
+    let a : Released p events out q = subst (Released p events out) same (releases reading file before (s .0) (s .1) events out good long) in
+    let f = run-fields reading file marks cStart events out in
     let refusal : r % 256 ≡ q .refusal = ap (λ (n : ℕ). n % 256) (k .said) ∙ f .refusal in
     let count : r / 256 ≡ q .count = ap (λ (n : ℕ). n / 256) (k .said) ∙ f .whole few in
-    let ok = checked-file file (given-passed file before (s .0) (s .1)) in
+    let ok = well-formed reading file (given-passed reading file before (s .0) (s .1)) in
     let clocks : length (q .state .clocks) ≡ 4 =
     ap (λ (t : Place). length (t .clocks)) (a .state) ∙ four-long (a .place .clocks) (omega (arith, leads-inside p ok (a .leads) .clocks, ok .clocks))
     in
@@ -144,11 +147,11 @@ c-releases {file} {before} {marks} {events} {out} {state} {written} {r = r} h z 
     }
 
 -- The two halves in C, used tick after tick over the five numbers of one state: each returned a word without a refusal, its value above eight bits of 0.
-pub data CTicks (file marks : List ℕ) : List ℕ → (read released : Stream) → List ℕ → Type 0 where
-  c-none : {state : List ℕ} → CTicks file marks state [] [] state
+pub data CTicks (reading : ℕ) (file marks : List ℕ) : List ℕ → (read released : Stream) → List ℕ → Type 0 where
+  c-none : {state : List ℕ} → CTicks reading file marks state [] [] state
   c-more : {state next last : List ℕ} {e r : Event} {es rs : Stream} →
-      InputCall file marks state (e .x) (r .x * 256) → OutputCall file marks state (r .x) (e .y) (r .y * 256) next →
-      CTicks file marks next es rs last → CTicks file marks state (e ∷ es) (r ∷ rs) last
+      InputCall reading file marks state (e .x) (r .x * 256) → OutputCall reading file marks state (r .x) (e .y) (r .y * 256) next →
+      CTicks reading file marks next es rs last → CTicks reading file marks state (e ∷ es) (r ∷ rs) last
 
 -- The state in five numbers.
 abbrev pub cState : List ℕ → State
@@ -160,22 +163,22 @@ value-said v true a n e = let f = answer-fields v in (refl, rw (f .0, f .1) at e
 value-said v false a n e = let f = answer-fields v in let h : gives v ≡ refused n = rw (f .0, f .1) at e in let z : _≡_ {A = ℕ} 0 1 = cc in absurd (omega arith)
 
 -- Where the output half gives an output, the state that it hands back has four clock values.
-module _ (file marks : List ℕ) (s : Place) (x y : ℕ) {z : ℕ} where
-  output-four : outputOf file marks s x y .answer ≡ gives z → length (outputOf file marks s x y .state .clocks) ≡ 4
+module _ (reading : ℕ) (file marks : List ℕ) (s : Place) (x y : ℕ) {z : ℕ} where
+  output-four : outputOf reading file marks s x y .answer ≡ gives z → length (outputOf reading file marks s x y .state .clocks) ≡ 4
   unfolding outputOf outputRefusal outputTick moved
-  output-four = go (outputRefusal file marks s x y) refl (outputTick (policyOf file) marks (placeIn (policyOf file) s) x y) refl
+  output-four = go (outputRefusal reading file marks s x y) refl (outputTick (policyOf reading file) marks (placeIn (policyOf reading file) s) x y) refl
     where
       p : Policy
-      p = policyOf file
+      p = policyOf reading file
 
-      go : (n : ℕ) → outputRefusal file marks s x y ≡ n → (o : Option Tick) → outputTick p marks (placeIn p s) x y ≡ o →
+      go : (n : ℕ) → outputRefusal reading file marks s x y ≡ n → (o : Option Tick) → outputTick p marks (placeIn p s) x y ≡ o →
           outputFrom s (chosen n o) .answer ≡ gives z → length (outputFrom s (chosen n o) .state .clocks) ≡ 4
       go (suc n) e o q h = let f : _≡_ {A = ℕ} 0 1 = cc in absurd (omega arith)
       go zero e none q h = let f : _≡_ {A = ℕ} 0 1 = cc in absurd (omega arith)
       go zero e (some t) q h =
-          let a = none-refused (marksRefusal file marks) _ .0 e in
-          let ok = checked-file file (marks-granted file marks .0 (a .0) .0) in
-          let inside = state-ready file marks s (none-refused (stateRefusal file marks s) _ .0 (a .1) .0) .inside in
+          let a = none-refused (marksRefusal reading file marks) _ .0 e in
+          let ok = well-formed reading file (marks-granted reading file marks .0 (a .0) .0) in
+          let inside = state-ready reading file marks s (none-refused (stateRefusal reading file marks s) _ .0 (a .1) .0) .inside in
           let m = bind-eq-some-iff (outputChoice p marks (placeIn p s) x y) _ .0 q in
           let v = bind-eq-some-iff (step stopped p (placeIn p s) (record { x = x; y = m .0 })) _ .0 (m .2) in
           let there : Inside p (v .0) = of-some (Inside p) (v .1) (step-inside p (well-sound p ok) (placeIn p s) inside (record { x = x; y = m .0 })) in
@@ -183,24 +186,27 @@ module _ (file marks : List ℕ) (s : Place) (x y : ℕ) {z : ℕ} where
           four-long (t .place .clocks) (rw (← same) (omega (arith, there .clocks, ok .clocks)))
 
 -- They are the halves of the code, and so all that specs/Halves.antt says of those holds of them.
-pub c-ticks : {file marks state last : List ℕ} {es rs : Stream} → CTicks file marks state es rs last → Ticks file marks (cState state) es rs (cState last)
+pub c-ticks : {reading : ℕ} {file marks state last : List ℕ} {es rs : Stream} → CTicks reading file marks state es rs last →
+    Ticks reading file marks (cState state) es rs (cState last)
 unfolding outputState
 c-ticks c-none = ticks-none
-c-ticks {file} {marks} (c-more {state = state} {next = next} {e = e} {r = r} i o h) =
+c-ticks {reading} {file} {marks} (c-more {state = state} {next = next} {e = e} {r = r} i o h) =
     let s = stateIn state in
-    let input = value-said (r .x) (isState state) (inputOf file marks s (e .x)) _ (ap answerIn (i .said) ∙ input-fields file marks state (e .x)) in
-    let out = outputOf file marks s (r .x) (e .y) in
-    let output = value-said (r .y) (isState state) (out .answer) _ (ap answerIn (o .said) ∙ output-fields file marks state (r .x) (e .y)) in
+    let input =
+    value-said (r .x) (isState state) (inputOf reading file marks s (e .x)) _ (ap answerIn (i .said) ∙ input-fields reading file marks state (e .x))
+    in
+    let out = outputOf reading file marks s (r .x) (e .y) in
+    let output = value-said (r .y) (isState state) (out .answer) _ (ap answerIn (o .said) ∙ output-fields reading file marks state (r .x) (e .y)) in
     let moved : next ≡ stateWords (out .state) = o .next ∙ ap (λ (t : Bool). cond t (stateWords (out .state)) state) (output .0) in
-    let there : stateIn next ≡ out .state = ap stateIn moved ∙ words-in (out .state) (output-four file marks s (r .x) (e .y) (sym (output .1))) in
+    let there : stateIn next ≡ out .state = ap stateIn moved ∙ words-in (out .state) (output-four reading file marks s (r .x) (e .y) (sym (output .1))) in
     ticks-more (record { said = input .1 })
     (record { said = ap₂ (λ (a : Answer ℕ) (t : Place). record { answer = a; state = t }) (output .1) there }) (c-ticks h)
 
 -- From { 0, 0, 0, 0, 0 }, after groovepawn_prepare refused nothing: demand 2's stream, and the five numbers are the state that it leads to.
 pub c-ticks-release :
-    {file before marks last : List ℕ} {v : ℕ} {es rs : Stream} → PrepareCall file before v marks → v % 256 ≡ 0 →
-    CTicks file marks cStart es rs last → TicksReleased (policyOf file) es rs (cState last)
-c-ticks-release {file} {before} h z k =
+    {reading : ℕ} {file before marks last : List ℕ} {v : ℕ} {es rs : Stream} → PrepareCall reading file before v marks → v % 256 ≡ 0 →
+    CTicks reading file marks cStart es rs last → TicksReleased (policyOf reading file) es rs (cState last)
+c-ticks-release {reading} {file} {before} h z k =
     let s = prepare-read h z in ticks-release {s = codeSummary (s .0)} (record { said = sym (s .1); marks = h .marks }) (c-ticks k)
 
 -- "Wherever the joins named are made": what join's code wrote is a join that was made, and so is what groovepawn_join wrote.
@@ -218,62 +224,64 @@ c-joined {a} {b} {before} {r = r} h z =
     }
 
 -- So demand 3 speaks of the files that the code wrote: "the join permits exactly the streams that all its parts permit", and "rests only where all
--- parts rest together",
+-- parts rest together", read under one reading,
 pub code-permits :
-    {a b before after : List ℕ} {n : ℕ} → JoinPromise a b before (Code.Length n) after →
-    Permits (policyOf (take n after)) ≋ Permits (policyOf a) ∩ Permits (policyOf b)
-code-permits h = permits-exactly (code-joined h)
+    (reading : ℕ) {a b before after : List ℕ} {n : ℕ} → JoinPromise a b before (Code.Length n) after →
+    Permits (policyOf reading (take n after)) ≋ Permits (policyOf reading a) ∩ Permits (policyOf reading b)
+code-permits reading h = permits-exactly reading (code-joined h)
 
--- "A with B or B with A",
-pub code-order :
-    {a b x f y g : List ℕ} {n m : ℕ} → JoinPromise a b x (Code.Length n) f → JoinPromise b a y (Code.Length m) g → Alike (take n f) (take m g)
-code-order j k = order (code-joined j) (code-joined k)
+module _ (reading : ℕ) (named : readingRefusal reading ≡ 0) where
+  -- "A with B or B with A",
+  pub code-order :
+      {a b x f y g : List ℕ} {n m : ℕ} → JoinPromise a b x (Code.Length n) f → JoinPromise b a y (Code.Length m) g → Alike reading (take n f) (take m g)
+  code-order j k = order reading named (code-joined j) (code-joined k)
 
--- "grouped either way with C",
-pub code-grouping :
-    {a b c w f x h y g z k : List ℕ} {n m i j : ℕ} →
-    JoinPromise a b w (Code.Length n) f → JoinPromise (take n f) c x (Code.Length m) h →
-    JoinPromise b c y (Code.Length i) g → JoinPromise a (take i g) z (Code.Length j) k → Alike (take m h) (take j k)
-code-grouping s t u v = grouping (code-joined s) (code-joined t) (code-joined u) (code-joined v)
+  -- "grouped either way with C",
+  pub code-grouping :
+      {a b c w f x h y g z k : List ℕ} {n m i j : ℕ} →
+      JoinPromise a b w (Code.Length n) f → JoinPromise (take n f) c x (Code.Length m) h →
+      JoinPromise b c y (Code.Length i) g → JoinPromise a (take i g) z (Code.Length j) k → Alike reading (take m h) (take j k)
+  code-grouping s t u v = grouping reading named (code-joined s) (code-joined t) (code-joined u) (code-joined v)
 
--- "A with itself", "A with the policy that permits all".
-pub code-repetition : {a x f : List ℕ} {n : ℕ} → JoinPromise a a x (Code.Length n) f → Alike (take n f) a
-code-repetition j = repetition (code-joined j)
+  -- "A with itself", "A with the policy that permits all".
+  pub code-repetition : {a x f : List ℕ} {n : ℕ} → JoinPromise a a x (Code.Length n) f → Alike reading (take n f) a
+  code-repetition j = repetition reading named (code-joined j)
 
-pub code-unit : {a x f : List ℕ} {n : ℕ} → JoinPromise a (permitsAll a) x (Code.Length n) f → Alike (take n f) a
-code-unit j = unit-law (code-joined j)
+  pub code-unit : {a x f : List ℕ} {n : ℕ} → JoinPromise a (permitsAll a) x (Code.Length n) f → Alike reading (take n f) a
+  code-unit j = unit-law reading named (code-joined j)
 
 -- "hopeless together, or the same released stream for every event stream", of the code: what prepare's code said of two files that are alike, with slices
 -- for the marks that are long enough, and what run's code then released from `State::start()` with the marks m and n that it wrote.
-pub record SameRuns (f g events out : List ℕ) (a : Ran) (after : List ℕ) (b : Ran) (also : List ℕ) : Type 0 where
+pub record SameRuns (reading : ℕ) (f g events out : List ℕ) (a : Ran) (after : List ℕ) (b : Ran) (also : List ℕ) : Type 0 where
   pub released : Stream
-  pub first : ReleasedFor (policyOf f) events released
-  pub second : ReleasedFor (policyOf g) events released
+  pub first : ReleasedFor (policyOf reading f) events released
+  pub second : ReleasedFor (policyOf reading g) events released
   pub refusals : (a .refusal ≡ 0) × (b .refusal ≡ 0)
   pub counts : (a .count ≡ length events) × (b .count ≡ length events)
   pub written : (after ≡ map byteOf released ++ drop (length events) out) × (also ≡ after)
 
-pub record SameGiven (f m g n : List ℕ) (r q : Prepared) : Type 0 where
+pub record SameGiven (reading : ℕ) (f m g n : List ℕ) (r q : Prepared) : Type 0 where
   pub first : (s : Given) × (r ≡ Prepared.Gives s)
   pub second : (s : Given) × (q ≡ Prepared.Gives s)
   pub runs :
-      (events out after also : List ℕ) (a b : Ran) → all (eventGood f) events ≡ true → length events ≤ length out →
-      RunPromise f m startState events out a after → RunPromise g n startState events out b also → SameRuns f g events out a after b also
+      (events out after also : List ℕ) (a b : Ran) → all (eventGood reading f) events ≡ true → length events ≤ length out →
+      RunPromise reading f m startState events out a after → RunPromise reading g n startState events out b also →
+      SameRuns reading f g events out a after b also
 
 pub code-alike :
-    {f x m g y n : List ℕ} {r q : Prepared} → Alike f g → PreparePromise f x r m → PreparePromise g y q n →
-    states (policyOf f) ≤ length x → states (policyOf g) ≤ length y →
-    ((r ≡ Prepared.Refused 11) × (q ≡ Prepared.Refused 11)) ⊎ SameGiven f m g n r q
-code-alike {f} {x} {m} {g} {y} {n} {r} {q} alike h k l o =
+    {reading : ℕ} {f x m g y n : List ℕ} {r q : Prepared} → Alike reading f g → PreparePromise reading f x r m → PreparePromise reading g y q n →
+    states (policyOf reading f) ≤ length x → states (policyOf reading g) ≤ length y →
+    ((r ≡ Prepared.Refused 11) × (q ≡ Prepared.Refused 11)) ⊎ SameGiven reading f m g n r q
+code-alike {reading} {f} {x} {m} {g} {y} {n} {r} {q} alike h k l o =
     ⊎-elim
     (λ d. inl (prepared-one r (Prepared.Refused 11) (h .said ∙ d .0), prepared-one q (Prepared.Refused 11) (k .said ∙ d .1)))
     (λ d.
-    let s : Given = codeSummary (summaryOf (policyOf f)) in
-    let t : Given = codeSummary (summaryOf (policyOf g)) in
+    let s : Given = codeSummary (summaryOf (policyOf reading f)) in
+    let t : Given = codeSummary (summaryOf (policyOf reading g)) in
     let i : r ≡ Prepared.Gives s = prepared-one r (Prepared.Gives s) (h .said ∙ d .0) in
     let j : q ≡ Prepared.Gives t = prepared-one q (Prepared.Gives t) (k .said ∙ d .1) in
-    let of-f = subst (λ (z : Prepared). PreparePromise f x z m) i h in
-    let of-g = subst (λ (z : Prepared). PreparePromise g y z n) j k in
+    let of-f = subst (λ (z : Prepared). PreparePromise reading f x z m) i h in
+    let of-g = subst (λ (z : Prepared). PreparePromise reading g y z n) j k in
     inr (record {
       first = (s, i);
       second = (t, j);
@@ -285,7 +293,7 @@ code-alike {f} {x} {m} {g} {y} {n} {r} {q} alike h k l o =
           record {
             released = c .first .released;
             first = c .first .enforced;
-            second = subst (ReleasedFor (policyOf g) events) (sym (c .stream)) (c .second .enforced);
+            second = subst (ReleasedFor (policyOf reading g) events) (sym (c .stream)) (c .second .enforced);
             refusals = (ap (λ (z : RunAnswer). z .refusal) (sym one) ∙ c .first .refusal, ap (λ (z : RunAnswer). z .refusal) (sym two) ∙ c .second .refusal);
             counts = (ap (λ (z : RunAnswer). z .count) (sym one) ∙ c .first .count, ap (λ (z : RunAnswer). z .count) (sym two) ∙ c .second .count);
             written = (

@@ -6,16 +6,23 @@ use mathlib.Core.Option.{bind}
 use Prim.Native.Nat.{ℕ, _≤_}
 use native.Mathlib.Omega.{arith}
 use lib.ListN.{length}
+use borrow.Author.Tests.{ne-eqb}
+use Rattle.streams.specs.Answer.{Answer, refused, gives, unless, answer}
 use Rattle.streams.specs.Choose.{any}
-use Rattle.policy.specs.Rules.{step, decides, fires, hold, within, taken, advance}
+use Rattle.policy.specs.Rules.{Place, step, decides, fires, hold, within, tested, taken, advance}
 use Rattle.policy.specs.Number.{statesOf, numberFrom, locationFrom, clocksFrom}
 use Rattle.policy.specs.File.{policyOf, outputsAt, clocksAt, locationsAt, rulesAt, rulesStart, rulesEnd, pairsFrom, rulesFrom, ruleFrom, boundsFrom}
-use Rattle.policy.specs.Check.{refusalOf, inputsRefusal, outputsRefusal, clocksRefusal, locationsRefusal, rulesSectionRefusal, sectionRefusal, tagsGood, among, all, rulesRefusal, ruleRefusal, headGood, maskGood, boundsGood, boundGood}
+use Rattle.policy.specs.Check.{readingRefusal, refusalUnder, under-none, refusalOf, inputsRefusal, outputsRefusal, clocksRefusal, locationsRefusal, rulesSectionRefusal, sectionRefusal, tagsGood, among, all, rulesRefusal, ruleRefusal, headGood, maskGood, boundsGood, boundGood}
+use Rattle.enforcer.specs.State.{isMarked}
 use Rattle.enforcer.specs.Tick.{mayStand, reaches}
+use Rattle.enforcer.specs.Entries.{marksRefusal, inputRefusal, inputOf, outputRefusal, outputOf, runRefusal, runOf}
 use Rattle.enforcer.specs.States.{marks-granted}
 use Rattle.resting.specs.Table.{roundsBy, roundBy, tab}
 use Rattle.policy.specs.Rules as Rules
 use Rattle.resting.specs.Keeps.{keeps, leadsTo, stays, someEvent}
+use Rattle.prepare.specs.Table.{marksOf}
+use Rattle.prepare.specs.Entry.{summaryOf, prepareOf, preparedMarks}
+use Rattle.prepare.specs.Entry as Entry
 use Rattle.prepare.specs.Promise.{prepared-one, said-past}
 -- The check of a file.
 pub use Rattle.policy.specs.Layout.{CheckPromise, check-one}
@@ -49,31 +56,68 @@ use Rattle.prepare.specs.declared.Summary.{Summary}
 use Rattle.prepare.specs.declared.Prepared.{Prepared}
 use Rattle.prepare.specs.declared.Prepared.the-variants as Prepared
 use Rattle.tender.specs.Samples.{S, T}
+use Rattle.tender.specs.Granted.{each-reading}
 
--- Into a slice that is long enough, T has one answer: the marked case "T: 2 states, 1 live, verdict 1".
-pub T-answer : {before after : List ℕ} {r : Prepared} →
-    PreparePromise T before r after → 2 ≤ length before → r ≡ Prepared.Gives (record { verdict = 1; states = 2; live = 1 })
-unfolding
-    refusalOf inputsRefusal outputsRefusal clocksRefusal locationsRefusal rulesSectionRefusal sectionRefusal tagsGood among all rulesRefusal ruleRefusal
-    headGood maskGood boundsGood boundGood policyOf outputsAt clocksAt locationsAt rulesAt rulesStart rulesEnd pairsFrom rulesFrom ruleFrom boundsFrom
-    statesOf numberFrom locationFrom clocksFrom mayStand reaches step decides fires hold within taken advance bind any roundsBy roundBy keeps leadsTo stays someEvent Rules.rests tab
-T-answer {before} {r = r} h long = prepared-one r _ (h .said ∙ said-past T before (marks-granted T before .1 (refl, long)))
+-- "Callers name reading 1 or 2." "22 for any other number, before all else": whatever else they are given, prepare, the halves and the run answer 22,
+-- and nothing is written or moved.
+module _ (reading : ℕ) (not-one : ¬ (reading ≡ 1)) (not-two : ¬ (reading ≡ 2)) (file marks : List ℕ) where
+  first-22 : marksRefusal reading file marks ≡ 22
+  unfolding marksRefusal refusalUnder readingRefusal
+  first-22 = rw (ne-eqb reading 1 not-one, ne-eqb reading 2 not-two)
 
--- "one inventing the number of live states": whatever it says of T but the right numbers, it breaks the promise.
-pub not-inventing : {before after : List ℕ} {s : Summary} →
-    PreparePromise T before (Prepared.Gives s) after → 2 ≤ length before → (s .live ≡ 1) × (s .states ≡ 2) × (s .verdict ≡ 1)
-not-inventing h long = let e = T-answer h long in (cc, cc, cc)
+  pub prepare-22 : (prepareOf reading file marks ≡ refused 22) × (preparedMarks reading file marks ≡ marks)
+  unfolding prepareOf preparedMarks
+  prepare-22 = (rw first-22, rw first-22)
 
--- Into a slice that is long enough, S has one answer: the marked case "S: 1 state, 1 live, verdict 0".
-pub S-answer : {before after : List ℕ} {r : Prepared} →
-    PreparePromise S before r after → 1 ≤ length before → r ≡ Prepared.Gives (record { verdict = 0; states = 1; live = 1 })
-unfolding
-    refusalOf inputsRefusal outputsRefusal clocksRefusal locationsRefusal rulesSectionRefusal sectionRefusal tagsGood among all rulesRefusal ruleRefusal
-    headGood maskGood boundsGood boundGood policyOf outputsAt clocksAt locationsAt rulesAt rulesStart rulesEnd pairsFrom rulesFrom ruleFrom boundsFrom
-    statesOf numberFrom locationFrom clocksFrom mayStand reaches step decides fires hold within taken advance bind any roundsBy roundBy keeps leadsTo stays someEvent
-    Rules.rests tab
-S-answer {before} {r = r} h long = prepared-one r _ (h .said ∙ said-past S before (marks-granted S before .1 (refl, long)))
+  module _ (s : Place) where
+    pub input-22 : (x : ℕ) → inputOf reading file marks s x ≡ refused 22
+    unfolding inputOf inputRefusal
+    input-22 x = rw first-22
 
--- "one refusing always": a prepare that refuses S, by whatever number, breaks the promise.
-pub not-refusing : {before after : List ℕ} {n : ℕ} → PreparePromise S before (Prepared.Refused n) after → ¬ (1 ≤ length before)
-not-refusing h long = let e = S-answer h long in let z : _≡_ {A = ℕ} 0 1 = cc in omega arith
+    pub output-22 : (x y : ℕ) → outputOf reading file marks s x y ≡ record { answer = refused 22; state = s }
+    unfolding outputOf outputRefusal
+    output-22 x y = rw first-22
+
+    pub run-22 : (events out : List ℕ) → runOf reading file marks s events out ≡ record { refusal = 22; count = 0; state = s; out = out }
+    unfolding runOf runRefusal
+    run-22 events out = rw first-22
+
+-- Past 22 and 1 to 10, what is left for prepare to answer of a file under a reading.
+abbrev left : ℕ → List ℕ → Answer Entry.Summary
+left reading file = answer (unless (isMarked (marksOf (policyOf reading file)) 0) 11) (summaryOf (policyOf reading file))
+
+module _ {reading : ℕ} (named : readingRefusal reading ≡ 0) {before after : List ℕ} where
+  -- Under each reading, into a slice that is long enough, T has one answer: the marked case "T: 2 states, 1 live, verdict 1".
+  pub T-answer : {r : Prepared} →
+      PreparePromise reading T before r after → 2 ≤ length before → r ≡ Prepared.Gives (record { verdict = 1; states = 2; live = 1 })
+  unfolding
+      refusalOf inputsRefusal outputsRefusal clocksRefusal locationsRefusal rulesSectionRefusal sectionRefusal tagsGood among all rulesRefusal
+      ruleRefusal headGood maskGood boundsGood boundGood policyOf outputsAt clocksAt locationsAt rulesAt rulesStart rulesEnd pairsFrom rulesFrom
+      ruleFrom boundsFrom statesOf numberFrom locationFrom clocksFrom mayStand reaches step decides fires hold within tested taken advance bind any
+      roundsBy roundBy keeps leadsTo stays someEvent Rules.rests tab
+  T-answer {r} h long =
+      prepared-one r _
+      (h .said ∙ said-past reading T before (marks-granted reading T before .1 (under-none reading T .1 (named, refl), long))
+      ∙ each-reading (λ n. left n T ≡ gives (record { verdict = 1; states = 2; live = 1 })) refl refl reading named)
+
+  -- "one inventing the number of live states": whatever it says of T but the right numbers, it breaks the promise.
+  pub not-inventing : {s : Summary} →
+      PreparePromise reading T before (Prepared.Gives s) after → 2 ≤ length before → (s .live ≡ 1) × (s .states ≡ 2) × (s .verdict ≡ 1)
+  not-inventing h long = let e = T-answer h long in (cc, cc, cc)
+
+  -- Into a slice that is long enough, S has one answer: the marked case "S: 1 state, 1 live, verdict 0".
+  pub S-answer : {r : Prepared} →
+      PreparePromise reading S before r after → 1 ≤ length before → r ≡ Prepared.Gives (record { verdict = 0; states = 1; live = 1 })
+  unfolding
+      refusalOf inputsRefusal outputsRefusal clocksRefusal locationsRefusal rulesSectionRefusal sectionRefusal tagsGood among all rulesRefusal
+      ruleRefusal headGood maskGood boundsGood boundGood policyOf outputsAt clocksAt locationsAt rulesAt rulesStart rulesEnd pairsFrom rulesFrom
+      ruleFrom boundsFrom statesOf numberFrom locationFrom clocksFrom mayStand reaches step decides fires hold within tested taken advance bind any
+      roundsBy roundBy keeps leadsTo stays someEvent Rules.rests tab
+  S-answer {r} h long =
+      prepared-one r _
+      (h .said ∙ said-past reading S before (marks-granted reading S before .1 (under-none reading S .1 (named, refl), long))
+      ∙ each-reading (λ n. left n S ≡ gives (record { verdict = 0; states = 1; live = 1 })) refl refl reading named)
+
+  -- "one refusing always": a prepare that refuses S, by whatever number, breaks the promise.
+  pub not-refusing : {n : ℕ} → PreparePromise reading S before (Prepared.Refused n) after → ¬ (1 ≤ length before)
+  not-refusing h long = let e = S-answer h long in let z : _≡_ {A = ℕ} 0 1 = cc in omega arith

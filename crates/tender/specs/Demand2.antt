@@ -1,5 +1,6 @@
 -- Demand 2, over the definitions of the entries. "Over clocks that count without limit" is `Permits`, "go on for ever" is `GoesOn`, and what is
--- released for an event stream is `Enforced`: none of them knows a mark, a stopped clock or a byte. Over the promises of the code: specs/Code.antt.
+-- released for an event stream is `Enforced`: none of them knows a mark, a stopped clock or a byte. It holds "for each reading":
+-- the caller names it, and the policy carries it. Over the promises of the code: specs/Code.antt.
 use mathlib.Core.Path.{_≡_, refl, sym, ap, subst, _∙_}
 use mathlib.Core.Bool.{true, and-eq-true-iff, true≢false}
 use mathlib.Core.List.{List, [], _∷_, _++_, map}
@@ -19,8 +20,8 @@ use Rattle.streams.specs.Published.{instantaneity}
 use Rattle.policy.specs.Rules.{Policy, Place, start, Permits}
 use Rattle.policy.specs.Number.{states}
 use Rattle.policy.specs.File.{policyOf, outputsAt}
-use Rattle.policy.specs.Check.{refusalOf, all}
-use Rattle.policy.specs.Checked.{checked-file, well-sound}
+use Rattle.policy.specs.Check.{refusalUnder, all}
+use Rattle.policy.specs.Checked.{well-sound}
 use Rattle.enforcer.specs.State.{placeIn, stateOf}
 use Rattle.enforcer.specs.Tick.{inputChoice, ran}
 use Rattle.enforcer.specs.Entries.{eventOf, byteOf, chosen, outputFrom, RunAnswer, runFrom, marksRefusal, xGood, yGood, eventGood, inputOf, outputOf, runOf}
@@ -30,37 +31,39 @@ use Rattle.prepare.specs.Entry.{Summary, summaryOf, prepareOf, preparedMarks}
 use Rattle.prepare.specs.Enforces.{EnforcedBy, Leads, leads-start, leads-one, leads-ready, ticked, ticked-ready, tick-found, input-stands, output-ticked, ran-on, ran-stuck, input-found, never-stuck, ran-enforces}
 use Rattle.tender.specs.Samples.{S, T}
 use Rattle.tender.specs.Cases
-use Rattle.tender.specs.Granted.{prepared-marks, prepared-granted, judged, given-passed, given-long, given-goes-on, state-ready, entryRefusal, input-answer, output-answer, run-answer, run-ready}
+use Rattle.tender.specs.Granted.{well-formed, prepared-marks, prepared-granted, judged, given-passed, given-long, given-goes-on, state-ready, entryRefusal, input-answer, output-answer, run-answer, run-ready}
 
--- For a file that passes the check and a slice for the marks that is long enough.
-module _ (file marks : List ℕ) (passed : refusalOf file ≡ 0) (long : states (policyOf file) ≤ length marks) where
+-- For a reading, a file that passes under it and a slice for the marks that is long enough.
+module _ (reading : ℕ) (file marks : List ℕ) (passed : refusalUnder reading file ≡ 0) (long : states (policyOf reading file) ≤ length marks) where
   -- "a policy is refused as hopeless exactly if" it is: "hopeless means that the start is not live".
-  pub hopeless-exactly : (prepareOf file marks ≡ refused 11) ↔ Hopeless (Permits (policyOf file))
+  pub hopeless-exactly : (prepareOf reading file marks ≡ refused 11) ↔ Hopeless (Permits (policyOf reading file))
   hopeless-exactly =
       ⊎-elim (λ h. (λ e. h .0, λ d. h .1))
-      (λ g. (λ e. let z : _≡_ {A = ℕ} 0 1 = cc in absurd (omega arith), λ d. absurd (not-both (Permits (policyOf file)) [] (g .0) d)))
-      (judged file marks passed long)
+      (λ g. (λ e. let z : _≡_ {A = ℕ} 0 1 = cc in absurd (omega arith), λ d. absurd (not-both (Permits (policyOf reading file)) [] (g .0) d)))
+      (judged reading file marks passed long)
 
   -- "Otherwise" prepare gives the summary.
-  pub prepared-otherwise : (¬ Hopeless (Permits (policyOf file))) ↔ (prepareOf file marks ≡ gives (summaryOf (policyOf file)))
+  pub prepared-otherwise : (¬ Hopeless (Permits (policyOf reading file))) ↔ (prepareOf reading file marks ≡ gives (summaryOf (policyOf reading file)))
   prepared-otherwise =
       ⊎-elim (λ h. (λ n. absurd (n (h .0)), λ e. let z : _≡_ {A = ℕ} 0 1 = cc in absurd (omega arith)))
-      (λ g. (λ n. g .1, λ e. not-both (Permits (policyOf file)) [] (g .0))) (judged file marks passed long)
+      (λ g. (λ n. g .1, λ e. not-both (Permits (policyOf reading file)) [] (g .0))) (judged reading file marks passed long)
 
   -- "With the marks of prepare and a live state, run and the input half never give 17." A state that is not live they refuse by 16.
-  pub input-never-17 : (s : Place) (x : ℕ) → ¬ (inputOf file (preparedMarks file marks) s x ≡ refused 17)
+  pub input-never-17 : (s : Place) (x : ℕ) → ¬ (inputOf reading file (preparedMarks reading file marks) s x ≡ refused 17)
   input-never-17 s x e =
-      let M = preparedMarks file marks in
-      let k = input-17 file M s x e in
-      let z = input-found (policyOf file) (checked-file file passed) M (prepared-marks file marks passed long) (state-ready file M s (k .0)) x in
+      let M = preparedMarks reading file marks in
+      let k = input-17 reading file M s x e in
+      let by = prepared-marks reading file marks passed long in
+      let z = input-found (policyOf reading file) (well-formed reading file passed) M by (state-ready reading file M s (k .0)) x in
       Option·none-ne-some (z .0) (sym (k .1) ∙ z .1)
 
-  pub run-never-17 : (s : Place) (events out : List ℕ) → ¬ (runOf file (preparedMarks file marks) s events out .refusal ≡ 17)
+  pub run-never-17 : (s : Place) (events out : List ℕ) → ¬ (runOf reading file (preparedMarks reading file marks) s events out .refusal ≡ 17)
   run-never-17 s events out e =
-      let M = preparedMarks file marks in
-      let k = run-17 file M s events out e in
-      let by = prepared-marks file marks passed long in
-      true≢false (sym (k .1) ∙ never-stuck (policyOf file) (checked-file file passed) M by (state-ready file M s (k .0)) (map eventOf events))
+      let M = preparedMarks reading file marks in
+      let k = run-17 reading file M s events out e in
+      let by = prepared-marks reading file marks passed long in
+      let ready = state-ready reading file M s (k .0) in
+      true≢false (sym (k .1) ∙ never-stuck (policyOf reading file) (well-formed reading file passed) M by ready (map eventOf events))
 
 -- What is to be released for the bytes `events`, read from the start on.
 abbrev pub ReleasedFor : Policy → List ℕ → Stream → Type 0
@@ -83,31 +86,31 @@ pub record Released (p : Policy) (events before : List ℕ) (r : RunAnswer) : Ty
   pub leads : Leads p released place
   pub state : r .state ≡ stateOf place
 
--- A run takes a file, marks, a state, events, and a slice for the released ones.
+-- A run takes a reading, a file, marks, a state, events, and a slice for the released ones.
 abbrev pub Run : Type 0
-Run = (file marks : List ℕ) → Place → (events out : List ℕ) → RunAnswer
+Run = (reading : ℕ) (file marks : List ℕ) → Place → (events out : List ℕ) → RunAnswer
 
 -- Demand 2 of a run: where prepare gives a summary, all events within the signals are answered so, from the start and with the marks of prepare, into
 -- every slice that holds as many.
 abbrev pub Right : Run → Type 0
 Right run =
-    (file marks : List ℕ) (s : Summary) → prepareOf file marks ≡ gives s →
-    (events out : List ℕ) → all (eventGood file) events ≡ true → length events ≤ length out →
-    Released (policyOf file) events out (run file (preparedMarks file marks) (stateOf (start (policyOf file))) events out)
+    (reading : ℕ) (file marks : List ℕ) (s : Summary) → prepareOf reading file marks ≡ gives s →
+    (events out : List ℕ) → all (eventGood reading file) events ≡ true → length events ≤ length out →
+    Released (policyOf reading file) events out (run reading file (preparedMarks reading file marks) (stateOf (start (policyOf reading file))) events out)
 
 pub releases : Right runOf
-releases file marks s e events out good long =
-    let p = policyOf file in
-    let M = preparedMarks file marks in
-    let passed = given-passed file marks s e in
-    let enough = given-long file marks s e in
-    let g = given-goes-on file marks s e in
-    let ok = checked-file file passed in
-    let by = prepared-marks file marks passed enough in
+releases reading file marks s e events out good long =
+    let p = policyOf reading file in
+    let M = preparedMarks reading file marks in
+    let passed = given-passed reading file marks s e in
+    let enough = given-long reading file marks s e in
+    let g = given-goes-on reading file marks s e in
+    let ok = well-formed reading file passed in
+    let by = prepared-marks reading file marks passed enough in
     let r = ran-enforces p ok M by (leads-start p) g (map eventOf events) in
     let n = as-many p events (r .enforced) in
     let ready = leads-ready p ok M by (leads-start p) g in
-    subst (Released p events out) (sym (run-ready file M (prepared-granted file marks passed enough) (start p) ready events out long good))
+    subst (Released p events out) (sym (run-ready reading file M (prepared-granted reading file marks passed enough) (start p) ready events out long good))
     (record {
       released = ran p M (start p) (map eventOf events) .released;
       enforced = r .enforced;
@@ -131,34 +134,35 @@ released-one {p} {events} {before} {r} {q} a b =
     λ i. record { refusal = refusal i; count = count i; state = state i; out = out i }
 
 -- A run from the start, with the marks of prepare.
-abbrev pub fromStart : (file marks events out : List ℕ) → RunAnswer
-fromStart file marks events out = runOf file (preparedMarks file marks) (stateOf (start (policyOf file))) events out
+abbrev pub fromStart : (reading : ℕ) (file marks events out : List ℕ) → RunAnswer
+fromStart reading file marks events out = runOf reading file (preparedMarks reading file marks) (stateOf (start (policyOf reading file))) events out
 
-module _ (file marks : List ℕ) (s : Summary) (e : prepareOf file marks ≡ gives s)
-    (events out : List ℕ) (good : all (eventGood file) events ≡ true) (long : length events ≤ length out) where
+module _ (reading : ℕ) (file marks : List ℕ) (s : Summary) (e : prepareOf reading file marks ≡ gives s)
+    (events out : List ℕ) (good : all (eventGood reading file) events ≡ true) (long : length events ≤ length out) where
   -- Whatever is to be released is what the run writes.
   pub releases-only :
-      (rs : Stream) → ReleasedFor (policyOf file) events rs →
-      fromStart file marks events out .out ≡ map byteOf rs ++ drop (length events) out
+      (rs : Stream) → ReleasedFor (policyOf reading file) events rs →
+      fromStart reading file marks events out .out ≡ map byteOf rs ++ drop (length events) out
   releases-only rs h =
-      let r = releases file marks s e events out good long in
-      r .out ∙ ap (λ (w : Stream). map byteOf w ++ drop (length events) out) (enforced-one corrections _ _ (Permits (policyOf file)) (r .enforced) h)
+      let r = releases reading file marks s e events out good long in
+      r .out
+      ∙ ap (λ (w : Stream). map byteOf w ++ drop (length events) out) (enforced-one corrections _ _ (Permits (policyOf reading file)) (r .enforced) h)
 
   -- "A released stream enforced again from the start comes back unchanged", in any slice, and ends in the same state.
   pub comes-back :
       (again : List ℕ) → length events ≤ length again →
-      let released = take (length events) (fromStart file marks events out .out) in
-      fromStart file marks released again
-      ≡ record { refusal = 0; count = length events; state = fromStart file marks events out .state; out = released ++ drop (length events) again }
+      let released = take (length events) (fromStart reading file marks events out .out) in
+      fromStart reading file marks released again
+      ≡ record { refusal = 0; count = length events; state = fromStart reading file marks events out .state; out = released ++ drop (length events) again }
   comes-back again room =
-      let p = policyOf file in
-      let ok = checked-file file (given-passed file marks s e) in
-      let r = releases file marks s e events out good long in
+      let p = policyOf reading file in
+      let ok = well-formed reading file (given-passed reading file marks s e) in
+      let r = releases reading file marks s e events out good long in
       let bytes = map byteOf (r .released) in
       let n : length bytes ≡ length events = length-map (r .released) byteOf ∙ as-many p events (r .enforced) in
-      let t : take (length events) (fromStart file marks events out .out) ≡ bytes = ap (take (length events)) (r .out) ∙ take-at bytes _ _ n in
+      let t : take (length events) (fromStart reading file marks events out .out) ≡ bytes = ap (take (length events)) (r .out) ∙ take-at bytes _ _ n in
       rw t
-      (released-one (releases file marks s e bytes again (fits-good file ok (r .leads .fits)) (rw n room))
+      (released-one (releases reading file marks s e bytes again (fits-good reading file ok (r .leads .fits)) (rw n room))
       (record {
         released = r .released;
         enforced = rw (events-back p ok (r .leads .fits)) (passes corrections _ _ (Permits p) (Permits p) (⊆-refl (Permits p)) (r .enforced));
@@ -177,67 +181,68 @@ after b r = record { refusal = r .refusal; count = suc (r .count); state = r .st
 -- One event b, of x = b % 16 and y = b / 16, by the two halves and by the run, whatever the marks and the state are: the run releases the input of the
 -- input half with the output of the output half, and ends in the state that the output half hands back. From there it goes on with the events that
 -- follow. That is one tick: a whole stream, tick after tick, is in specs/Halves.antt.
-pub record Agree (file marks : List ℕ) (s : Place) (b : ℕ) : Type 0 where
+pub record Agree (reading : ℕ) (file marks : List ℕ) (s : Place) (b : ℕ) : Type 0 where
   pub x : ℕ
   pub y : ℕ
-  pub input : inputOf file marks s (b % 16) ≡ gives x
-  pub output : outputOf file marks s x (b / 16) .answer ≡ gives y
+  pub input : inputOf reading file marks s (b % 16) ≡ gives x
+  pub output : outputOf reading file marks s x (b / 16) .answer ≡ gives y
   pub one :
       (o : ℕ) (out : List ℕ) →
-      runOf file marks s (b ∷ []) (o ∷ out)
-      ≡ record { refusal = 0; count = 1; state = outputOf file marks s x (b / 16) .state; out = byteOf (record { x = x; y = y }) ∷ out }
+      runOf reading file marks s (b ∷ []) (o ∷ out)
+      ≡ record { refusal = 0; count = 1; state = outputOf reading file marks s x (b / 16) .state; out = byteOf (record { x = x; y = y }) ∷ out }
   pub more :
-      (o : ℕ) (bs out : List ℕ) → all (eventGood file) bs ≡ true → length bs ≤ length out →
-      runOf file marks s (b ∷ bs) (o ∷ out)
-      ≡ after (byteOf (record { x = x; y = y })) (runOf file marks (outputOf file marks s x (b / 16) .state) bs out)
+      (o : ℕ) (bs out : List ℕ) → all (eventGood reading file) bs ≡ true → length bs ≤ length out →
+      runOf reading file marks s (b ∷ bs) (o ∷ out)
+      ≡ after (byteOf (record { x = x; y = y })) (runOf reading file marks (outputOf reading file marks s x (b / 16) .state) bs out)
 
 -- Or both are refused, by the same number.
-pub record Refuse (file marks : List ℕ) (s : Place) (b : ℕ) : Type 0 where
+pub record Refuse (reading : ℕ) (file marks : List ℕ) (s : Place) (b : ℕ) : Type 0 where
   pub number : ℕ
-  pub input : inputOf file marks s (b % 16) ≡ refused (suc number)
-  pub run : (o : ℕ) (out : List ℕ) → runOf file marks s (b ∷ []) (o ∷ out) .refusal ≡ suc number
+  pub input : inputOf reading file marks s (b % 16) ≡ refused (suc number)
+  pub run : (o : ℕ) (out : List ℕ) → runOf reading file marks s (b ∷ []) (o ∷ out) .refusal ≡ suc number
 
-module _ (file marks : List ℕ) (s : Place) (b : ℕ) (good : eventGood file b ≡ true) where
-  pub halves-agree : Agree file marks s b ⊎ Refuse file marks s b
+module _ (reading : ℕ) (file marks : List ℕ) (s : Place) (b : ℕ) (good : eventGood reading file b ≡ true) where
+  pub halves-agree : Agree reading file marks s b ⊎ Refuse reading file marks s b
   unfolding all ran
-  halves-agree = go (entryRefusal file marks s) refl (inputChoice (policyOf file) marks (placeIn (policyOf file) s) (b % 16)) refl
+  halves-agree = go (entryRefusal reading file marks s) refl (inputChoice (policyOf reading file) marks (placeIn (policyOf reading file) s) (b % 16)) refl
     where
       p : Policy
-      p = policyOf file
+      p = policyOf reading file
 
       t : Place
       t = placeIn p s
 
-      tests : (xGood file (b % 16) ≡ true) × (yGood file (b / 16) ≡ true)
-      tests = and-eq-true-iff (xGood file (b % 16)) (yGood file (b / 16)) .0 good
+      tests : (xGood reading file (b % 16) ≡ true) × (yGood reading file (b / 16) ≡ true)
+      tests = and-eq-true-iff (xGood reading file (b % 16)) (yGood reading file (b / 16)) .0 good
 
-      input : inputOf file marks s (b % 16) ≡ chosen (entryRefusal file marks s) (inputChoice p marks t (b % 16))
-      input = input-answer file marks s (b % 16) (tests .0)
+      input : inputOf reading file marks s (b % 16) ≡ chosen (entryRefusal reading file marks s) (inputChoice p marks t (b % 16))
+      input = input-answer reading file marks s (b % 16) (tests .0)
 
       run :
-          (o : ℕ) (bs out : List ℕ) → all (eventGood file) bs ≡ true → length bs ≤ length out →
-          runOf file marks s (b ∷ bs) (o ∷ out) ≡ runFrom s (o ∷ out) (entryRefusal file marks s) (ran p marks t (eventOf b ∷ map eventOf bs))
+          (o : ℕ) (bs out : List ℕ) → all (eventGood reading file) bs ≡ true → length bs ≤ length out →
+          runOf reading file marks s (b ∷ bs) (o ∷ out)
+          ≡ runFrom s (o ∷ out) (entryRefusal reading file marks s) (ran p marks t (eventOf b ∷ map eventOf bs))
       run o bs out g l =
-          run-answer file marks s (b ∷ bs) (o ∷ out) (omega arith)
-          (and-eq-true-iff (eventGood file b) (all (eventGood file) bs) .1 (good, g))
+          run-answer reading file marks s (b ∷ bs) (o ∷ out) (omega arith)
+          (and-eq-true-iff (eventGood reading file b) (all (eventGood reading file) bs) .1 (good, g))
 
       one :
           (o : ℕ) (out : List ℕ) →
-          runOf file marks s (b ∷ []) (o ∷ out) ≡ runFrom s (o ∷ out) (entryRefusal file marks s) (ran p marks t (eventOf b ∷ []))
+          runOf reading file marks s (b ∷ []) (o ∷ out) ≡ runFrom s (o ∷ out) (entryRefusal reading file marks s) (ran p marks t (eventOf b ∷ []))
       one o out = run o [] out refl (omega arith)
 
-      agree : entryRefusal file marks s ≡ 0 → (z : ℕ) → inputChoice p marks t (b % 16) ≡ some z → Agree file marks s b
+      agree : entryRefusal reading file marks s ≡ 0 → (z : ℕ) → inputChoice p marks t (b % 16) ≡ some z → Agree reading file marks s b
       agree d z k =
-          let granted = none-refused (marksRefusal file marks) _ .0 d in
+          let granted = none-refused (marksRefusal reading file marks) _ .0 d in
           let r = tick-found p marks t (eventOf b) z k in
           let w = ticked p marks t (eventOf b) (r .0) (r .1) in
           let x = r .0 .event .x in
-          let half : outputOf file marks s x (b / 16) ≡ outputFrom s (gives (r .0)) =
-          output-answer file marks s x (b / 16) (lt-ltb _ _ (input-stands p marks t (b % 16) x (w .input) .0)) (tests .1)
+          let half : outputOf reading file marks s x (b / 16) ≡ outputFrom s (gives (r .0)) =
+          output-answer reading file marks s x (b / 16) (lt-ltb _ _ (input-stands p marks t (b % 16) x (w .input) .0)) (tests .1)
           ∙ rw (d, output-ticked p marks t (eventOf b) (r .0) w)
           in
-          let ok = checked-file file (marks-granted file marks .0 (granted .0) .0) in
-          let ready = ticked-ready p marks t (eventOf b) (r .0) (well-sound p ok) (state-ready file marks s (granted .1) .inside) w in
+          let ok = well-formed reading file (marks-granted reading file marks .0 (granted .0) .0) in
+          let ready = ticked-ready p marks t (eventOf b) (r .0) (well-sound p ok) (state-ready reading file marks s (granted .1) .inside) w in
           record {
             x = x;
             y = r .0 .event .y;
@@ -251,11 +256,13 @@ module _ (file marks : List ℕ) (s : Place) (b : ℕ) (good : eventGood file b 
                   run o bs out g l,
                   d,
                   ran-on p marks t (eventOf b) (map eventOf bs) (r .0) (r .1),
-                  run-ready file marks (granted .0) (r .0 .place) ready bs out l g,
+                  run-ready reading file marks (granted .0) (r .0 .place) ready bs out l g,
                 );
           }
 
-      go : (c : ℕ) → entryRefusal file marks s ≡ c → (o : Option ℕ) → inputChoice p marks t (b % 16) ≡ o → Agree file marks s b ⊎ Refuse file marks s b
+      go :
+          (c : ℕ) → entryRefusal reading file marks s ≡ c → (o : Option ℕ) → inputChoice p marks t (b % 16) ≡ o →
+          Agree reading file marks s b ⊎ Refuse reading file marks s b
       go (suc n) d o k = inr (record { number = n; input = rw (input, d); run = λ o out. rw (one o out, d) })
       go zero d none k =
           inr (record { number = 16; input = rw (input, d, k); run = λ o out. rw (one o out, d, ran-stuck p marks t (eventOf b) [] k) })
@@ -264,31 +271,31 @@ module _ (file marks : List ℕ) (s : Place) (b : ℕ) (good : eventGood file b 
   -- So the run refuses by 17 exactly if the input half does, and by any other number likewise.
   pub refused-alike :
       (n o : ℕ) (out : List ℕ) →
-      (runOf file marks s (b ∷ []) (o ∷ out) .refusal ≡ suc n) ↔ (inputOf file marks s (b % 16) ≡ refused (suc n))
+      (runOf reading file marks s (b ∷ []) (o ∷ out) .refusal ≡ suc n) ↔ (inputOf reading file marks s (b % 16) ≡ refused (suc n))
   refused-alike n o out = go halves-agree
     where
-      go : Agree file marks s b ⊎ Refuse file marks s b →
-          (runOf file marks s (b ∷ []) (o ∷ out) .refusal ≡ suc n) ↔ (inputOf file marks s (b % 16) ≡ refused (suc n))
+      go : Agree reading file marks s b ⊎ Refuse reading file marks s b →
+          (runOf reading file marks s (b ∷ []) (o ∷ out) .refusal ≡ suc n) ↔ (inputOf reading file marks s (b % 16) ≡ refused (suc n))
       go (inl a) = (
         λ e. absurd (omega (arith, ap (λ (r : RunAnswer). r .refusal) (a .one o out))),
         λ e. let z : _≡_ {A = ℕ} 0 1 = cc in absurd (omega arith),
       )
       go (inr r) = (λ e. cc (r .run o out), λ e. cc (r .run o out))
 
--- A marked case of 01, by its place in the list.
+-- A marked case, by its place in the list. Those of 01 are under reading 1, and so is all that follows.
 pub marked : (i : ℕ) →
-    getD (map (λ c. Cases.said (c .file) (c .asked)) Cases.cases) i (Cases.released [])
+    getD (map (λ c. Cases.said (c .reading) (c .file) (c .asked)) Cases.cases) i (Cases.released [])
     ≡ getD (map (λ (c : Cases.Case). c .expected) Cases.cases) i (Cases.released [])
 marked i = ap (λ (l : List Cases.Said). getD l i (Cases.released [])) Cases.marked-cases
 
 -- Prepare gives a summary of the sample.
 abbrev Given : List ℕ → Type 0
-Given file = (s : Summary) × (prepareOf file (Cases.lent (states (policyOf file))) ≡ gives s)
+Given file = (s : Summary) × (prepareOf 1 file (Cases.lent (states (policyOf 1 file))) ≡ gives s)
 
-said-given : (file : List ℕ) (v n l : ℕ) → Cases.said file Cases.prepared ≡ Cases.summary v n l → Given file
-said-given file v n l = go (prepareOf file (Cases.lent (states (policyOf file))))
+said-given : (file : List ℕ) (v n l : ℕ) → Cases.said 1 file Cases.prepared ≡ Cases.summary v n l → Given file
+said-given file v n l = go (prepareOf 1 file (Cases.lent (states (policyOf 1 file))))
   where
-    go : (a : Answer Summary) → Cases.saidOfPrepare (Cases.marks file) a ≡ Cases.summary v n l → (s : Summary) × (a ≡ gives s)
+    go : (a : Answer Summary) → Cases.saidOfPrepare (Cases.marks 1 file) a ≡ Cases.summary v n l → (s : Summary) × (a ≡ gives s)
     go (refused n) e = let z : _≡_ {A = ℕ} 0 1 = cc in absurd (omega arith)
     go (gives s) e = (s, refl)
 
@@ -305,24 +312,24 @@ unfolding Cases.cases
 T-given = said-given T 1 2 1 (marked 7)
 
 -- "These worthless versions are to be rejected". A prepare "refusing always" refuses S, which is not hopeless.
-pub S-not-hopeless : ¬ Hopeless (Permits (policyOf S))
-S-not-hopeless = not-both (Permits (policyOf S)) [] (given-goes-on S (Cases.lent (states (policyOf S))) (S-given .0) (S-given .1))
+pub S-not-hopeless : ¬ Hopeless (Permits (policyOf 1 S))
+S-not-hopeless = not-both (Permits (policyOf 1 S)) [] (given-goes-on 1 S (Cases.lent (states (policyOf 1 S))) (S-given .0) (S-given .1))
 
 -- The others are runs. On a sample, from the start and with the marks of prepare, each does what no right run does.
 abbrev pub sample : Run → (file events : List ℕ) → RunAnswer
-sample run file events = run file (Cases.marks file) (stateOf (start (policyOf file))) events (Cases.lent (length events))
+sample run file events = run 1 file (Cases.marks 1 file) (stateOf (start (policyOf 1 file))) events (Cases.lent (length events))
 
 module _ (run : Run) (right : Right run) where
   -- A right run releases what a marked case says.
   as-marked :
-      (file : List ℕ) → Given file → (events rs : List ℕ) → all (eventGood file) events ≡ true →
-      Cases.said file (Cases.enforced events) ≡ Cases.released rs → (sample run file events .refusal ≡ 0) × (sample run file events .out ≡ rs)
+      (file : List ℕ) → Given file → (events rs : List ℕ) → all (eventGood 1 file) events ≡ true →
+      Cases.said 1 file (Cases.enforced events) ≡ Cases.released rs → (sample run file events .refusal ≡ 0) × (sample run file events .out ≡ rs)
   as-marked file s events rs good e =
-      let marks = Cases.lent (states (policyOf file)) in
+      let marks = Cases.lent (states (policyOf 1 file)) in
       let out = Cases.lent (length events) in
       let room : length events ≤ length out = rw length-replicate (le-refl (length events)) in
-      let a = right file marks (s .0) (s .1) events out good room in
-      let b = releases file marks (s .0) (s .1) events out good room in
+      let a = right 1 file marks (s .0) (s .1) events out good room in
+      let b = releases 1 file marks (s .0) (s .1) events out good room in
       (a .refusal, ap (λ (r : RunAnswer). r .out) (released-one a b) ∙ said-released _ _ rs (b .refusal) e)
 
   S-03 : (sample run S (0x03 ∷ []) .refusal ≡ 0) × (sample run S (0x03 ∷ []) .out ≡ 0x01 ∷ [])

@@ -12,7 +12,8 @@ use Rattle.streams.specs.Stream.{GoesOn, Hopeless}
 use Rattle.policy.specs.Rules.{Place, Permits}
 use Rattle.policy.specs.Number.{states, numberOf}
 use Rattle.policy.specs.File.{policyOf}
-use Rattle.policy.specs.Check.{refusalOf, all}
+use Rattle.policy.specs.Check.{readingRefusal, no-reading, refusalUnder, under-none, all}
+use Rattle.policy.specs.Sound.{WellFormed}
 use Rattle.policy.specs.Numbered.{numberOf-start}
 use Rattle.policy.specs.Checked.{checked-file}
 use Rattle.enforcer.specs.State.{placeIn, stateOf, isMarked}
@@ -31,87 +32,100 @@ else-none zero zero = refl
 else-none zero (suc b) = refl
 else-none (suc a) b = refl
 
-module _ (file marks : List ℕ) where
+module _ (reading : ℕ) (file marks : List ℕ) where
   module _ (s : Place) where
-    pub state-ready : stateRefusal file marks s ≡ 0 → Ready (policyOf file) marks (placeIn (policyOf file) s)
-    state-ready e = let k = state-granted file marks s .0 e in record { inside = good-inside (policyOf file) s (k .0); marked = k .1 }
+    pub state-ready : stateRefusal reading file marks s ≡ 0 → Ready (policyOf reading file) marks (placeIn (policyOf reading file) s)
+    state-ready e = let k = state-granted reading file marks s .0 e in record { inside = good-inside (policyOf reading file) s (k .0); marked = k .1 }
 
-    -- What both halves and the run refuse before they look at an event: 1 to 10, and 16.
+    -- What both halves and the run refuse before they look at an event: 22, 1 to 10, and 16.
     abbrev pub entryRefusal : ℕ
-    entryRefusal = marksRefusal file marks orElse stateRefusal file marks s
+    entryRefusal = marksRefusal reading file marks orElse stateRefusal reading file marks s
 
     pub input-answer :
-        (x : ℕ) → xGood file x ≡ true →
-        inputOf file marks s x ≡ chosen entryRefusal (inputChoice (policyOf file) marks (placeIn (policyOf file) s) x)
+        (x : ℕ) → xGood reading file x ≡ true →
+        inputOf reading file marks s x ≡ chosen entryRefusal (inputChoice (policyOf reading file) marks (placeIn (policyOf reading file) s) x)
     unfolding inputOf inputRefusal
     input-answer x e = rw (e, else-none)
 
     pub output-answer :
-        (x y : ℕ) → xGood file x ≡ true → yGood file y ≡ true →
-        outputOf file marks s x y ≡ outputFrom s (chosen entryRefusal (outputTick (policyOf file) marks (placeIn (policyOf file) s) x y))
+        (x y : ℕ) → xGood reading file x ≡ true → yGood reading file y ≡ true →
+        outputOf reading file marks s x y
+        ≡ outputFrom s (chosen entryRefusal (outputTick (policyOf reading file) marks (placeIn (policyOf reading file) s) x y))
     unfolding outputOf outputRefusal
     output-answer x y e k = rw (e, k, else-none)
 
     pub run-answer :
-        (events out : List ℕ) → length events ≤ length out → all (eventGood file) events ≡ true →
-        runOf file marks s events out ≡ runFrom s out entryRefusal (ran (policyOf file) marks (placeIn (policyOf file) s) (map eventOf events))
+        (events out : List ℕ) → length events ≤ length out → all (eventGood reading file) events ≡ true →
+        runOf reading file marks s events out
+        ≡ runFrom s out entryRefusal (ran (policyOf reading file) marks (placeIn (policyOf reading file) s) (map eventOf events))
     unfolding runOf runRefusal
     run-answer events out l e = rw (le-leb _ _ l, e, else-none)
 
-  pub ready-state : (t : Place) → Ready (policyOf file) marks t → stateRefusal file marks (stateOf t) ≡ 0
+  pub ready-state : (t : Place) → Ready (policyOf reading file) marks t → stateRefusal reading file marks (stateOf t) ≡ 0
   ready-state t k =
-      state-granted file marks (stateOf t) .1 (
-        inside-good (policyOf file) t (k .inside),
-        ap (λ (z : Place). isMarked marks (numberOf (policyOf file) z)) (placeIn-stateOf (policyOf file) (k .inside)) ∙ k .marked,
+      state-granted reading file marks (stateOf t) .1 (
+        inside-good (policyOf reading file) t (k .inside),
+        ap (λ (z : Place). isMarked marks (numberOf (policyOf reading file) z)) (placeIn-stateOf (policyOf reading file) (k .inside)) ∙ k .marked,
       )
 
   -- From a place that is ready nothing is refused.
   pub run-ready :
-      marksRefusal file marks ≡ 0 → (t : Place) → Ready (policyOf file) marks t →
-      (events out : List ℕ) → length events ≤ length out → all (eventGood file) events ≡ true →
-      runOf file marks (stateOf t) events out ≡ runFrom (stateOf t) out 0 (ran (policyOf file) marks t (map eventOf events))
+      marksRefusal reading file marks ≡ 0 → (t : Place) → Ready (policyOf reading file) marks t →
+      (events out : List ℕ) → length events ≤ length out → all (eventGood reading file) events ≡ true →
+      runOf reading file marks (stateOf t) events out ≡ runFrom (stateOf t) out 0 (ran (policyOf reading file) marks t (map eventOf events))
   run-ready e t k events out l g =
       let z : entryRefusal (stateOf t) ≡ 0 = rw (e, ready-state t k) in
       run-answer (stateOf t) events out l g
       ∙ ap₂ (runFrom (stateOf t) out) z
-      (ap (λ (z : Place). ran (policyOf file) marks z (map eventOf events)) (placeIn-stateOf (policyOf file) (k .inside)))
+      (ap (λ (z : Place). ran (policyOf reading file) marks z (map eventOf events)) (placeIn-stateOf (policyOf reading file) (k .inside)))
 
--- After prepare, for a file that passes and a slice that is long enough.
-module _ (file marks : List ℕ) (passed : refusalOf file ≡ 0) (long : states (policyOf file) ≤ length marks) where
-  granted : marksRefusal file marks ≡ 0
-  granted = marks-granted file marks .1 (passed, long)
+-- What holds under reading 1 and under reading 2 holds under each reading that 22 does not refuse.
+pub each-reading : (P : ℕ → Type 0) → P 1 → P 2 → (reading : ℕ) → readingRefusal reading ≡ 0 → P reading
+each-reading P one two zero e = absurd (omega (arith, no-reading 0 (inl (omega arith))))
+each-reading P one two (suc zero) e = one
+each-reading P one two (suc (suc zero)) e = two
+each-reading P one two (suc (suc (suc n))) e = absurd (omega (arith, no-reading (suc (suc (suc n))) (inr (omega arith))))
 
-  pub prepared-marks : Prepared (policyOf file) (preparedMarks file marks)
+-- A file that passes under a reading is well formed.
+pub well-formed : (reading : ℕ) (file : List ℕ) → refusalUnder reading file ≡ 0 → WellFormed (policyOf reading file)
+well-formed reading file passed = checked-file reading file (under-none reading file .0 passed .1)
+
+-- After prepare, under a reading, for a file that passes and a slice that is long enough.
+module _ (reading : ℕ) (file marks : List ℕ) (passed : refusalUnder reading file ≡ 0) (long : states (policyOf reading file) ≤ length marks) where
+  granted : marksRefusal reading file marks ≡ 0
+  granted = marks-granted reading file marks .1 (passed, long)
+
+  pub prepared-marks : Prepared (policyOf reading file) (preparedMarks reading file marks)
   unfolding preparedMarks
-  prepared-marks = rw granted (prepared-front (policyOf file) (drop (states (policyOf file)) marks))
+  prepared-marks = rw granted (prepared-front (policyOf reading file) (drop (states (policyOf reading file)) marks))
 
-  pub prepared-granted : marksRefusal file (preparedMarks file marks) ≡ 0
+  pub prepared-granted : marksRefusal reading file (preparedMarks reading file marks) ≡ 0
   unfolding preparedMarks
-  prepared-granted = marks-granted file (preparedMarks file marks) .1 (passed, rw (granted, length-append, marks-length) (omega arith))
+  prepared-granted = marks-granted reading file (preparedMarks reading file marks) .1 (passed, rw (granted, length-append, marks-length) (omega arith))
 
   -- The start ends and is refused by 11, or it goes on for ever and the summary is given.
   pub judged :
-      (Hopeless (Permits (policyOf file)) × (prepareOf file marks ≡ refused 11))
-      ⊎ (GoesOn (Permits (policyOf file)) [] × (prepareOf file marks ≡ gives (summaryOf (policyOf file))))
+      (Hopeless (Permits (policyOf reading file)) × (prepareOf reading file marks ≡ refused 11))
+      ⊎ (GoesOn (Permits (policyOf reading file)) [] × (prepareOf reading file marks ≡ gives (summaryOf (policyOf reading file))))
   unfolding prepareOf
   judged =
-      let p = policyOf file in
-      let ok = checked-file file passed in
+      let p = policyOf reading file in
+      let ok = well-formed reading file passed in
       let l = leads-start p in
       ⊎-elim (λ g. inr (g, rw (granted, goes-on-ready p ok (marksOf p) (λ n h. refl) l .0 g)))
       (λ d. inl (d, rw (granted, numberOf-start, hopeless-start p ok .0 d))) (goes-on-or-ends p ok (l .leads) (l .fits))
 
 -- Where prepare gives a summary, the file has passed, the slice is long enough, and the start goes on for ever.
-module _ (file marks : List ℕ) (s : Summary) (e : prepareOf file marks ≡ gives s) where
-  given : (refusalOf file ≡ 0) × (states (policyOf file) ≤ length marks)
-  given = marks-granted file marks .0 (gives-past file marks s e .0)
+module _ (reading : ℕ) (file marks : List ℕ) (s : Summary) (e : prepareOf reading file marks ≡ gives s) where
+  given : (refusalUnder reading file ≡ 0) × (states (policyOf reading file) ≤ length marks)
+  given = marks-granted reading file marks .0 (gives-past reading file marks s e .0)
 
-  pub given-passed : refusalOf file ≡ 0
+  pub given-passed : refusalUnder reading file ≡ 0
   given-passed = given .0
 
-  pub given-long : states (policyOf file) ≤ length marks
+  pub given-long : states (policyOf reading file) ≤ length marks
   given-long = given .1
 
-  pub given-goes-on : GoesOn (Permits (policyOf file)) []
+  pub given-goes-on : GoesOn (Permits (policyOf reading file)) []
   given-goes-on =
-      ⊎-elim (λ h. let z : _≡_ {A = ℕ} 0 1 = cc in absurd (omega arith)) (λ g. g .0) (judged file marks given-passed given-long)
+      ⊎-elim (λ h. let z : _≡_ {A = ℕ} 0 1 = cc in absurd (omega arith)) (λ g. g .0) (judged reading file marks given-passed given-long)

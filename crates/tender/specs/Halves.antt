@@ -17,7 +17,7 @@ use Rattle.policy.specs.Rules.{Policy, Place, start, inputValues, outputValues,
 use Rattle.policy.specs.File.{policyOf}
 use Rattle.policy.specs.Check.{all}
 use Rattle.policy.specs.Sound.{WellFormed}
-use Rattle.policy.specs.Checked.{checked-file, well-sound}
+use Rattle.policy.specs.Checked.{well-sound}
 use Rattle.enforcer.specs.State.{placeIn, stateOf, clocksGood, stateGood}
 use Rattle.enforcer.specs.Laid.{placeIn-stateOf}
 use Rattle.enforcer.specs.States.{good-inside, marks-granted, state-granted}
@@ -39,7 +39,7 @@ use Rattle.prepare.specs.Enforces.{EnforcedBy, Prepared, Leads, leads-start, le
 use Rattle.prepare.specs.declared.Summary.{Summary as Given}
 use Rattle.prepare.specs.declared.Prepared.the-variants as Prepare
 use Rattle.console.specs.Scratch.{start-is}
-use Rattle.tender.specs.Granted.{entryRefusal, state-ready, ready-state, input-answer, output-answer, run-ready, prepared-marks, prepared-granted, given-passed, given-long, given-goes-on}
+use Rattle.tender.specs.Granted.{well-formed, entryRefusal, state-ready, ready-state, input-answer, output-answer, run-ready, prepared-marks, prepared-granted, given-passed, given-long, given-goes-on}
 use Rattle.tender.specs.Demand2.{Released, releases}
 
 -- What a loop of the two halves released, the number by which a half refused, 0 for none, and the state that it left.
@@ -54,27 +54,28 @@ before r l = record { refusal = l .refusal; released = r ∷ l .released; state 
 
 -- For each event read, the input half with its x; then the output half, "given the x' passed to the controller and its answer y". "Then the state
 -- moves", and the next event is read. A refusal of either half ends the loop.
-unfoldable pub loop : (file marks : List ℕ) → Place → Stream → Looped
-loop file marks s [] = record { refusal = 0; released = []; state = s }
-loop file marks s (e ∷ es) =
-    elim (inputOf file marks s (e .x)) [
+unfoldable pub loop : (reading : ℕ) (file marks : List ℕ) → Place → Stream → Looped
+loop reading file marks s [] = record { refusal = 0; released = []; state = s }
+loop reading file marks s (e ∷ es) =
+    elim (inputOf reading file marks s (e .x)) [
       | refused n ↦ record { refusal = n; released = []; state = s }
       | gives x ↦
-          elim (outputOf file marks s x (e .y) .answer) [
-            | refused n ↦ record { refusal = n; released = []; state = outputOf file marks s x (e .y) .state }
-            | gives y ↦ before (record { x = x; y = y }) (loop file marks (outputOf file marks s x (e .y) .state) es)
+          elim (outputOf reading file marks s x (e .y) .answer) [
+            | refused n ↦ record { refusal = n; released = []; state = outputOf reading file marks s x (e .y) .state }
+            | gives y ↦ before (record { x = x; y = y }) (loop reading file marks (outputOf reading file marks s x (e .y) .state) es)
           ]
     ]
 
-module _ (file marks : List ℕ) (s : Place) (e : Event) (es : Stream) where
+module _ (reading : ℕ) (file marks : List ℕ) (s : Place) (e : Event) (es : Stream) where
   -- One tick of the loop, and its end where the input half refuses.
   loop-more :
-      {x y : ℕ} → inputOf file marks s (e .x) ≡ gives x → outputOf file marks s x (e .y) .answer ≡ gives y →
-      loop file marks s (e ∷ es) ≡ before (record { x = x; y = y }) (loop file marks (outputOf file marks s x (e .y) .state) es)
+      {x y : ℕ} → inputOf reading file marks s (e .x) ≡ gives x → outputOf reading file marks s x (e .y) .answer ≡ gives y →
+      loop reading file marks s (e ∷ es) ≡ before (record { x = x; y = y }) (loop reading file marks (outputOf reading file marks s x (e .y) .state) es)
   unfolding loop
   loop-more h k = rw (h, k, loop)
 
-  loop-ends : {n : ℕ} → inputOf file marks s (e .x) ≡ refused n → loop file marks s (e ∷ es) ≡ record { refusal = n; released = []; state = s }
+  loop-ends : {n : ℕ} → inputOf reading file marks s (e .x) ≡ refused n →
+      loop reading file marks s (e ∷ es) ≡ record { refusal = n; released = []; state = s }
   unfolding loop
   loop-ends h = rw (h, loop)
 
@@ -104,19 +105,19 @@ from-none : (s : Place) (n : ℕ) (o : Option Tick) {y : ℕ} → outputFrom s (
 from-none s zero o e = refl
 from-none s (suc n) o e = let z : _≡_ {A = ℕ} 0 1 = cc in absurd (omega arith)
 
-module _ (file marks : List ℕ) (s : Place) where
-  input-fits : (x : ℕ) {z : ℕ} → inputOf file marks s x ≡ gives z → xGood file x ≡ true
+module _ (reading : ℕ) (file marks : List ℕ) (s : Place) where
+  input-fits : (x : ℕ) {z : ℕ} → inputOf reading file marks s x ≡ gives z → xGood reading file x ≡ true
   unfolding inputOf inputRefusal
   input-fits x e =
-      let a = none-refused (marksRefusal file marks) _ .0 (chosen-none (inputRefusal file marks s x) _ e) in
-      none-unless _ 14 .0 (none-refused (stateRefusal file marks s) _ .0 (a .1) .1)
+      let a = none-refused (marksRefusal reading file marks) _ .0 (chosen-none (inputRefusal reading file marks s x) _ e) in
+      none-unless _ 14 .0 (none-refused (stateRefusal reading file marks s) _ .0 (a .1) .1)
 
-  output-fits : (x y : ℕ) {z : ℕ} → outputOf file marks s x y .answer ≡ gives z → yGood file y ≡ true
+  output-fits : (x y : ℕ) {z : ℕ} → outputOf reading file marks s x y .answer ≡ gives z → yGood reading file y ≡ true
   unfolding outputOf outputRefusal
   output-fits x y e =
-      let a = none-refused (marksRefusal file marks) _ .0 (from-none s (outputRefusal file marks s x y) _ e) in
-      let b = none-unless _ 14 .0 (none-refused (stateRefusal file marks s) _ .0 (a .1) .1) in
-      and-eq-true-iff (xGood file x) (yGood file y) .0 b .1
+      let a = none-refused (marksRefusal reading file marks) _ .0 (from-none s (outputRefusal reading file marks s x y) _ e) in
+      let b = none-unless _ 14 .0 (none-refused (stateRefusal reading file marks s) _ .0 (a .1) .1) in
+      and-eq-true-iff (xGood reading file x) (yGood reading file y) .0 b .1
 
 -- A state that is not out of range is the state of its place.
 zeros : (vs : List ℕ) (n : ℕ) → length vs ≡ n → all (eqb 0) vs ≡ true → replicate n 0 ≡ vs
@@ -144,38 +145,38 @@ state-back p s four e =
     ap (λ (vs : List ℕ). record { location = s .location; clocks = vs })
     (clocks-back (p .ceilings) (s .clocks) (4 - length (placeIn p s .clocks)) l (k .1))
 
-good-fits : (file events : List ℕ) → all (eventGood file) events ≡ true → Fits (policyOf file) (map eventOf events)
+good-fits : (reading : ℕ) (file events : List ℕ) → all (eventGood reading file) events ≡ true → Fits (policyOf reading file) (map eventOf events)
 unfolding all
-good-fits file [] e = fits-none
-good-fits file (b ∷ bs) e =
-    let k = and-eq-true-iff (eventGood file b) _ .0 e in
-    let h = and-eq-true-iff (xGood file (b % 16)) _ .0 (k .0) in
-    fits-more (record { x = ltb-true _ _ (h .0); y = ltb-true _ _ (h .1) }) (good-fits file bs (k .1))
+good-fits reading file [] e = fits-none
+good-fits reading file (b ∷ bs) e =
+    let k = and-eq-true-iff (eventGood reading file b) _ .0 e in
+    let h = and-eq-true-iff (xGood reading file (b % 16)) _ .0 (k .0) in
+    fits-more (record { x = ltb-true _ _ (h .0); y = ltb-true _ _ (h .1) }) (good-fits reading file bs (k .1))
 
-module _ (file marks : List ℕ) where
+module _ (reading : ℕ) (file marks : List ℕ) where
   abbrev p : Policy
-  p = policyOf file
+  p = policyOf reading file
 
   -- The halves of one tick, from a place that is ready.
-  module _ (granted : marksRefusal file marks ≡ 0) {t : Place} (k : Ready p marks t) where
+  module _ (granted : marksRefusal reading file marks ≡ 0) {t : Place} (k : Ready p marks t) where
     here : placeIn p (stateOf t) ≡ t
     here = placeIn-stateOf p (k .inside)
 
-    none-here : entryRefusal file marks (stateOf t) ≡ 0
-    none-here = rw (granted, ready-state file marks t k)
+    none-here : entryRefusal reading file marks (stateOf t) ≡ 0
+    none-here = rw (granted, ready-state reading file marks t k)
 
-    input-here : (x : ℕ) → xGood file x ≡ true → inputOf file marks (stateOf t) x ≡ chosen 0 (inputChoice p marks t x)
-    input-here x f = input-answer file marks (stateOf t) x f ∙ rw (none-here, here)
+    input-here : (x : ℕ) → xGood reading file x ≡ true → inputOf reading file marks (stateOf t) x ≡ chosen 0 (inputChoice p marks t x)
+    input-here x f = input-answer reading file marks (stateOf t) x f ∙ rw (none-here, here)
 
     output-here :
-        (x y : ℕ) → xGood file x ≡ true → yGood file y ≡ true →
-        outputOf file marks (stateOf t) x y ≡ outputFrom (stateOf t) (chosen 0 (outputTick p marks t x y))
-    output-here x y f g = output-answer file marks (stateOf t) x y f g ∙ rw (none-here, here)
+        (x y : ℕ) → xGood reading file x ≡ true → yGood reading file y ≡ true →
+        outputOf reading file marks (stateOf t) x y ≡ outputFrom (stateOf t) (chosen 0 (outputTick p marks t x y))
+    output-here x y f g = output-answer reading file marks (stateOf t) x y f g ∙ rw (none-here, here)
 
   -- From such a place the loop goes as the run does.
   loop-ran :
-      marksRefusal file marks ≡ 0 → {t : Place} → Ready p marks t → {es : Stream} → Fits p es →
-      loop file marks (stateOf t) es ≡ ranAs (ran p marks t es)
+      marksRefusal reading file marks ≡ 0 → {t : Place} → Ready p marks t → {es : Stream} → Fits p es →
+      loop reading file marks (stateOf t) es ≡ ranAs (ran p marks t es)
   unfolding loop ran
   loop-ran granted k fits-none = refl
   loop-ran granted {t} k (fits-more {e = e} {es = es} f h) = go (λ u i. loop-ran granted i h) (inputChoice p marks t (e .x)) refl
@@ -183,100 +184,102 @@ module _ (file marks : List ℕ) where
       s : Place
       s = stateOf t
 
-      input : inputOf file marks s (e .x) ≡ chosen 0 (inputChoice p marks t (e .x))
+      input : inputOf reading file marks s (e .x) ≡ chosen 0 (inputChoice p marks t (e .x))
       input = input-here granted k (e .x) (lt-ltb _ _ (f .x))
 
       go :
-          ((u : Place) → Ready p marks u → loop file marks (stateOf u) es ≡ ranAs (ran p marks u es)) →
-          (o : Option ℕ) → inputChoice p marks t (e .x) ≡ o → loop file marks s (e ∷ es) ≡ ranAs (ran p marks t (e ∷ es))
-      go more none q = loop-ends file marks s e es (rw (input, q)) ∙ sym (ap ranAs (ran-none p marks t e es (no-tick p marks t e q)))
+          ((u : Place) → Ready p marks u → loop reading file marks (stateOf u) es ≡ ranAs (ran p marks u es)) →
+          (o : Option ℕ) → inputChoice p marks t (e .x) ≡ o → loop reading file marks s (e ∷ es) ≡ ranAs (ran p marks t (e ∷ es))
+      go more none q = loop-ends reading file marks s e es (rw (input, q)) ∙ sym (ap ranAs (ran-none p marks t e es (no-tick p marks t e q)))
       go more (some z) q =
           let r = tick-found p marks t e z q in
           let w = ticked p marks t e (r .0) (r .1) in
           let x = r .0 .event .x in
-          let half : outputOf file marks s x (e .y) ≡ outputFrom s (gives (r .0)) =
+          let half : outputOf reading file marks s x (e .y) ≡ outputFrom s (gives (r .0)) =
           output-here granted k x (e .y) (lt-ltb _ _ (input-stands p marks t (e .x) x (w .input) .0)) (lt-ltb _ _ (f .y))
           ∙ rw (output-ticked p marks t e (r .0) w)
           in
-          let ok = checked-file file (marks-granted file marks .0 granted .0) in
+          let ok = well-formed reading file (marks-granted reading file marks .0 granted .0) in
           let next = ticked-ready p marks t e (r .0) (well-sound p ok) (k .inside) w in
-          loop-more file marks s e es (rw (input, w .input)) (ap (λ (u : OutputAnswer). u .answer) half)
-          ∙ ap (λ (u : OutputAnswer). before (r .0 .event) (loop file marks (u .state) es)) half
+          loop-more reading file marks s e es (rw (input, w .input)) (ap (λ (u : OutputAnswer). u .answer) half)
+          ∙ ap (λ (u : OutputAnswer). before (r .0 .event) (loop reading file marks (u .state) es)) half
           ∙ ap (before (r .0 .event)) (more (r .0 .place) next)
           ∙ sym (ap ranAs (ran-on p marks t e es (r .0) (r .1)))
 
   -- From any state that is not refused, whatever the marks are: tick after tick, over the whole stream, the two halves release what the run does, leave
   -- the state that it does, and stop where it does and by the same number.
   pub loop-runs :
-      (s : Place) → length (s .clocks) ≡ 4 → entryRefusal file marks s ≡ 0 →
-      (events out : List ℕ) → all (eventGood file) events ≡ true → length events ≤ length out →
-      runOf file marks s events out ≡ asRun (loop file marks s (map eventOf events)) out
+      (s : Place) → length (s .clocks) ≡ 4 → entryRefusal reading file marks s ≡ 0 →
+      (events out : List ℕ) → all (eventGood reading file) events ≡ true → length events ≤ length out →
+      runOf reading file marks s events out ≡ asRun (loop reading file marks s (map eventOf events)) out
   loop-runs s four e events out good long =
       let t = placeIn p s in
-      let k = none-refused (marksRefusal file marks) _ .0 e in
-      let ready = state-ready file marks s (k .1) in
-      let back : stateOf t ≡ s = state-back p s four (state-granted file marks s .0 (k .1) .0) in
-      subst (λ (z : Place). runOf file marks z events out ≡ asRun (loop file marks z (map eventOf events)) out) back
-      (run-ready file marks (k .0) t ready events out long good
-      ∙ sym (ap (λ (l : Looped). asRun l out) (loop-ran (k .0) ready (good-fits file events good))))
+      let k = none-refused (marksRefusal reading file marks) _ .0 e in
+      let ready = state-ready reading file marks s (k .1) in
+      let back : stateOf t ≡ s = state-back p s four (state-granted reading file marks s .0 (k .1) .0) in
+      subst (λ (z : Place). runOf reading file marks z events out ≡ asRun (loop reading file marks z (map eventOf events)) out) back
+      (run-ready reading file marks (k .0) t ready events out long good
+      ∙ sym (ap (λ (l : Looped). asRun l out) (loop-ran (k .0) ready (good-fits reading file events good))))
 
 -- From the start and with the marks of prepare, that is demand 2's stream.
 pub loop-releases :
-    (file marks : List ℕ) (s : Summary) → prepareOf file marks ≡ gives s →
-    (events out : List ℕ) → all (eventGood file) events ≡ true → length events ≤ length out →
-    Released (policyOf file) events out (asRun (loop file (preparedMarks file marks) (stateOf (start (policyOf file))) (map eventOf events)) out)
-loop-releases file marks s e events out good long =
-    let p = policyOf file in
-    let M = preparedMarks file marks in
-    let passed = given-passed file marks s e in
-    let enough = given-long file marks s e in
-    let granted = prepared-granted file marks passed enough in
-    let ready = leads-ready p (checked-file file passed) M (prepared-marks file marks passed enough) (leads-start p) (given-goes-on file marks s e) in
+    (reading : ℕ) (file marks : List ℕ) (s : Summary) → prepareOf reading file marks ≡ gives s →
+    (events out : List ℕ) → all (eventGood reading file) events ≡ true → length events ≤ length out →
+    Released (policyOf reading file) events out
+    (asRun (loop reading file (preparedMarks reading file marks) (stateOf (start (policyOf reading file))) (map eventOf events)) out)
+loop-releases reading file marks s e events out good long =
+    let p = policyOf reading file in
+    let M = preparedMarks reading file marks in
+    let passed = given-passed reading file marks s e in
+    let enough = given-long reading file marks s e in
+    let granted = prepared-granted reading file marks passed enough in
+    let by = prepared-marks reading file marks passed enough in
+    let ready = leads-ready p (well-formed reading file passed) M by (leads-start p) (given-goes-on reading file marks s e) in
     subst (Released p events out)
-    (run-ready file M granted (start p) ready events out long good
-    ∙ sym (ap (λ (l : Looped). asRun l out) (loop-ran file M granted ready (good-fits file events good))))
-    (releases file marks s e events out good long)
+    (run-ready reading file M granted (start p) ready events out long good
+    ∙ sym (ap (λ (l : Looped). asRun l out) (loop-ran reading file M granted ready (good-fits reading file events good))))
+    (releases reading file marks s e events out good long)
 
 -- The code's halves, used tick after tick from the state s: for the events read they gave the released ones, and the state that they left is t. The
 -- controller's answer y may go by the x' that the input half gave.
-pub data Ticks (file marks : List ℕ) : State → (read released : Stream) → State → Type 0 where
-  ticks-none : {s : State} → Ticks file marks s [] [] s
+pub data Ticks (reading : ℕ) (file marks : List ℕ) : State → (read released : Stream) → State → Type 0 where
+  ticks-none : {s : State} → Ticks reading file marks s [] [] s
   ticks-more : {s u t : State} {e r : Event} {es rs : Stream} →
-      InputPromise file marks s (e .x) (Code.Value (r .x)) →
-      OutputPromise file marks s (r .x) (e .y) (record { answer = Code.Value (r .y); state = u }) →
-      Ticks file marks u es rs t → Ticks file marks s (e ∷ es) (r ∷ rs) t
+      InputPromise reading file marks s (e .x) (Code.Value (r .x)) →
+      OutputPromise reading file marks s (r .x) (e .y) (record { answer = Code.Value (r .y); state = u }) →
+      Ticks reading file marks u es rs t → Ticks reading file marks s (e ∷ es) (r ∷ rs) t
 
-module _ {file marks : List ℕ} where
-  ticks-loop : {s t : State} {es rs : Stream} → Ticks file marks s es rs t →
-      loop file marks (asPlace s) es ≡ record { refusal = 0; released = rs; state = asPlace t }
+module _ {reading : ℕ} {file marks : List ℕ} where
+  ticks-loop : {s t : State} {es rs : Stream} → Ticks reading file marks s es rs t →
+      loop reading file marks (asPlace s) es ≡ record { refusal = 0; released = rs; state = asPlace t }
   unfolding loop
   ticks-loop ticks-none = refl
   ticks-loop (ticks-more {s = s} {e = e} {r = r} {es = es} i o h) =
-      loop-more file marks (asPlace s) e es (sym (i .said)) (sym (ap (λ (z : OutputAnswer). z .answer) (o .said)))
-      ∙ ap (λ (z : OutputAnswer). before r (loop file marks (z .state) es)) (sym (o .said))
+      loop-more reading file marks (asPlace s) e es (sym (i .said)) (sym (ap (λ (z : OutputAnswer). z .answer) (o .said)))
+      ∙ ap (λ (z : OutputAnswer). before r (loop reading file marks (z .state) es)) (sym (o .said))
       ∙ ap (before r) (ticks-loop h)
 
   -- What the halves did not refuse by 15 has no bit beyond its signals.
-  ticks-fit : {s t : State} {es rs : Stream} → Ticks file marks s es rs t → Fits (policyOf file) es
+  ticks-fit : {s t : State} {es rs : Stream} → Ticks reading file marks s es rs t → Fits (policyOf reading file) es
   ticks-fit ticks-none = fits-none
   ticks-fit (ticks-more {s = s} {e = e} i o h) =
       fits-more (record {
-        x = ltb-true _ _ (input-fits file marks (asPlace s) (e .x) (sym (i .said)));
-        y = ltb-true _ _ (output-fits file marks (asPlace s) _ (e .y) (sym (ap (λ (z : OutputAnswer). z .answer) (o .said))));
+        x = ltb-true _ _ (input-fits reading file marks (asPlace s) (e .x) (sym (i .said)));
+        y = ltb-true _ _ (output-fits reading file marks (asPlace s) _ (e .y) (sym (ap (λ (z : OutputAnswer). z .answer) (o .said))));
       }) (ticks-fit h)
 
   -- The code's run over the same events, from the same state, releases the same and leaves the same state.
-  pub ticks-run : {s t : State} {es rs : Stream} {out after : List ℕ} {r : Ran} → Ticks file marks s es rs t →
-      length (s .clocks) ≡ 4 → entryRefusal file marks (asPlace s) ≡ 0 →
-      RunPromise file marks s (map byteOf es) out r after → length es ≤ length out →
+  pub ticks-run : {s t : State} {es rs : Stream} {out after : List ℕ} {r : Ran} → Ticks reading file marks s es rs t →
+      length (s .clocks) ≡ 4 → entryRefusal reading file marks (asPlace s) ≡ 0 →
+      RunPromise reading file marks s (map byteOf es) out r after → length es ≤ length out →
       ranSaid r after ≡ record { refusal = 0; count = length rs; state = asPlace t; out = map byteOf rs ++ drop (length rs) out }
   ticks-run {s} {es = es} {out = out} h four e k long =
-      let p = policyOf file in
-      let ok = checked-file file (marks-granted file marks .0 (none-refused (marksRefusal file marks) _ .0 e .0) .0) in
+      let p = policyOf reading file in
+      let ok = well-formed reading file (marks-granted reading file marks .0 (none-refused (marksRefusal reading file marks) _ .0 e .0) .0) in
       let fits = ticks-fit h in
       k .said
-      ∙ loop-runs file marks (asPlace s) four e (map byteOf es) out (fits-good file ok fits) (rw length-map long)
-      ∙ ap (λ (w : Stream). asRun (loop file marks (asPlace s) w) out) (events-back p ok fits)
+      ∙ loop-runs reading file marks (asPlace s) four e (map byteOf es) out (fits-good reading file ok fits) (rw length-map long)
+      ∙ ap (λ (w : Stream). asRun (loop reading file marks (asPlace s) w) out) (events-back p ok fits)
       ∙ ap (λ (l : Looped). asRun l out) (ticks-loop h)
 
 -- What the code's halves released from the start, after prepare's code gave a summary: demand 2's stream, and the state is the one that it leads to.
@@ -286,34 +289,34 @@ pub record TicksReleased (p : Policy) (es rs : Stream) (t : State) : Type 0 wher
   pub leads : Leads p rs place
   pub state : asPlace t ≡ stateOf place
 
-module _ {file lent marks : List ℕ} {s : Given} (h : PreparePromise file lent (Prepare.Gives s) marks) where
-  given : prepareOf file lent ≡ gives (summarySaid s)
+module _ {reading : ℕ} {file lent marks : List ℕ} {s : Given} (h : PreparePromise reading file lent (Prepare.Gives s) marks) where
+  given : prepareOf reading file lent ≡ gives (summarySaid s)
   given = sym (h .said)
 
-  ok : WellFormed (policyOf file)
-  ok = checked-file file (given-passed file lent (summarySaid s) given)
+  ok : WellFormed (policyOf reading file)
+  ok = well-formed reading file (given-passed reading file lent (summarySaid s) given)
 
-  by : Prepared (policyOf file) marks
+  by : Prepared (policyOf reading file) marks
   by =
-      subst (Prepared (policyOf file)) (sym (h .marks))
-      (prepared-marks file lent (given-passed file lent (summarySaid s) given) (given-long file lent (summarySaid s) given))
+      subst (Prepared (policyOf reading file)) (sym (h .marks))
+      (prepared-marks reading file lent (given-passed reading file lent (summarySaid s) given) (given-long reading file lent (summarySaid s) given))
 
-  granted : marksRefusal file marks ≡ 0
+  granted : marksRefusal reading file marks ≡ 0
   granted =
-      subst (λ (m : List ℕ). marksRefusal file m ≡ 0) (sym (h .marks))
-      (prepared-granted file lent (given-passed file lent (summarySaid s) given) (given-long file lent (summarySaid s) given))
+      subst (λ (m : List ℕ). marksRefusal reading file m ≡ 0) (sym (h .marks))
+      (prepared-granted reading file lent (given-passed reading file lent (summarySaid s) given) (given-long reading file lent (summarySaid s) given))
 
-  goes : GoesOn (Permits (policyOf file)) []
-  goes = given-goes-on file lent (summarySaid s) given
+  goes : GoesOn (Permits (policyOf reading file)) []
+  goes = given-goes-on reading file lent (summarySaid s) given
 
-  module _ {es rs : Stream} {t : State} (ticks : Ticks file marks startState es rs t) where
-    pub ticks-release : TicksReleased (policyOf file) es rs t
+  module _ {es rs : Stream} {t : State} (ticks : Ticks reading file marks startState es rs t) where
+    pub ticks-release : TicksReleased (policyOf reading file) es rs t
     ticks-release =
-        let p = policyOf file in
+        let p = policyOf reading file in
         let r = ran-enforces p ok marks by (leads-start p) goes es in
         let same : record { refusal = 0; released = rs; state = asPlace t } ≡ ranAs (ran p marks (start p) es) =
-        sym (ticks-loop ticks) ∙ ap (λ (z : Place). loop file marks z es) (sym (start-is p (ok .clocks)))
-        ∙ loop-ran file marks granted (leads-ready p ok marks by (leads-start p) goes) (ticks-fit ticks)
+        sym (ticks-loop ticks) ∙ ap (λ (z : Place). loop reading file marks z es) (sym (start-is p (ok .clocks)))
+        ∙ loop-ran reading file marks granted (leads-ready p ok marks by (leads-start p) goes) (ticks-fit ticks)
         in
         let released : ran p marks (start p) es .released ≡ rs = ap (λ (l : Looped). l .released) (sym same) in
         record {
@@ -323,33 +326,35 @@ module _ {file lent marks : List ℕ} {s : Given} (h : PreparePromise file lent 
           state = ap (λ (l : Looped). l .state) same;
         }
 
-    ready-there : Ready (policyOf file) marks (ticks-release .place)
+    ready-there : Ready (policyOf reading file) marks (ticks-release .place)
     ready-there =
-        leads-ready (policyOf file) ok marks by (ticks-release .leads)
-        (soundness corrections (Permits (policyOf file)) _ _ goes (ticks-release .enforced))
+        leads-ready (policyOf reading file) ok marks by (ticks-release .leads)
+        (soundness corrections (Permits (policyOf reading file)) _ _ goes (ticks-release .enforced))
 
     -- And they never stop: whatever is read next, the input half gives an input, and for it and whatever the controller answers the output half gives
     -- an output.
     pub ticks-go-on :
-        (x : ℕ) (r : Answer) → x < inputValues (policyOf file) → InputPromise file marks t x r →
+        (x : ℕ) (r : Answer) → x < inputValues (policyOf reading file) → InputPromise reading file marks t x r →
         (z : ℕ) × (r ≡ Code.Value z)
-        × ((y : ℕ) (o : Output) → y < outputValues (policyOf file) → OutputPromise file marks t z y o → (w : ℕ) × (o .answer ≡ Code.Value w))
+        × ((y : ℕ) (o : Output) → y < outputValues (policyOf reading file) → OutputPromise reading file marks t z y o → (w : ℕ) × (o .answer ≡ Code.Value w))
     ticks-go-on x r f i =
-        let p = policyOf file in
+        let p = policyOf reading file in
         let u = ticks-release .place in
         let at = ticks-release .state in
         let z = input-found p ok marks by ready-there x in
         let stands = input-stands p marks u x (z .0) (z .1) in
-        let input : inputOf file marks (stateOf u) x ≡ gives (z .0) = input-here file marks granted ready-there x (lt-ltb _ _ f) ∙ rw (z .1) in (
+        let input : inputOf reading file marks (stateOf u) x ≡ gives (z .0) =
+        input-here reading file marks granted ready-there x (lt-ltb _ _ f) ∙ rw (z .1)
+        in (
           z .0,
-          answer-one r (Code.Value (z .0)) (i .said ∙ ap (λ (s : Place). inputOf file marks s x) at ∙ input),
+          answer-one r (Code.Value (z .0)) (i .said ∙ ap (λ (s : Place). inputOf reading file marks s x) at ∙ input),
           λ y o g k.
               let w = output-found p marks u (z .0) y (stands .1) in
-              let output : outputOf file marks (stateOf u) (z .0) y ≡ outputFrom (stateOf u) (gives (w .0)) =
-              output-here file marks granted ready-there (z .0) y (lt-ltb _ _ (stands .0)) (lt-ltb _ _ g) ∙ rw (w .1)
+              let output : outputOf reading file marks (stateOf u) (z .0) y ≡ outputFrom (stateOf u) (gives (w .0)) =
+              output-here reading file marks granted ready-there (z .0) y (lt-ltb _ _ (stands .0)) (lt-ltb _ _ g) ∙ rw (w .1)
               in (
                 w .0 .event .y,
                 answer-one (o .answer) (Code.Value (w .0 .event .y))
-                    (ap (λ (a : OutputAnswer). a .answer) (k .said ∙ ap (λ (s : Place). outputOf file marks s (z .0) y) at ∙ output)),
+                    (ap (λ (a : OutputAnswer). a .answer) (k .said ∙ ap (λ (s : Place). outputOf reading file marks s (z .0) y) at ∙ output)),
               ),
         )

@@ -1,5 +1,5 @@
 -- The incident: on a long transfer a sixteen-bit clock wrapped, and a stale credit pulse passed as fresh. Sample K is that rule, "credit K only while
--- the clock is at most 2", and after however many quiet ticks no stale pulse passes.
+-- the clock is at most 2", and after however many quiet ticks no stale pulse passes, under either reading.
 use mathlib.Core.Path.{_≡_, refl, ap, ap₂, _∙_}
 use mathlib.Core.Bool.{true, false}
 use mathlib.Core.List.{List, [], _∷_, _++_, map}
@@ -11,11 +11,11 @@ use lib.Count.{ones, onesIn}
 use Rattle.streams.specs.Stream.{Stream}
 use Rattle.streams.specs.Choose.{any, nearest, better}
 use Rattle.streams.specs.Corrections.{distance, nearer, spares}
-use Rattle.policy.specs.Rules.{Place, start, step, decides, fires, hold, within, taken, advance}
+use Rattle.policy.specs.Rules.{Place, start, step, decides, fires, hold, within, tested, taken, advance}
 use Rattle.policy.specs.Number.{states, statesOf, numberFrom, locationFrom, clocksFrom}
 use Rattle.policy.specs.File.{policyOf, outputsAt, clocksAt, locationsAt, rulesAt, rulesStart, rulesEnd, pairsFrom, rulesFrom, ruleFrom, boundsFrom}
-use Rattle.policy.specs.Check.{refusalOf, inputsRefusal, outputsRefusal, clocksRefusal, locationsRefusal, rulesSectionRefusal, sectionRefusal, tagsGood, among, all, rulesRefusal, ruleRefusal, headGood, maskGood, boundsGood, boundGood}
-use Rattle.policy.specs.Checked.{checked-file, well-sound}
+use Rattle.policy.specs.Check.{readingRefusal, refusalUnder, under-none, refusalOf, inputsRefusal, outputsRefusal, clocksRefusal, locationsRefusal, rulesSectionRefusal, sectionRefusal, tagsGood, among, all, rulesRefusal, ruleRefusal, headGood, maskGood, boundsGood, boundGood}
+use Rattle.policy.specs.Checked.{well-sound}
 use Rattle.policy.specs.Stays.{start-inside}
 use Rattle.enforcer.specs.State.{stateOf}
 use Rattle.enforcer.specs.Tick.{Ran, ran, tick, outputTick, moved, outputChoice, inputChoice, mayStand, reaches}
@@ -23,11 +23,13 @@ use Rattle.enforcer.specs.Entries.{eventOf, byteOf, eventGood}
 use Rattle.resting.specs.Table.{roundsBy, roundBy, tab}
 use Rattle.policy.specs.Rules as Rules
 use Rattle.resting.specs.Keeps.{keeps, leadsTo, stays, someEvent}
+use Rattle.prepare.specs.Table.{marksOf}
 use Rattle.prepare.specs.Entry.{preparedMarks}
+use Rattle.prepare.specs.Promise.{marks-past}
 use Rattle.prepare.specs.Enforces.{Ready}
 use Rattle.tender.specs.Samples.{K}
 use Rattle.enforcer.specs.States.{marks-granted}
-use Rattle.tender.specs.Granted.{prepared-granted, run-ready}
+use Rattle.tender.specs.Granted.{each-reading, well-formed, prepared-granted, run-ready}
 use Rattle.tender.specs.Demand2.{fromStart}
 
 -- n quiet ticks, and then the event b.
@@ -36,8 +38,9 @@ quietThen n b = replicate n 0x00 ++ (b ∷ [])
 
 K-passes : refusalOf K ≡ 0
 unfolding
-    refusalOf inputsRefusal outputsRefusal clocksRefusal locationsRefusal rulesSectionRefusal sectionRefusal tagsGood among all rulesRefusal ruleRefusal
-    headGood maskGood boundsGood boundGood outputsAt clocksAt locationsAt rulesAt rulesStart rulesEnd pairsFrom rulesFrom ruleFrom boundsFrom statesOf
+    refusalOf inputsRefusal outputsRefusal clocksRefusal locationsRefusal rulesSectionRefusal sectionRefusal tagsGood among all rulesRefusal
+    ruleRefusal headGood maskGood boundsGood boundGood outputsAt clocksAt locationsAt rulesAt rulesStart rulesEnd pairsFrom rulesFrom ruleFrom
+    boundsFrom statesOf
 K-passes = refl
 
 -- K's one location, with the clock at v.
@@ -49,12 +52,12 @@ abbrev live : List ℕ → List ℕ
 live rest = 1 ∷ 1 ∷ 1 ∷ 1 ∷ rest
 
 -- K's run from there. Whoever unfolds it unfolds all that a tick of K goes through.
-runAt : List ℕ → ℕ → Stream → Ran
+runAt : ℕ → List ℕ → ℕ → Stream → Ran
 unfolding
-    policyOf outputsAt clocksAt locationsAt rulesAt rulesStart pairsFrom rulesFrom ruleFrom boundsFrom statesOf numberFrom locationFrom clocksFrom ran tick
-    outputTick moved outputChoice inputChoice mayStand reaches step decides fires hold within taken advance bind nearest better nearer distance spares any ones
-    onesIn roundsBy roundBy keeps leadsTo stays someEvent Rules.rests tab
-runAt rest v = ran (policyOf K) (live rest) (clockAt v)
+    policyOf outputsAt clocksAt locationsAt rulesAt rulesStart pairsFrom rulesFrom ruleFrom boundsFrom statesOf numberFrom locationFrom clocksFrom ran
+    tick outputTick moved outputChoice inputChoice mayStand reaches step decides fires hold within tested taken advance bind nearest better nearer
+    distance spares any ones onesIn roundsBy roundBy keeps leadsTo stays someEvent Rules.rests tab
+runAt reading rest v = ran (policyOf reading K) (live rest) (clockAt v)
 
 -- One quiet event more, before the others.
 abbrev quietly : Ran → Ran
@@ -66,77 +69,110 @@ released n b v = record { released = map eventOf (quietThen n b); place = clockA
 
 module _ (rest : List ℕ) where
   -- At its ceiling the clock stands still through every quiet tick, and the pulse does not pass.
-  at-ceiling : (n : ℕ) → runAt rest 3 (map eventOf (quietThen n 0x10)) ≡ released n 0x00 3
+  at-ceiling : (n : ℕ) →
+      (runAt 1 rest 3 (map eventOf (quietThen n 0x10)) ≡ released n 0x00 3) × (runAt 2 rest 3 (map eventOf (quietThen n 0x10)) ≡ released n 0x00 3)
   unfolding runAt
-  at-ceiling zero = refl
-  at-ceiling (suc n) = ap quietly (at-ceiling n)
+  at-ceiling zero = (refl, refl)
+  at-ceiling (suc n) = let h = at-ceiling n in (ap quietly (h .0), ap quietly (h .1))
 
-  -- Three ticks from the start it is there.
-  stale : (n : ℕ) → 3 ≤ n → runAt rest 0 (map eventOf (quietThen n 0x10)) ≡ released n 0x00 3
+  abbrev Stale : ℕ → Type 0
+  Stale reading = (n : ℕ) → 4 ≤ n + reading → runAt reading rest 0 (map eventOf (quietThen n 0x10)) ≡ released n 0x00 3
+
+  -- Three ticks from the start it is there, and reading 2 looks one tick ahead.
+  stale : (reading : ℕ) → readingRefusal reading ≡ 0 → Stale reading
   unfolding runAt
-  stale zero h = absurd (omega arith)
-  stale (suc zero) h = absurd (omega arith)
-  stale (suc (suc zero)) h = absurd (omega arith)
-  stale (suc (suc (suc n))) h = ap (λ r. quietly (quietly (quietly r))) (at-ceiling n)
+  stale = each-reading Stale first second
+    where
+      first : Stale 1
+      first zero h = absurd (omega arith)
+      first (suc zero) h = absurd (omega arith)
+      first (suc (suc zero)) h = absurd (omega arith)
+      first (suc (suc (suc n))) h = ap (λ r. quietly (quietly (quietly r))) (at-ceiling n .0)
 
-  fresh : (n : ℕ) → n ≤ 2 → runAt rest 0 (map eventOf (quietThen n 0x10)) ≡ released n 0x10 (n + 1)
+      second : Stale 2
+      second zero h = absurd (omega arith)
+      second (suc zero) h = absurd (omega arith)
+      second (suc (suc zero)) h = refl
+      second (suc (suc (suc n))) h = ap (λ r. quietly (quietly (quietly r))) (at-ceiling n .1)
+
+  abbrev Fresh : ℕ → Type 0
+  Fresh reading = (n : ℕ) → n + reading ≤ 3 → runAt reading rest 0 (map eventOf (quietThen n 0x10)) ≡ released n 0x10 (n + 1)
+
+  fresh : (reading : ℕ) → readingRefusal reading ≡ 0 → Fresh reading
   unfolding runAt
-  fresh zero h = refl
-  fresh (suc zero) h = refl
-  fresh (suc (suc zero)) h = refl
-  fresh (suc (suc (suc n))) h = absurd (omega arith)
+  fresh = each-reading Fresh first second
+    where
+      first : Fresh 1
+      first zero h = refl
+      first (suc zero) h = refl
+      first (suc (suc zero)) h = refl
+      first (suc (suc (suc n))) h = absurd (omega arith)
 
-pulse-good : (n : ℕ) → all (eventGood K) (quietThen n 0x10) ≡ true
-unfolding all runAt
-pulse-good zero = refl
-pulse-good (suc n) = pulse-good n
+      second : Fresh 2
+      second zero h = refl
+      second (suc zero) h = refl
+      second (suc (suc n)) h = absurd (omega arith)
 
 bytes-back : (bytes : List ℕ) → map byteOf (map eventOf bytes) ≡ bytes
 bytes-back [] = refl
 bytes-back (b ∷ bs) = ap₂ {C = List ℕ} _∷_ (omega arith) (bytes-back bs)
 
-module _ (marks : List ℕ) (room : 4 ≤ length marks) where
-  long : states (policyOf K) ≤ length marks
+module _ (reading : ℕ) (named : readingRefusal reading ≡ 0) where
+  passed : refusalUnder reading K ≡ 0
+  passed = under-none reading K .1 (named, K-passes)
+
+  all-live : marksOf (policyOf reading K) ≡ live []
   unfolding runAt
-  long = room
+  all-live = each-reading (λ r. marksOf (policyOf r K) ≡ live []) refl refl reading named
 
-  marked : preparedMarks K marks ≡ live (drop 4 marks)
-  unfolding preparedMarks runAt
-  marked = rw (marks-granted K marks .1 (K-passes, long))
+  pulse-good : (n : ℕ) → all (eventGood reading K) (quietThen n 0x10) ≡ true
+  unfolding all runAt
+  pulse-good zero = refl
+  pulse-good (suc n) = pulse-good n
 
-  from-start :
-      (n b v : ℕ) → runAt (drop 4 marks) 0 (map eventOf (quietThen n 0x10)) ≡ released n b v →
-      (out : List ℕ) → n + 1 ≤ length out →
-      fromStart K marks (quietThen n 0x10) out
-      ≡ record { refusal = 0; count = n + 1; state = stateOf (clockAt v); out = quietThen n b ++ drop (n + 1) out }
-  unfolding runAt
-  from-start n b v e out l =
-      let p = policyOf K in
-      let M = preparedMarks K marks in
-      let ready : Ready p M (start p) = record { inside = start-inside p (well-sound p (checked-file K K-passes)); marked = rw marked } in
-      let many : (c : ℕ) → length (quietThen n c) ≡ n + 1 = λ c. simp (length-append, length-replicate) in
-      run-ready K M (prepared-granted K marks K-passes long) (start p) ready (quietThen n 0x10) out (rw many l) (pulse-good n)
-      ∙ rw (marked, e, bytes-back, length-map, many b)
+  module _ (marks : List ℕ) (room : 4 ≤ length marks) where
+    long : states (policyOf reading K) ≤ length marks
+    unfolding runAt
+    long = room
 
--- From the start and with the marks of prepare, for which K's four states need four bytes.
-module _ (n : ℕ) (marks out : List ℕ) (room : 4 ≤ length marks) (long : n + 1 ≤ length out) where
-  -- A pulse after more than 2 quiet ticks is stale: however many they were, 10 gives 00. The clock stands at its ceiling.
+    marked : preparedMarks reading K marks ≡ live (drop 4 marks)
+    unfolding runAt
+    marked = marks-past reading K marks (marks-granted reading K marks .1 (passed, long)) ∙ ap (λ (l : List ℕ). l ++ drop 4 marks) all-live
+
+    from-start :
+        (n b v : ℕ) → runAt reading (drop 4 marks) 0 (map eventOf (quietThen n 0x10)) ≡ released n b v →
+        (out : List ℕ) → n + 1 ≤ length out →
+        fromStart reading K marks (quietThen n 0x10) out
+        ≡ record { refusal = 0; count = n + 1; state = stateOf (clockAt v); out = quietThen n b ++ drop (n + 1) out }
+    unfolding runAt
+    from-start n b v e out l =
+        let p = policyOf reading K in
+        let M = preparedMarks reading K marks in
+        let ready : Ready p M (start p) = record { inside = start-inside p (well-sound p (well-formed reading K passed)); marked = rw marked } in
+        let many : (c : ℕ) → length (quietThen n c) ≡ n + 1 = λ c. simp (length-append, length-replicate) in
+        run-ready reading K M (prepared-granted reading K marks passed long) (start p) ready (quietThen n 0x10) out (rw many l) (pulse-good n)
+        ∙ rw (marked, e, bytes-back, length-map, many b)
+
+-- From the start and with the marks of prepare, for which K's four states need four bytes. After n quiet ticks the clock that is looked at is n under
+-- reading 1 and n + 1 under reading 2, stopped at its ceiling 3.
+module _ (reading : ℕ) (named : readingRefusal reading ≡ 0) (n : ℕ) (marks out : List ℕ) (room : 4 ≤ length marks) (long : n + 1 ≤ length out) where
+  -- Above 2 the pulse is stale: however many quiet ticks there were, 10 gives 00. The clock stands at its ceiling.
   pub stale-credit :
-      3 ≤ n →
-      fromStart K marks (quietThen n 0x10) out
+      4 ≤ n + reading →
+      fromStart reading K marks (quietThen n 0x10) out
       ≡ record { refusal = 0; count = n + 1; state = stateOf (clockAt 3); out = quietThen n 0x00 ++ drop (n + 1) out }
-  stale-credit h = from-start marks room n 0x00 3 (stale (drop 4 marks) n h) out long
+  stale-credit h = from-start reading named marks room n 0x00 3 (stale (drop 4 marks) reading named n h) out long
 
-  -- A pulse after at most 2 is fresh, and passes.
+  -- At most 2, it is fresh and passes.
   pub fresh-credit :
-      n ≤ 2 →
-      fromStart K marks (quietThen n 0x10) out
+      n + reading ≤ 3 →
+      fromStart reading K marks (quietThen n 0x10) out
       ≡ record { refusal = 0; count = n + 1; state = stateOf (clockAt (n + 1)); out = quietThen n 0x10 ++ drop (n + 1) out }
-  fresh-credit h = from-start marks room n 0x10 (n + 1) (fresh (drop 4 marks) n h) out long
+  fresh-credit h = from-start reading named marks room n 0x10 (n + 1) (fresh (drop 4 marks) reading named n h) out long
 
--- "K after 65,537 quiet ticks: 10 gives 00."
+-- "K after 65,537 quiet ticks: 10 gives 00", under both readings.
 pub after-65537 :
-    (marks out : List ℕ) → 4 ≤ length marks → 65538 ≤ length out →
-    fromStart K marks (quietThen 65537 0x10) out
+    (reading : ℕ) → readingRefusal reading ≡ 0 → (marks out : List ℕ) → 4 ≤ length marks → 65538 ≤ length out →
+    fromStart reading K marks (quietThen 65537 0x10) out
     ≡ record { refusal = 0; count = 65538; state = stateOf (clockAt 3); out = quietThen 65537 0x00 ++ drop 65538 out }
-after-65537 marks out room long = stale-credit 65537 marks out room long (omega arith)
+after-65537 reading named marks out room long = stale-credit reading named 65537 marks out room long (omega arith)

@@ -1,5 +1,5 @@
 -- The laws of demand 3 are not empty: joins are made.
-use mathlib.Core.Path.{_≡_, refl, sym}
+use mathlib.Core.Path.{_≡_, refl, sym, subst}
 use mathlib.Core.Bool.{Bool, true, false, cond}
 use mathlib.Core.List.{List, [], _∷_}
 use Prim.Native.Nat.{ℕ, zero, suc, _+_, _*_, _/_, _%_, _≤_, zero-le}
@@ -13,15 +13,15 @@ use Rattle.policy.specs.Rules.{Rule, Policy}
 use Rattle.policy.specs.Rules as Rules
 use Rattle.policy.specs.Number.{states, statesOf}
 use Rattle.policy.specs.File.{policyOf, outputsAt, clocksAt, locationsAt, rulesAt, rulesStart, rulesEnd, pairsFrom, rulesFrom, ruleFrom, boundsFrom}
-use Rattle.policy.specs.Check.{refusalOf, inputsRefusal, outputsRefusal, clocksRefusal, locationsRefusal, rulesSectionRefusal, sectionRefusal, tagsGood, among, all, rulesRefusal, ruleRefusal, headGood, maskGood, boundsGood, boundGood}
+use Rattle.policy.specs.Check.{readingRefusal, refusalOf, inputsRefusal, outputsRefusal, clocksRefusal, locationsRefusal, rulesSectionRefusal, sectionRefusal, tagsGood, among, all, rulesRefusal, ruleRefusal, headGood, maskGood, boundsGood, boundGood}
 use Rattle.policy.specs.Bytes.{bytesOf, countsBytes, pairsBytes, rulesBytes, ruleBytes, boundsBytes}
 use Rattle.policy.specs.Sound.{WellFormed}
 use Rattle.policy.specs.Checked.{frame, longest, checked-file}
-use Rattle.policy.specs.ReadBack.{read-back, written-passes}
+use Rattle.policy.specs.ReadBack.{written-passes}
 use Rattle.join.specs.Join.{of, agree, target, both, pair, each, cell, rows, leftAt, leftBelow, join}
 use Rattle.join.specs.Masks.{alike}
-use Rattle.join.specs.Free.{always, free, freeFile, free-well}
-use Rattle.join.specs.Entry.{sameTags, sameSignals, joinFits, joinedFile, joinRefusal, joinOf, joinedOut}
+use Rattle.join.specs.Free.{always, free, freeFile, free-well, free-read}
+use Rattle.join.specs.Entry.{sameTags, sameSignals, joinFits, said, joinedFile, joinRefusal, joinOf, joinedOut}
 use Rattle.join.specs.Joins.{join-clocks}
 use Rattle.join.specs.Limits.{states-join}
 use Rattle.join.specs.Again.{sameTags-is}
@@ -116,7 +116,7 @@ fits-of q l c r s = rw (le-leb _ _ l, le-leb _ _ c, le-leb _ _ r, le-leb _ _ s)
 -- So A's own limits are enough: that policy has one location, no clocks and one rule.
 module _ (p : Policy) (w : WellFormed p) where
   abbrev unit : Policy
-  unit = free (p .inputs) (p .outputs)
+  unit = free (p .reading) (p .inputs) (p .outputs)
 
   locations-fit : join p unit .locations ≤ 64
   unfolding join
@@ -143,20 +143,22 @@ module _ (p : Policy) (w : WellFormed p) where
 
 -- "A with the policy that permits all": for every A that passes the check that join is made, in every slice that holds the joined file.
 module _ (a : List ℕ) (passed : refusalOf a ≡ 0) where
-  is-free : policyOf (permitsAll a) ≡ free (policyOf a .inputs) (policyOf a .outputs)
-  unfolding freeFile
-  is-free = read-back (free (policyOf a .inputs) (policyOf a .outputs)) (free-well (policyOf a) (checked-file a passed))
+  is-free : said (permitsAll a) ≡ free 1 (said a .inputs) (said a .outputs)
+  unfolding policyOf
+  is-free = free-read 1 (said a) (checked-file 1 a passed)
 
   unit-unrefused :
       (out : List ℕ) → length (joinedFile a (permitsAll a) out) ≤ length out → Unrefused a (permitsAll a) out
-  unfolding freeFile sameSignals
+  unfolding freeFile sameSignals policyOf
   unit-unrefused out room =
-      let p = policyOf a in
+      let p = said a in
       record {
         first = passed;
-        second = written-passes (free (p .inputs) (p .outputs)) (free-well p (checked-file a passed));
-        signals = rw (is-free, sameTags-is (p .inputs) (p .inputs) .1 refl, sameTags-is (p .outputs) (p .outputs) .1 refl);
-        fits = rw is-free (free-fits p (checked-file a passed));
+        second = written-passes (free 1 (p .inputs) (p .outputs)) (free-well 1 p (checked-file 1 a passed));
+        signals =
+            subst (λ (q : Policy). sameSignals p q ≡ true) (sym is-free)
+            (rw (sameTags-is (p .inputs) (p .inputs) .1 refl, sameTags-is (p .outputs) (p .outputs) .1 refl));
+        fits = subst (λ (q : Policy). joinFits (join p q) ≡ true) (sym is-free) (free-fits p (checked-file 1 a passed));
         room = room;
       }
 
@@ -192,10 +194,10 @@ right = joinedIn 54 alwaysOff K
 pub three-made :
     Joined K alwaysOff left × Joined left K (joinedIn 132 left K) × Joined alwaysOff K right × Joined K right (joinedIn 132 K right)
 unfolding
-    joinOf joinedOut joinRefusal joinedFile sameSignals sameTags joinFits join rows cell each pair both agree target of alike leftAt leftBelow Rules.rests bytesOf countsBytes pairsBytes
-    rulesBytes ruleBytes boundsBytes refusalOf inputsRefusal outputsRefusal clocksRefusal locationsRefusal rulesSectionRefusal sectionRefusal tagsGood
-    among all rulesRefusal ruleRefusal headGood maskGood boundsGood boundGood policyOf outputsAt clocksAt locationsAt rulesAt rulesStart rulesEnd
-    pairsFrom rulesFrom ruleFrom boundsFrom statesOf
+    joinOf joinedOut joinRefusal joinedFile sameSignals sameTags joinFits join rows cell each pair both agree target of alike leftAt leftBelow
+    Rules.rests bytesOf countsBytes pairsBytes rulesBytes ruleBytes boundsBytes refusalOf inputsRefusal outputsRefusal clocksRefusal locationsRefusal
+    rulesSectionRefusal sectionRefusal tagsGood among all rulesRefusal ruleRefusal headGood maskGood boundsGood boundGood policyOf outputsAt clocksAt
+    locationsAt rulesAt rulesStart rulesEnd pairsFrom rulesFrom ruleFrom boundsFrom statesOf
 three-made = (
   record { slice = replicate 54 0; size = 54; given = refl; written = refl },
   record { slice = replicate 132 0; size = 132; given = refl; written = refl },
@@ -203,6 +205,6 @@ three-made = (
   record { slice = replicate 132 0; size = 132; given = refl; written = refl },
 )
 
--- So "grouped either way with C" speaks of them.
-pub three-alike : Alike (joinedIn 132 left K) (joinedIn 132 K right)
-three-alike = grouping (three-made .0) (three-made .1) (three-made .2) (three-made .3)
+-- So "grouped either way with C" speaks of them, for each reading.
+pub three-alike : (reading : ℕ) → readingRefusal reading ≡ 0 → Alike reading (joinedIn 132 left K) (joinedIn 132 K right)
+three-alike reading named = grouping reading named (three-made .0) (three-made .1) (three-made .2) (three-made .3)

@@ -1,5 +1,5 @@
--- What the program `enforce` prints, by demand 2: exactly the stream that it fixes, `refused 11` exactly where it says hopeless, and of the run no refusal
--- but 15. First of the text `printed`, then of what the code of `console::respond` wrote.
+-- What the program `enforce` prints, by demand 2 under reading 1, which it uses: exactly the stream that it fixes, `refused 11` exactly where it says
+-- hopeless, and of the run no refusal but 15. First of the text `printed`, then of what the code of `console::respond` wrote.
 use mathlib.Core.Path.{_≡_, refl, sym, ap, _∙_}
 use mathlib.Core.Bool.{Bool, true, false}
 use mathlib.Core.List.{List, [], _∷_, _++_, map, append-nil}
@@ -17,7 +17,7 @@ use Rattle.streams.specs.Laws.{not-both, enforced-one}
 use Rattle.policy.specs.Rules.{Place, start, Permits}
 use Rattle.policy.specs.Number.{states}
 use Rattle.policy.specs.File.{policyOf}
-use Rattle.policy.specs.Check.{refusalOf, all, refusal-le}
+use Rattle.policy.specs.Check.{readingRefusal, refusalUnder, refusalOf, all, refusal-le}
 use Rattle.policy.specs.Checked.{checked-file}
 use Rattle.enforcer.specs.State.{stateOf}
 use Rattle.enforcer.specs.Tick.{Ran, ran}
@@ -32,7 +32,7 @@ use Rattle.console.specs.Decimal.{valueFrom, reads-back}
 use Rattle.console.specs.Frame.{countRefusal, policyFrameRefusal, policyPart, eventsFrameRefusal, eventsPart}
 use Rattle.console.specs.Printed.{unlessRefused, lent, ranOver, summaryLines, enforcedText, printed}
 use Rattle.console.specs.Reply.{Replied, replied-front}
-use Rattle.tender.specs.Granted.{judged, given-passed, given-goes-on, state-ready, ready-state, run-ready}
+use Rattle.tender.specs.Granted.{well-formed, judged, given-passed, given-goes-on, state-ready, ready-state, run-ready}
 use Rattle.tender.specs.Demand2.{ReleasedFor, releases, as-many}
 
 lent-length : (n : ℕ) → length (lent n) ≡ n
@@ -70,28 +70,29 @@ not-eleven zero false l s events released t = omega (arith, refused-one 15 11 t)
 not-eleven (suc n) b l s events released t = omega (arith, refused-one (suc n) 11 t)
 
 -- Where prepare gives a summary of the policy in the input.
-module _ (file : List ℕ) (s : Summary) (e : prepareOf file (lent 65536) ≡ gives s) where
-  by : Prepared (policyOf file) (marksOf (policyOf file))
+module _ (file : List ℕ) (s : Summary) (e : prepareOf 1 file (lent 65536) ≡ gives s) where
+  by : Prepared (policyOf 1 file) (marksOf (policyOf 1 file))
   by n l = refl
 
-  granted : marksRefusal file (marksOf (policyOf file)) ≡ 0
-  granted = marks-granted file _ .1 (given-passed file (lent 65536) s e, rw marks-length (le-refl (states (policyOf file))))
+  granted : marksRefusal 1 file (marksOf (policyOf 1 file)) ≡ 0
+  granted = marks-granted 1 file _ .1 (given-passed 1 file (lent 65536) s e, rw marks-length (le-refl (states (policyOf 1 file))))
 
-  ready : Ready (policyOf file) (marksOf (policyOf file)) (start (policyOf file))
+  ready : Ready (policyOf 1 file) (marksOf (policyOf 1 file)) (start (policyOf 1 file))
   ready =
-      let p = policyOf file in
-      leads-ready p (checked-file file (given-passed file (lent 65536) s e)) (marksOf p) by (leads-start p) (given-goes-on file (lent 65536) s e)
+      let p = policyOf 1 file in
+      leads-ready p (well-formed 1 file (given-passed 1 file (lent 65536) s e)) (marksOf p) by (leads-start p) (given-goes-on 1 file (lent 65536) s e)
 
   -- "events (15)": the run is refused by 15 alone, where an event has a bit beyond its signals.
-  pub run-refused : (events : List ℕ) → ranOver file events .refusal ≡ unless (all (eventGood file) events) 15
+  pub run-refused : (events : List ℕ) → ranOver file events .refusal ≡ unless (all (eventGood 1 file) events) 15
   unfolding runOf runRefusal
   run-refused events =
-      let p = policyOf file in
+      let p = policyOf 1 file in
       let t = stateOf (start p) in
-      let stands = ready-state file (marksOf p) (start p) ready in
+      let stands = ready-state 1 file (marksOf p) (start p) ready in
       let room : length events ≤ length (lent (length events)) = rw lent-length (le-refl (length events)) in
-      let moves = never-stuck p (checked-file file (given-passed file (lent 65536) s e)) (marksOf p) by (state-ready file (marksOf p) t stands) (map eventOf events) in
-      rw (granted, le-leb _ _ room, stands) (go t (lent (length events)) _ moves (all (eventGood file) events))
+      let ok = well-formed 1 file (given-passed 1 file (lent 65536) s e) in
+      let moves = never-stuck p ok (marksOf p) by (state-ready 1 file (marksOf p) t stands) (map eventOf events) in
+      rw (granted, le-leb _ _ room, stands) (go t (lent (length events)) _ moves (all (eventGood 1 file) events))
     where
       go : (t : Place) (out : List ℕ) (r : Ran) → r .stuck ≡ false → (b : Bool) → runFrom t out (unless b 15) r .refusal ≡ unless b 15
       go t out r h true = rw h
@@ -99,16 +100,16 @@ module _ (file : List ℕ) (s : Summary) (e : prepareOf file (lent 65536) ≡ gi
 
   -- What it releases is demand 2's stream.
   run-released :
-      (events : List ℕ) → all (eventGood file) events ≡ true → (rs : Stream) → ReleasedFor (policyOf file) events rs →
+      (events : List ℕ) → all (eventGood 1 file) events ≡ true → (rs : Stream) → ReleasedFor (policyOf 1 file) events rs →
       ranOver file events .out ≡ map byteOf rs
   run-released events good rs h =
-      let p = policyOf file in
+      let p = policyOf 1 file in
       let M = marksOf p in
       let out = lent (length events) in
       let room : length events ≤ length out = rw lent-length (le-refl (length events)) in
-      let ok = checked-file file (given-passed file (lent 65536) s e) in
-      let r = ran-enforces p ok M by (leads-start p) (given-goes-on file (lent 65536) s e) (map eventOf events) in
-      let ran-is = run-ready file M granted (start p) ready events out room good in
+      let ok = well-formed 1 file (given-passed 1 file (lent 65536) s e) in
+      let r = ran-enforces p ok M by (leads-start p) (given-goes-on 1 file (lent 65536) s e) (map eventOf events) in
+      let ran-is = run-ready 1 file M granted (start p) ready events out room good in
       let n : length (ran p M (start p) (map eventOf events) .released) ≡ length events = as-many p events (r .enforced) in
       let same = enforced-one corrections _ _ (Permits p) (r .enforced) h in
       let empty : drop (length events) out ≡ [] = drop-of-length-le out {i = length events} (rw lent-length (le-refl (length events))) in
@@ -118,62 +119,62 @@ module _ (input : List ℕ) (framed : policyFrameRefusal input ≡ 0) where
   -- Where the policy's bytes are all there and prepare gives a summary: the text is one line with the first refusal of the events, and otherwise the
   -- verdict's line with a line for each event. No other refusal is printed then.
   pub printed-exactly :
-      (s : Summary) → prepareOf (policyPart input) (lent 65536) ≡ gives s →
+      (s : Summary) → prepareOf 1 (policyPart input) (lent 65536) ≡ gives s →
       printed input
-      ≡ unlessRefused (eventsFrameRefusal input orElse unless (all (eventGood (policyPart input)) (eventsPart input)) 15)
+      ≡ unlessRefused (eventsFrameRefusal input orElse unless (all (eventGood 1 (policyPart input)) (eventsPart input)) 15)
       (summaryLines s (eventsPart input) (ranOver (policyPart input) (eventsPart input) .out))
   unfolding printed enforcedText
   printed-exactly s e = rw (framed, e, run-refused (policyPart input) s e (eventsPart input))
 
   -- "one event is released for each one read": with events that are all there and within the signals, the lines hold exactly demand 2's stream.
   pub printed-releases :
-      (s : Summary) → prepareOf (policyPart input) (lent 65536) ≡ gives s →
-      eventsFrameRefusal input ≡ 0 → all (eventGood (policyPart input)) (eventsPart input) ≡ true →
-      (rs : Stream) → ReleasedFor (policyOf (policyPart input)) (eventsPart input) rs →
+      (s : Summary) → prepareOf 1 (policyPart input) (lent 65536) ≡ gives s →
+      eventsFrameRefusal input ≡ 0 → all (eventGood 1 (policyPart input)) (eventsPart input) ≡ true →
+      (rs : Stream) → ReleasedFor (policyOf 1 (policyPart input)) (eventsPart input) rs →
       printed input ≡ summaryLines s (eventsPart input) (map byteOf rs)
   printed-releases s e b good rs h = printed-exactly s e ∙ rw (b, good, run-released (policyPart input) s e (eventsPart input) good rs h)
 
   -- There is such a stream.
   pub printed-stream :
-      (s : Summary) → prepareOf (policyPart input) (lent 65536) ≡ gives s →
-      eventsFrameRefusal input ≡ 0 → all (eventGood (policyPart input)) (eventsPart input) ≡ true →
-      (rs : Stream) × ReleasedFor (policyOf (policyPart input)) (eventsPart input) rs
+      (s : Summary) → prepareOf 1 (policyPart input) (lent 65536) ≡ gives s →
+      eventsFrameRefusal input ≡ 0 → all (eventGood 1 (policyPart input)) (eventsPart input) ≡ true →
+      (rs : Stream) × ReleasedFor (policyOf 1 (policyPart input)) (eventsPart input) rs
       × (printed input ≡ summaryLines s (eventsPart input) (map byteOf rs))
   printed-stream s e b good =
       let events = eventsPart input in
       let room : length events ≤ length (lent (length events)) = rw lent-length (le-refl (length events)) in
-      let r = releases (policyPart input) (lent 65536) s e events (lent (length events)) good room in
+      let r = releases 1 (policyPart input) (lent 65536) s e events (lent (length events)) good room in
       (r .released, r .enforced, printed-releases s e b good (r .released) (r .enforced))
 
   -- "refused as hopeless exactly if, from its start, some length has no permitted stream": of a policy that passes its own checks, `refused 11` is
   -- printed exactly if it is hopeless, whatever the events are.
   pub printed-hopeless :
-      refusalOf (policyPart input) ≡ 0 → (printed input ≡ refusedLine 11) ↔ Hopeless (Permits (policyOf (policyPart input)))
-  unfolding printed enforcedText
+      refusalOf (policyPart input) ≡ 0 → (printed input ≡ refusedLine 11) ↔ Hopeless (Permits (policyOf 1 (policyPart input)))
+  unfolding printed enforcedText refusalUnder readingRefusal
   printed-hopeless passed =
       let file = policyPart input in
-      let p = policyOf file in
-      let long : states p ≤ length (lent 65536) = rw lent-length (checked-file file passed .states) in
+      let p = policyOf 1 file in
+      let long : states p ≤ length (lent 65536) = rw lent-length (checked-file 1 file passed .states) in
       ⊎-elim (λ h. (λ t. h .0, λ t. rw (framed, h .1)))
       (λ g. (
-        λ t. absurd (not-eleven (eventsFrameRefusal input) (all (eventGood file) (eventsPart input)) (frame-le input) _ _ _ (sym (printed-exactly _ (g .1)) ∙ t)),
+        λ t. absurd (not-eleven (eventsFrameRefusal input) (all (eventGood 1 file) (eventsPart input)) (frame-le input) _ _ _ (sym (printed-exactly _ (g .1)) ∙ t)),
         λ d. absurd (not-both (Permits p) [] (g .0) d),
       ))
-      (judged file (lent 65536) passed long)
+      (judged 1 file (lent 65536) passed long)
 
 -- The program prints `refused 11` exactly if the policy's bytes are all there, pass their own checks, and are those of a hopeless policy.
 pub printed-eleven :
     (input : List ℕ)
     → (printed input ≡ refusedLine 11)
-    ↔ ((policyFrameRefusal input ≡ 0) × (refusalOf (policyPart input) ≡ 0) × Hopeless (Permits (policyOf (policyPart input))))
-unfolding printed enforcedText prepareOf marksRefusal
+    ↔ ((policyFrameRefusal input ≡ 0) × (refusalOf (policyPart input) ≡ 0) × Hopeless (Permits (policyOf 1 (policyPart input))))
+unfolding printed enforcedText prepareOf marksRefusal refusalUnder readingRefusal
 printed-eleven input = (
   λ t. there (policyFrameRefusal input) refl (refusalOf (policyPart input)) refl t,
   λ h. printed-hopeless input (h .0) (h .1) .1 (h .2),
 )
   where
     there : (n : ℕ) → policyFrameRefusal input ≡ n → (m : ℕ) → refusalOf (policyPart input) ≡ m → printed input ≡ refusedLine 11 →
-        (policyFrameRefusal input ≡ 0) × (refusalOf (policyPart input) ≡ 0) × Hopeless (Permits (policyOf (policyPart input)))
+        (policyFrameRefusal input ≡ 0) × (refusalOf (policyPart input) ≡ 0) × Hopeless (Permits (policyOf 1 (policyPart input)))
     there (suc n) d m e t = absurd (omega (arith, policy-le input, refused-one (suc n) 11 (sym (rw d) ∙ t)))
     there zero d (suc m) e t = absurd (omega (arith, refusal-le (policyPart input), refused-one (suc m) 11 (sym (rw (d, e)) ∙ t)))
     there zero d zero e t = (d, e, printed-hopeless input d e .0 t)
@@ -181,11 +182,11 @@ printed-eleven input = (
 -- What the code of `console::respond` wrote into the text: its first r bytes.
 module _ (input : List ℕ) {before after : List ℕ} {r : ℕ} (k : Replied before (printed input) r after) (framed : policyFrameRefusal input ≡ 0) where
   pub respond-releases :
-      (s : Summary) → prepareOf (policyPart input) (lent 65536) ≡ gives s →
-      eventsFrameRefusal input ≡ 0 → all (eventGood (policyPart input)) (eventsPart input) ≡ true →
-      (rs : Stream) → ReleasedFor (policyOf (policyPart input)) (eventsPart input) rs →
+      (s : Summary) → prepareOf 1 (policyPart input) (lent 65536) ≡ gives s →
+      eventsFrameRefusal input ≡ 0 → all (eventGood 1 (policyPart input)) (eventsPart input) ≡ true →
+      (rs : Stream) → ReleasedFor (policyOf 1 (policyPart input)) (eventsPart input) rs →
       take r after ≡ summaryLines s (eventsPart input) (map byteOf rs)
   respond-releases s e b good rs h = replied-front k ∙ printed-releases input framed s e b good rs h
 
-  pub respond-hopeless : refusalOf (policyPart input) ≡ 0 → (take r after ≡ refusedLine 11) ↔ Hopeless (Permits (policyOf (policyPart input)))
+  pub respond-hopeless : refusalOf (policyPart input) ≡ 0 → (take r after ≡ refusedLine 11) ↔ Hopeless (Permits (policyOf 1 (policyPart input)))
   respond-hopeless passed = rw (replied-front k) (printed-hopeless input framed passed)

@@ -1,4 +1,5 @@
--- "A location byte of 1 shall mean 'must be left', 0 'may rest'": small policies, byte by byte, and what is said to them, by computation.
+-- "A location byte of 1 shall mean 'must be left', 0 'may rest'": small policies, byte by byte, and what is said to them, by computation
+-- and under reading 1. They have no clocks.
 use mathlib.Core.Path.{_≡_, refl}
 use mathlib.Core.List.{List, [], _∷_, map}
 use mathlib.Core.Option.{bind, some}
@@ -10,11 +11,11 @@ use Rattle.streams.specs.Answer.{refused, gives}
 use Rattle.streams.specs.Stream.{Event}
 use Rattle.streams.specs.Choose.{any, nearest, better}
 use Rattle.streams.specs.Corrections.{distance, nearer, spares}
-use Rattle.policy.specs.Rules.{Place, step, steps, decides, fires, hold, within, taken, advance, unlimited, Fits, fits-none, fits-more, Runs, Dead}
+use Rattle.policy.specs.Rules.{Place, step, steps, decides, fires, hold, within, tested, taken, advance, unlimited, Fits, fits-none, fits-more, Runs, Dead}
 use Rattle.policy.specs.Rules as Rules
 use Rattle.policy.specs.Number.{statesOf, numberFrom, locationFrom, clocksFrom}
 use Rattle.policy.specs.File.{policyOf, outputsAt, clocksAt, locationsAt, rulesAt, rulesStart, rulesEnd, pairsFrom, rulesFrom, ruleFrom, boundsFrom}
-use Rattle.policy.specs.Check.{refusalOf, inputsRefusal, outputsRefusal, clocksRefusal, locationsRefusal, rulesSectionRefusal, sectionRefusal, tagsGood, among, all, rulesRefusal, ruleRefusal, headGood, maskGood, boundsGood, boundGood}
+use Rattle.policy.specs.Check.{readingRefusal, refusalUnder, refusalOf, inputsRefusal, outputsRefusal, clocksRefusal, locationsRefusal, rulesSectionRefusal, sectionRefusal, tagsGood, among, all, rulesRefusal, ruleRefusal, headGood, maskGood, boundsGood, boundGood}
 use Rattle.policy.specs.Bytes.{bytesOf, countsBytes, pairsBytes, rulesBytes, ruleBytes, boundsBytes}
 use Rattle.policy.specs.Checked.{checked-file}
 use Rattle.enforcer.specs.State.{stateGood, clocksGood}
@@ -61,43 +62,43 @@ turns first second =
 unfoldable pub restCases : List Case
 restCases =
     -- A transfer that can be ended is let in, and its end too.
-    record { file = transfer; asked = prepared; expected = summary 0 2 2 }
-    ∷ record { file = transfer; asked = enforced (0x01 ∷ 0x00 ∷ 0x10 ∷ []); expected = released (0x01 ∷ 0x00 ∷ 0x10 ∷ []) }
+    record { reading = 1; file = transfer; asked = prepared; expected = summary 0 2 2 }
+    ∷ record { reading = 1; file = transfer; asked = enforced (0x01 ∷ 0x00 ∷ 0x10 ∷ []); expected = released (0x01 ∷ 0x00 ∷ 0x10 ∷ []) }
     -- One that cannot is edited away where it begins.
-    ∷ record { file = endless 1; asked = prepared; expected = summary 1 2 1 }
-    ∷ record { file = endless 1; asked = enforced (0x01 ∷ 0x11 ∷ []); expected = released (0x00 ∷ 0x10 ∷ []) }
+    ∷ record { reading = 1; file = endless 1; asked = prepared; expected = summary 1 2 1 }
+    ∷ record { reading = 1; file = endless 1; asked = enforced (0x01 ∷ 0x11 ∷ []); expected = released (0x00 ∷ 0x10 ∷ []) }
     -- With the byte 0 it is let in, as it was.
-    ∷ record { file = endless 0; asked = prepared; expected = summary 0 2 2 }
-    ∷ record { file = endless 0; asked = enforced (0x01 ∷ 0x11 ∷ []); expected = released (0x01 ∷ 0x11 ∷ []) }
+    ∷ record { reading = 1; file = endless 0; asked = prepared; expected = summary 0 2 2 }
+    ∷ record { reading = 1; file = endless 0; asked = enforced (0x01 ∷ 0x11 ∷ []); expected = released (0x01 ∷ 0x11 ∷ []) }
     -- A start that must be left and cannot be is refused by 11; one that can be is live.
-    ∷ record { file = alone 1; asked = prepared; expected = refusal 11 (0 ∷ []) }
-    ∷ record { file = alone 0; asked = prepared; expected = summary 0 1 1 }
-    ∷ record { file = turns 1 0; asked = prepared; expected = summary 0 2 2 }
-    ∷ record { file = turns 1 1; asked = prepared; expected = refusal 11 (0 ∷ 0 ∷ []) }
+    ∷ record { reading = 1; file = alone 1; asked = prepared; expected = refusal 11 (0 ∷ []) }
+    ∷ record { reading = 1; file = alone 0; asked = prepared; expected = summary 0 1 1 }
+    ∷ record { reading = 1; file = turns 1 0; asked = prepared; expected = summary 0 2 2 }
+    ∷ record { reading = 1; file = turns 1 1; asked = prepared; expected = refusal 11 (0 ∷ 0 ∷ []) }
     -- "5 now means a byte above 1."
-    ∷ record { file = alone 2; asked = prepared; expected = refusal 5 (99 ∷ []) }
+    ∷ record { reading = 1; file = alone 2; asked = prepared; expected = refusal 5 (99 ∷ []) }
     ∷ []
 
-pub rest-cases : map (λ c. said (c .file) (c .asked)) restCases ≡ map (λ c. c .expected) restCases
+pub rest-cases : map (λ c. said (c .reading) (c .file) (c .asked)) restCases ≡ map (λ c. c .expected) restCases
 unfolding
-    restCases runOf runRefusal marksRefusal stateRefusal stateGood clocksGood refusalOf inputsRefusal outputsRefusal clocksRefusal locationsRefusal
-    rulesSectionRefusal sectionRefusal tagsGood among all rulesRefusal ruleRefusal headGood maskGood boundsGood boundGood policyOf outputsAt clocksAt
-    locationsAt rulesAt rulesStart rulesEnd pairsFrom rulesFrom ruleFrom boundsFrom statesOf numberFrom locationFrom clocksFrom ran tick outputTick moved
-    outputChoice inputChoice mayStand reaches step decides fires hold within taken advance bind nearest better nearer distance spares any prepareOf preparedMarks
-    roundsBy roundBy keeps leadsTo stays someEvent Rules.rests tab ones onesIn
+    restCases runOf runRefusal marksRefusal refusalUnder readingRefusal stateRefusal stateGood clocksGood refusalOf inputsRefusal outputsRefusal
+    clocksRefusal locationsRefusal rulesSectionRefusal sectionRefusal tagsGood among all rulesRefusal ruleRefusal headGood maskGood boundsGood
+    boundGood policyOf outputsAt clocksAt locationsAt rulesAt rulesStart rulesEnd pairsFrom rulesFrom ruleFrom boundsFrom statesOf numberFrom
+    locationFrom clocksFrom ran tick outputTick moved outputChoice inputChoice mayStand reaches step decides fires hold within tested taken advance
+    bind nearest better nearer distance spares any prepareOf preparedMarks roundsBy roundBy keeps leadsTo stays someEvent Rules.rests tab ones onesIn
 rest-cases = refl
 
 -- Each of two policies rests at every other tick, the one when the other does not: live apart, they never rest together, and their join is hopeless.
 pub never-together :
-    (prepareOf (turns 0 1) (0 ∷ 0 ∷ []) ≡ gives (record { verdict = 0; states = 2; live = 2 }))
-    × (prepareOf (turns 1 0) (0 ∷ 0 ∷ []) ≡ gives (record { verdict = 0; states = 2; live = 2 }))
-    × (prepareOf (joinedFile (turns 0 1) (turns 1 0) []) (0 ∷ 0 ∷ 0 ∷ 0 ∷ []) ≡ refused 11)
+    (prepareOf 1 (turns 0 1) (0 ∷ 0 ∷ []) ≡ gives (record { verdict = 0; states = 2; live = 2 }))
+    × (prepareOf 1 (turns 1 0) (0 ∷ 0 ∷ []) ≡ gives (record { verdict = 0; states = 2; live = 2 }))
+    × (prepareOf 1 (joinedFile (turns 0 1) (turns 1 0) []) (0 ∷ 0 ∷ 0 ∷ 0 ∷ []) ≡ refused 11)
 unfolding
-    prepareOf marksRefusal joinedFile join rows cell each pair both agree target of alike leftAt leftBelow bytesOf countsBytes pairsBytes rulesBytes ruleBytes
-    boundsBytes refusalOf inputsRefusal outputsRefusal clocksRefusal locationsRefusal rulesSectionRefusal sectionRefusal tagsGood among all rulesRefusal
-    ruleRefusal headGood maskGood boundsGood boundGood policyOf outputsAt clocksAt locationsAt rulesAt rulesStart rulesEnd pairsFrom rulesFrom ruleFrom
-    boundsFrom statesOf numberFrom locationFrom clocksFrom mayStand reaches step decides fires hold within taken advance bind any roundsBy roundBy keeps
-    leadsTo stays someEvent Rules.rests tab
+    prepareOf marksRefusal refusalUnder readingRefusal joinedFile join rows cell each pair both agree target of alike leftAt leftBelow bytesOf
+    countsBytes pairsBytes rulesBytes ruleBytes boundsBytes refusalOf inputsRefusal outputsRefusal clocksRefusal locationsRefusal rulesSectionRefusal
+    sectionRefusal tagsGood among all rulesRefusal ruleRefusal headGood maskGood boundsGood boundGood policyOf outputsAt clocksAt locationsAt rulesAt
+    rulesStart rulesEnd pairsFrom rulesFrom ruleFrom boundsFrom statesOf numberFrom locationFrom clocksFrom mayStand reaches step decides fires hold
+    within tested taken advance bind any roundsBy roundBy keeps leadsTo stays someEvent Rules.rests tab
 never-together = (refl, refl, refl)
 
 -- The transfer that never ends, and the quiet event.
@@ -108,21 +109,21 @@ abbrev quiet : Event
 quiet = record { x = 0; y = 0 }
 
 -- Permitted streams of every length leave it, and yet it is not live: none of their events ends at rest.
-pub on-and-not-live : EveryLength (Runs (policyOf (endless 1)) begun) [] × Dead (policyOf (endless 1)) begun
+pub on-and-not-live : EveryLength (Runs (policyOf 1 (endless 1)) begun) [] × Dead (policyOf 1 (endless 1)) begun
 unfolding
-    Runs steps refusalOf inputsRefusal outputsRefusal clocksRefusal locationsRefusal rulesSectionRefusal sectionRefusal tagsGood among all rulesRefusal
-    ruleRefusal headGood maskGood boundsGood boundGood policyOf outputsAt clocksAt locationsAt rulesAt rulesStart rulesEnd pairsFrom rulesFrom ruleFrom
-    boundsFrom statesOf numberFrom locationFrom clocksFrom mayStand reaches step decides fires hold within taken advance bind any roundsBy roundBy keeps
-    leadsTo stays someEvent Rules.rests tab
+    Runs steps refusalOf inputsRefusal outputsRefusal clocksRefusal locationsRefusal rulesSectionRefusal sectionRefusal tagsGood among all
+    rulesRefusal ruleRefusal headGood maskGood boundsGood boundGood policyOf outputsAt clocksAt locationsAt rulesAt rulesStart rulesEnd pairsFrom
+    rulesFrom ruleFrom boundsFrom statesOf numberFrom locationFrom clocksFrom mayStand reaches step decides fires hold within tested taken advance
+    bind any roundsBy roundBy keeps leadsTo stays someEvent Rules.rests tab
 on-and-not-live = (λ n. (replicate n quiet, length-replicate n quiet, (fits n, (begun, there n))), dead)
   where
-    fits : (n : ℕ) → Fits (policyOf (endless 1)) (replicate n quiet)
+    fits : (n : ℕ) → Fits (policyOf 1 (endless 1)) (replicate n quiet)
     fits zero = fits-none
     fits (suc n) = fits-more {e = quiet} (record { x = omega arith; y = omega arith }) (fits n)
 
-    there : (n : ℕ) → steps unlimited (policyOf (endless 1)) begun (replicate n quiet) ≡ some begun
+    there : (n : ℕ) → steps unlimited (policyOf 1 (endless 1)) begun (replicate n quiet) ≡ some begun
     there zero = refl
     there (suc n) = there n
 
-    dead : Dead (policyOf (endless 1)) begun
-    dead = dead-numbered (policyOf (endless 1)) (checked-file (endless 1) refl) {n = 1} (omega arith) .0 refl
+    dead : Dead (policyOf 1 (endless 1)) begun
+    dead = dead-numbered (policyOf 1 (endless 1)) (checked-file 1 (endless 1) refl) {n = 1} (omega arith) .0 refl

@@ -15,7 +15,7 @@ use Rattle.streams.specs.Lengths.{goes-on-lengths, ends-lengths}
 use Rattle.policy.specs.Rules.{Policy, Place, start, rests, Runs, Rests, from, Permits, Live, Dead}
 use Rattle.policy.specs.Number.{states}
 use Rattle.policy.specs.File.{policyOf}
-use Rattle.policy.specs.Check.{refusalOf}
+use Rattle.policy.specs.Check.{refusalUnder}
 use Rattle.policy.specs.Sound.{WellFormed}
 use Rattle.policy.specs.Stays.{closed}
 use Rattle.resting.specs.Table.{marksBy}
@@ -121,6 +121,8 @@ module _ (p : Policy) (zero : AllZero p) where
 
 -- A file all of whose location bytes are 0 is refused by 11 exactly if some length has no permitted stream.
 pub refused-unchanged :
-    (file marks : List ℕ) → refusalOf file ≡ 0 → states (policyOf file) ≤ length marks → AllZero (policyOf file) →
-    (prepareOf file marks ≡ refused 11) ↔ SomeLengthNone (Permits (policyOf file) .permits) []
-refused-unchanged file marks passed long zero = Iff·trans (hopeless-exactly file marks passed long) (hopeless-unchanged (policyOf file) zero)
+    (reading : ℕ) (file marks : List ℕ) → refusalUnder reading file ≡ 0 → states (policyOf reading file) ≤ length marks →
+    AllZero (policyOf reading file) →
+    (prepareOf reading file marks ≡ refused 11) ↔ SomeLengthNone (Permits (policyOf reading file) .permits) []
+refused-unchanged reading file marks passed long zero =
+    Iff·trans (hopeless-exactly reading file marks passed long) (hopeless-unchanged (policyOf reading file) zero)

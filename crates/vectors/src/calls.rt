@@ -26,8 +26,14 @@ fn first_of(answer: bool, bytes: bool, state: bool) -> Differs {
     }
 }
 
-pub(crate) fn prepare(cases: &[u8], at: Cursor, file: &[u8], marks: &mut [u8]) -> Outcome {
-    let got = groovepawn::groovepawn_prepare(file, marks);
+pub(crate) fn prepare(
+    cases: &[u8],
+    at: Cursor,
+    reading: u8,
+    file: &[u8],
+    marks: &mut [u8],
+) -> Outcome {
+    let got = groovepawn::groovepawn_prepare(reading, file, marks);
     let answer = at.long(cases);
     let next = answer.next;
     let bytes = next.same_string(cases, marks);
@@ -38,10 +44,17 @@ pub(crate) fn prepare(cases: &[u8], at: Cursor, file: &[u8], marks: &mut [u8]) -
     }
 }
 
-pub(crate) fn input(cases: &[u8], at: Cursor, file: &[u8], marks: &[u8], state: &[u16]) -> Outcome {
+pub(crate) fn input(
+    cases: &[u8],
+    at: Cursor,
+    reading: u8,
+    file: &[u8],
+    marks: &[u8],
+    state: &[u16],
+) -> Outcome {
     let x = at.byte(cases);
     let next = x.next;
-    let got = groovepawn::groovepawn_input(file, marks, state, x.value);
+    let got = groovepawn::groovepawn_input(reading, file, marks, state, x.value);
     let answer = next.long(cases);
     let next = answer.next;
     Outcome {
@@ -53,6 +66,7 @@ pub(crate) fn input(cases: &[u8], at: Cursor, file: &[u8], marks: &[u8], state: 
 pub(crate) fn output(
     cases: &[u8],
     at: Cursor,
+    reading: u8,
     file: &[u8],
     marks: &[u8],
     state: &mut [u16],
@@ -61,7 +75,7 @@ pub(crate) fn output(
     let next = x.next;
     let y = next.byte(cases);
     let next = y.next;
-    let got = groovepawn::groovepawn_output(file, marks, state, x.value, y.value);
+    let got = groovepawn::groovepawn_output(reading, file, marks, state, x.value, y.value);
     let answer = next.long(cases);
     let next = answer.next;
     let after = next.same_state(cases, state);
@@ -75,13 +89,14 @@ pub(crate) fn output(
 pub(crate) fn run(
     cases: &[u8],
     at: Cursor,
+    reading: u8,
     file: &[u8],
     marks: &[u8],
     state: &mut [u16],
     events: &[u8],
     released: &mut [u8],
 ) -> Outcome {
-    let got = groovepawn::groovepawn_run(file, marks, state, events, released);
+    let got = groovepawn::groovepawn_run(reading, file, marks, state, events, released);
     let answer = at.long(cases);
     let next = answer.next;
     let bytes = next.same_string(cases, released);

@@ -7,7 +7,14 @@ use crate::tally::Kind;
 use crate::tally::Tally;
 
 // The rest of a record of a run.
-fn run_record(cases: &[u8], at: Cursor, file: &[u8], marks: &[u8], state: &mut [u16]) -> Outcome {
+fn run_record(
+    cases: &[u8],
+    at: Cursor,
+    reading: u8,
+    file: &[u8],
+    marks: &[u8],
+    state: &mut [u16],
+) -> Outcome {
     let mut events = [0u8; 65600];
     let mut released = [0u8; 65600];
     let taken = at.string(cases, &mut events);
@@ -19,6 +26,7 @@ fn run_record(cases: &[u8], at: Cursor, file: &[u8], marks: &[u8], state: &mut [
     calls::run(
         cases,
         next,
+        reading,
         file,
         marks,
         state,
@@ -28,23 +36,32 @@ fn run_record(cases: &[u8], at: Cursor, file: &[u8], marks: &[u8], state: &mut [
 }
 
 // The rest of a record that has a state.
-fn state_record(cases: &[u8], kind: Kind, at: Cursor, file: &[u8], marks: &[u8]) -> Outcome {
+fn state_record(
+    cases: &[u8],
+    kind: Kind,
+    at: Cursor,
+    reading: u8,
+    file: &[u8],
+    marks: &[u8],
+) -> Outcome {
     let mut state = [0u16; 8];
     let taken = at.state(cases, &mut state);
     let numbers = taken.count;
     let next = taken.next;
     match kind {
-        Kind::Input => calls::input(cases, next, file, marks, &state[..numbers]),
-        Kind::Output => calls::output(cases, next, file, marks, &mut state[..numbers]),
-        _ => run_record(cases, next, file, marks, &mut state[..numbers]),
+        Kind::Input => calls::input(cases, next, reading, file, marks, &state[..numbers]),
+        Kind::Output => calls::output(cases, next, reading, file, marks, &mut state[..numbers]),
+        _ => run_record(cases, next, reading, file, marks, &mut state[..numbers]),
     }
 }
 
-// A record that begins with a policy and marks.
+// A record that begins with a reading, a policy and marks.
 fn policy_record(cases: &[u8], kind: Kind, at: Cursor) -> Outcome {
     let mut file = [0u8; 8192];
     let mut marks = [0u8; 65600];
-    let taken = at.string(cases, &mut file);
+    let reading = at.byte(cases);
+    let next = reading.next;
+    let taken = next.string(cases, &mut file);
     let file_length = taken.count;
     let next = taken.next;
     let taken = next.string(cases, &mut marks);
@@ -54,6 +71,7 @@ fn policy_record(cases: &[u8], kind: Kind, at: Cursor) -> Outcome {
         Kind::Prepare => calls::prepare(
             cases,
             next,
+            reading.value,
             &file[..file_length],
             &mut marks[..marks_length],
         ),
@@ -61,6 +79,7 @@ fn policy_record(cases: &[u8], kind: Kind, at: Cursor) -> Outcome {
             cases,
             kind,
             next,
+            reading.value,
             &file[..file_length],
             &marks[..marks_length],
         ),
@@ -145,13 +164,13 @@ fn tallied(cases: &[u8], start: Cursor, total: u32) -> Tally {
     tally
 }
 
-// Goes through the file, which begins with `GPV1` and the number of its records, and writes what was found.
+// Goes through the file, which begins with `GPV2` and the number of its records, and writes what was found.
 pub(crate) fn report(cases: &[u8]) {
     let magic = Cursor::start().word(cases);
     let next = magic.next;
     let total = next.word(cases);
     let next = total.next;
-    let start = if magic.value == 0x47505631 {
+    let start = if magic.value == 0x47505632 {
         next
     } else {
         next.lose()

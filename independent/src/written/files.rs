@@ -27,6 +27,7 @@ pub fn found(verdict: u64, states: u64, live: u64) -> u64 {
 
 pub fn prepare(name: &str, file: &str, lent: usize, answer: u64, marks: &[u8]) -> Written {
     let call = Call::Prepare {
+        reading: FIRST_READING,
         file: from_hex(file),
         marks: filled(&[], lent),
     };

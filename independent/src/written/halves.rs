@@ -23,6 +23,7 @@ const BAD_STATES: [(&str, &[u16]); 8] = [
 
 pub fn input(name: &str, file: &str, marks: &[u8], state: &[u16], x: u8, answer: u64) -> Written {
     let call = Call::Input {
+        reading: FIRST_READING,
         file: from_hex(file),
         marks: marks.to_vec(),
         state: state.to_vec(),
@@ -63,6 +64,9 @@ const NONE_OR_SIX: &str = "03 41 42 43 00 00 01 00 00 02 \
 const NONE_OR_EIGHT: &str = "04 41 42 43 44 00 00 01 00 00 02 \
     00 0F 00 00 00 00 00 \
     00 0F 08 00 00 00 00";
+
+/// One state more than there may be.
+pub const OVERFULL: &str = "00 00 02 00 FF 01 00 01 00 00 00";
 
 fn inputs() -> Vec<Written> {
     vec![
@@ -198,6 +202,7 @@ fn refused_inputs() -> Vec<Written> {
         ),
         input("10 before 16", D, &[1; 7], &[9, 9, 9, 9, 9], 9, 10),
         input("8 before 10", "00 00 00 01 00 00 00 00", &[], &START, 0, 8),
+        input("9 before 10", OVERFULL, &[], &START, 0, 9),
     ]);
     all
 }
@@ -212,6 +217,7 @@ pub struct Ask<'a> {
 
 pub fn output(name: &str, ask: Ask, answer: u64, after: &[u16]) -> Written {
     let call = Call::Output {
+        reading: FIRST_READING,
         file: from_hex(ask.file),
         marks: ask.marks.to_vec(),
         state: ask.state.to_vec(),
@@ -372,6 +378,18 @@ fn refused_outputs() -> Vec<Written> {
                 y: 9,
             },
             10,
+            &far,
+        ),
+        output(
+            "9 before 10",
+            Ask {
+                file: OVERFULL,
+                marks: &[],
+                state: &far,
+                x: 9,
+                y: 9,
+            },
+            9,
             &far,
         ),
         output(

@@ -208,13 +208,13 @@ fn for_ever() -> Vec<Written> {
 
 /// After R the clock starts, and C leads back only while it is at most 2;
 /// after that location 1 is never left.
-const MISSED: &str = "01 52 01 43 01 00 03 02 00 01 00 04 \
+pub const MISSED: &str = "01 52 01 43 01 00 03 02 00 01 00 04 \
     00 01 01 00 00 01 01 00 00 FF FF \
     00 00 00 00 00 01 00 00 00 FF FF \
     01 00 00 01 01 01 00 00 00 00 02 \
     01 00 00 00 00 00 01 00 00 FF FF";
 
-const MISSED_MARKS: [u8; 8] = [1, 1, 1, 1, 1, 1, 1, 0];
+pub const MISSED_MARKS: [u8; 8] = [1, 1, 1, 1, 1, 1, 1, 0];
 
 fn deadlines() -> Vec<Written> {
     let last_chance = Ask {

@@ -1,5 +1,6 @@
 //! Runs: the marked cases, the long one, and what is refused.
 
+use super::halves::OVERFULL;
 use super::*;
 use crate::samples::*;
 
@@ -10,16 +11,17 @@ pub fn all() -> Vec<Written> {
         .collect()
 }
 
-struct Run<'a> {
-    file: &'a str,
-    marks: &'a [u8],
-    state: &'a [u16],
-    events: &'a [u8],
-    lent: usize,
+pub struct Run<'a> {
+    pub file: &'a str,
+    pub marks: &'a [u8],
+    pub state: &'a [u16],
+    pub events: &'a [u8],
+    pub lent: usize,
 }
 
-fn run(name: &str, run: Run, answer: u64, released: &[u8], after: &[u16]) -> Written {
+pub fn run(name: &str, run: Run, answer: u64, released: &[u8], after: &[u16]) -> Written {
     let call = Call::Run {
+        reading: FIRST_READING,
         file: from_hex(run.file),
         marks: run.marks.to_vec(),
         state: run.state.to_vec(),
@@ -90,16 +92,24 @@ const ONE_OF_TWO: &str = "02 41 42 02 43 44 00 01 00 00 04 \
     00 03 02 03 01 00 00 \
     00 03 02 03 02 00 00";
 
-fn beside_the_marked() -> Vec<Written> {
-    let mut late = vec![0; 65_537];
-    late.push(0x10);
-    let after_long = Run {
+/// K after so many quiet ticks, at least three: the credit is refused.
+pub fn late_credit(quiet: usize) -> Written {
+    let mut events = vec![0; quiet];
+    events.push(0x10);
+    let released = vec![0; quiet + 1];
+    let late = Run {
         file: K,
         marks: &[1; 4],
         state: &START,
-        events: &late,
-        lent: late.len(),
+        events: &events,
+        lent: events.len(),
     };
+    let answer = (events.len() as u64) << 8;
+    let name = format!("K after {quiet} quiet ticks");
+    run(&name, late, answer, &released, &[0, 3, 0, 0, 0])
+}
+
+fn beside_the_marked() -> Vec<Written> {
     let longer = Run {
         file: S,
         marks: &[1],
@@ -115,13 +125,7 @@ fn beside_the_marked() -> Vec<Written> {
         lent: 3,
     };
     vec![
-        run(
-            "K after 65,537 quiet ticks",
-            after_long,
-            65_538 << 8,
-            &[0; 65_538],
-            &[0, 3, 0, 0, 0],
-        ),
+        late_credit(65_537),
         stream("an empty stream", S, &[1], "", "", START),
         stream(
             "ties keep the first signals",
@@ -216,7 +220,7 @@ fn refused() -> Vec<Written> {
         run(
             "9 before 10",
             Run {
-                file: "00 00 02 00 FF 01 00 01 00 00 00",
+                file: OVERFULL,
                 marks: &[],
                 state: &START,
                 events: &[3],

@@ -27,11 +27,11 @@ given : (c : tie.After-s) →
     let p = c .before .before .before .before in
     let a = p .before .before .before .before .args in
     let s = c .s .given .0 .0 in
-    prepareOf (now (a .file)) (now (a .marks)) ≡ gives (record { verdict = s .verdict; states = s .states; live = s .live })
+    prepareOf (a .reading) (now (a .file)) (now (a .marks)) ≡ gives (record { verdict = s .verdict; states = s .states; live = s .live })
 given c = sym (c .before .before .before .before .prepare .ensures .said) ∙ rw (c .s .given .1)
 
 small : (c : tie.After-s) → let s = c .s .given .0 .0 in Small (record { verdict = s .verdict; states = s .states; live = s .live })
-small c = summary-small _ _ _ (given c)
+small c = summary-small _ _ _ _ (given c)
 
 mul-result-2 : tie.Need-mul-result-2
 mul-result-2 c = omega (arith, small (c .before .before))

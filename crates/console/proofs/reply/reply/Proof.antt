@@ -84,7 +84,7 @@ abbrev place : tie.After-prepare → tie.Else1
 place c = c .before .before .before
 
 abbrev Promised : tie.After-prepare → List ℕ → Prepared → Type 0
-Promised c file r = PreparePromise file (now (start (place c) .args .marks)) r (c .prepare .last .1 .0)
+Promised c file r = PreparePromise 1 file (now (start (place c) .args .marks)) r (c .prepare .last .1 .1 .0)
 
 prepared : (c : tie.After-prepare) → Promised c (policyPart (input (place c))) (c .prepare .result)
 prepared c = subst (λ (file : List ℕ). Promised c file (c .prepare .result)) (file-is (place c)) (c .prepare .ensures)

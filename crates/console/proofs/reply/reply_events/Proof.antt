@@ -83,7 +83,7 @@ place c = c .before .before .before .before
 abbrev Promised : tie.After-run → State → List ℕ → Type 0
 Promised c state events =
     let a = start (place c) .args in
-    RunPromise (now (a .file)) (now (a .marks)) state events (now (a .released)) (c .run .result) (c .run .last .1 .1 .1 .1 .0)
+    RunPromise 1 (now (a .file)) (now (a .marks)) state events (now (a .released)) (c .run .result) (c .run .last .1 .1 .1 .1 .1 .0)
 
 ran : (c : tie.After-run) → Promised c startState (eventsPart (input (place c)))
 ran c =
@@ -122,7 +122,7 @@ put-ticks-requires c κs =
     let n = rw (← events-are (place r)) at (few (place r)) in
     let s = start (place r) .pre .1 in (
       n,
-      omega (arith, s, r .run .kept .1 .1 .1 .1 .0),
+      omega (arith, s, r .run .kept .1 .1 .1 .1 .1 .0),
       omega (arith, s, v .put-verdict .kept .0, v .put-verdict .ensures .1),
     )
 

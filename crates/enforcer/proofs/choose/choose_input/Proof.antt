@@ -14,7 +14,7 @@ use Rattle.enforcer.proofs.choose.choose_input.Statement.{statement}
 use Rattle.enforcer.proofs.choose.choose_input.Tie as tie
 
 -- The values counted are those of the inputs.
-counted : (c : tie.After-values) → (c .values .result ≡ inputValues (policyOf (now (c .before .before .before .before .before .before .before .args .file)))) × (c .values .result ≤ 16)
+counted : (c : tie.After-values) → (c .values .result ≡ inputValues (policyOf (c .before .before .before .before .before .before .before .args .layout .reading) (now (c .before .before .before .before .before .before .before .args .file)))) × (c .values .result ≤ 16)
 counted c = rw (c .values .ensures) (laid-inputs (c .before .before .before .before .before .before .before .pre .0 .standing .laid))
 
 may-stand-requires : tie.Need-may-stand-requires

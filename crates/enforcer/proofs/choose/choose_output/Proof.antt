@@ -12,7 +12,7 @@ use Rattle.enforcer.proofs.choose.choose_output.Statement.{statement}
 use Rattle.enforcer.proofs.choose.choose_output.Tie as tie
 
 -- The values counted are those of the outputs.
-counted : (c : tie.After-values) → (c .values .result ≡ outputValues (policyOf (now (c .before .before .before .before .args .file)))) × (c .values .result ≤ 16)
+counted : (c : tie.After-values) → (c .values .result ≡ outputValues (policyOf (c .before .before .before .before .args .layout .reading) (now (c .before .before .before .before .args .file)))) × (c .values .result ≤ 16)
 counted c = rw (c .values .ensures) (laid-outputs (c .before .before .before .before .pre .0 .standing .laid))
 
 row-requires : tie.Need-row-requires

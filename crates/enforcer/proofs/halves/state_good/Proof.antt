@@ -28,7 +28,7 @@ lengths c = search needs
 
 tested : (c : tie.Start Inv-loop μ-loop) →
     let a = c .args in
-    stateGood (policyOf (now (a .file))) (asPlace (a .state))
+    stateGood (policyOf (a .layout .reading) (now (a .file))) (asPlace (a .state))
     ≡ (ltb (a .state .location) (a .layout .locations) && clocksGood (a .layout .ceilings) (a .state .clocks))
 tested c = laid-good (c .pre) (c .args .state) (lengths c .1)
 

@@ -24,13 +24,13 @@ returns c = rw (sym (c .before .state-good .ensures) ∙ not-true _ (c .if1 .tak
 
 -- The state is in range, so it has a number, whose mark is the place's.
 good : (c : tie.Else1) →
-    let a = c .before .before .before .before .args in stateGood (policyOf (now (a .file))) (asPlace (a .state)) ≡ true
+    let a = c .before .before .before .before .args in stateGood (policyOf (a .layout .reading) (now (a .file))) (asPlace (a .state)) ≡ true
 good c = sym (c .before .state-good .ensures) ∙ not-false _ (c .if1 .left)
 
 numbered : (c : tie.Else1) →
     let a = c .before .before .before .before .args in
-    let p = policyOf (now (a .file)) in
-    Numbered (now (a .file)) (now (a .marks)) (stateNumber (a .layout) (a .state)) (isMarked (now (a .marks)) (numberOf p (placeIn p (asPlace (a .state)))))
+    let p = policyOf (a .layout .reading) (now (a .file)) in
+    Numbered (a .layout .reading) (now (a .file)) (now (a .marks)) (stateNumber (a .layout) (a .state)) (isMarked (now (a .marks)) (numberOf p (placeIn p (asPlace (a .state)))))
 numbered c = let s = c .before .before .before .before in good-numbered (s .pre .0) (now (s .args .marks)) (s .args .state) (good c)
 
 number-requires : tie.Need-number-requires
@@ -45,13 +45,13 @@ shared-slice-read-if2 c =
 
 marked : (c : tie.After-number) →
     let a = c .before .before .before .before .before .before .args in
-    let p = policyOf (now (a .file)) in
+    let p = policyOf (a .layout .reading) (now (a .file)) in
     isMarked (now (a .marks)) (numberOf p (placeIn p (asPlace (a .state)))) ≡ isMarked (now (a .marks)) (c .number .result)
 marked c = rw (c .number .ensures) (sym (numbered (c .before .before) .mark))
 
 returns-2 : tie.Need-returns-2
 returns-2 c =
-    let n = c .before .before in sym (state-granted _ _ _ .1 (good (n .before .before), marked n ∙ eq-eqb _ _ (c .if2 .taken)))
+    let n = c .before .before in sym (state-granted _ _ _ _ .1 (good (n .before .before), marked n ∙ eq-eqb _ _ (c .if2 .taken)))
 
 returns-3 : tie.Need-returns-3
 unfolding stateRefusal

@@ -14,16 +14,16 @@ use Rattle.enforcer.proofs.pass.allowed.Statement.{statement}
 use Rattle.enforcer.proofs.pass.allowed.Tie as tie
 
 abbrev Inv-loop : tie.InvT-loop
-Inv-loop file layout marks state inputs outputs size left₀ found₀ at₀ ahead₀ left found at ahead =
+Inv-loop file layout here marks state inputs outputs size left₀ found₀ at₀ ahead₀ left found at ahead =
     Ahead file layout (state .location) at ahead
-    × Gathering (place (layout .clocks) state) (policyOf file) marks (rulesFrom (layout .clocks) file at ahead) left found
+    × Gathering (place (layout .clocks) state) (policyOf (layout .reading) file) marks (rulesFrom (layout .clocks) file at ahead) left found
 
 abbrev μ-loop : tie.MeasureT-loop
-μ-loop file layout marks state inputs outputs size left₀ found₀ at₀ ahead₀ left found at ahead = ahead
+μ-loop file layout here marks state inputs outputs size left₀ found₀ at₀ ahead₀ left found at ahead = ahead
 
 -- The values counted are those of the inputs and of the outputs.
 counted : (c : tie.After-values2 Inv-loop μ-loop) →
-    let p = policyOf (now (c .before .before .before .before .args .file)) in
+    let p = policyOf (c .before .before .before .before .args .layout .reading) (now (c .before .before .before .before .args .file)) in
     ((c .before .values .result ≡ inputValues p) × (c .before .values .result ≤ 16)) × ((c .values2 .result ≡ outputValues p) × (c .values2 .result ≤ 16))
 counted c =
     let k = c .before .before .before .before .pre .standing .laid in
@@ -47,7 +47,7 @@ room-requires c κs = let k = counted (c .before) in (k .0 .1, k .1 .1)
 add-at : tie.Need-add-at Inv-loop μ-loop
 add-at c =
     let s = c .before .before .before .before .before .before .before .before in
-    omega (arith, laid-short (s .pre .standing .laid), own-ahead (s .pre .standing .laid) (s .args .state .location) (s .pre .own) .ends)
+    omega (arith, laid-short (s .pre .standing .laid), own-ahead (s .pre .standing .laid) (s .args .state .location) (s .pre .here .own) .ends)
 
 loop-holds : tie.Need-loop-holds Inv-loop μ-loop
 loop-holds c =
@@ -55,8 +55,8 @@ loop-holds c =
     let s = v .before .before .before .before in
     let k = s .pre .standing .laid in
     let a = s .args .state .location in (
-      own-ahead k a (s .pre .own),
-      gathering-start _ (policyOf (now (s .args .file))) _ (laid-well k) _ (own-here k a (s .pre .own)) _
+      own-ahead k a (s .pre .here .own),
+      gathering-start _ (policyOf (s .args .layout .reading) (now (s .args .file))) _ (laid-well k) _ (own-here k a (s .pre .here .own)) _
           (rw (← counted v .1 .0, ← counted v .0 .0) (c .before .before .room .ensures)),
     )
 
@@ -64,7 +64,7 @@ go-by-requires : tie.Need-go-by-requires Inv-loop μ-loop
 go-by-requires c κs =
     let v = c .before .before .before .before .before .before in
     let s = v .before .before .before .before in
-    (s .pre .standing, ahead-rule (s .pre .standing .laid) (c .before .loop .inv .0) (c .loop-test .taken), counted v .0 .1)
+    (s .pre, ahead-rule (s .pre .standing .laid) (c .before .loop .inv .0) (c .loop-test .taken), counted v .0 .1)
 
 gain-requires : tie.Need-gain-requires Inv-loop μ-loop
 gain-requires c κs = counted (c .before .before .before .before .before .before .before .before) .0 .1

@@ -4,12 +4,12 @@ use Rattle.enforcer.proofs.pass.go_by.Statement.{statement}
 use Rattle.enforcer.proofs.pass.go_by.Tie as tie
 
 way-by-requires : tie.Need-way-by-requires
-way-by-requires c κs = let s = c .before .before in (s .pre .0 .laid, s .pre .0 .inside, s .pre .1, s .pre .2)
+way-by-requires c κs = let s = c .before .before in (s .pre .0 .standing .laid, s .pre .0 .here, s .pre .0 .standing .inside, s .pre .1, s .pre .2)
 
 is-marked-requires : tie.Need-is-marked-requires
 is-marked-requires c κs = λ q.
     let w = c .before .before in
-    omega (arith, w .way-by .ensures .below q, w .before .before .before .pre .0 .enough)
+    omega (arith, w .way-by .ensures .below q, w .before .before .before .pre .0 .standing .enough)
 
 returns : tie.Need-returns
 returns c = rw (c .is-marked .ensures) (c .before .before .before .way-by .ensures .went _)

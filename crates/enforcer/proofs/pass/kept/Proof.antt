@@ -17,7 +17,7 @@ nothing false v e = refl
 returns : tie.Need-returns
 returns c =
     let a = c .before .before .before .args in
-    nothing (leads (place (a .layout .clocks) (a .state)) (policyOf (now (a .file))) (now (a .marks)) (ruleFrom (a .layout .clocks) (now (a .file)) (a .at))) _
+    nothing (leads (place (a .layout .clocks) (a .state)) (policyOf (a .layout .reading) (now (a .file))) (now (a .marks)) (ruleFrom (a .layout .clocks) (now (a .file)) (a .at))) _
     (c .if1 .taken)
 
 leads-requires : tie.Need-leads-requires

@@ -23,8 +23,8 @@ lengths s = search needs
 -- The next state has a number, and by whichever marks its mark says whether the rule leads to a marked one.
 numbered : (c : tie.After-advanced) (marks : List ℕ) →
     let a = c .before .before .before .before .before .before .before .args in
-    Numbered (now (a .file)) marks (numberFrom (a .layout .ceilings) 4 (c .before .before .before .before .before .byte-within .result) (c .advanced .result))
-    (leads (place (a .layout .clocks) (a .state)) (policyOf (now (a .file))) marks (ruleFrom (a .layout .clocks) (now (a .file)) (a .at)))
+    Numbered (a .layout .reading) (now (a .file)) marks (numberFrom (a .layout .ceilings) 4 (c .before .before .before .before .before .byte-within .result) (c .advanced .result))
+    (leads (place (a .layout .clocks) (a .state)) (policyOf (a .layout .reading) (now (a .file))) marks (ruleFrom (a .layout .clocks) (now (a .file)) (a .at)))
 unfolding ruleFrom
 numbered c marks =
     let e = c .before .before .before .before in

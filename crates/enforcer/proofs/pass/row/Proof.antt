@@ -14,16 +14,16 @@ use Rattle.enforcer.proofs.pass.row.Statement.{statement}
 use Rattle.enforcer.proofs.pass.row.Tie as tie
 
 abbrev Inv-loop : tie.InvT-loop
-Inv-loop file layout marks state x size left₀ found₀ at₀ ahead₀ left found at ahead =
+Inv-loop file layout here marks state x size left₀ found₀ at₀ ahead₀ left found at ahead =
     Ahead file layout (state .location) at ahead
-    × Rowing (place (layout .clocks) state) (policyOf file) marks x (rulesFrom (layout .clocks) file at ahead) left found
+    × Rowing (place (layout .clocks) state) (policyOf (layout .reading) file) marks x (rulesFrom (layout .clocks) file at ahead) left found
 
 abbrev μ-loop : tie.MeasureT-loop
-μ-loop file layout marks state x size left₀ found₀ at₀ ahead₀ left found at ahead = ahead
+μ-loop file layout here marks state x size left₀ found₀ at₀ ahead₀ left found at ahead = ahead
 
 -- The values counted are those of the outputs.
 counted : (c : tie.After-values Inv-loop μ-loop) →
-    (c .values .result ≡ outputValues (policyOf (now (c .before .before .before .before .args .file)))) × (c .values .result ≤ 16)
+    (c .values .result ≡ outputValues (policyOf (c .before .before .before .before .args .layout .reading) (now (c .before .before .before .before .args .file)))) × (c .values .result ≤ 16)
 counted c = rw (c .values .ensures) (laid-outputs (c .before .before .before .before .pre .standing .laid))
 
 mul-size : tie.Need-mul-size Inv-loop μ-loop
@@ -41,7 +41,7 @@ all-below-requires c κs = counted c .1
 add-at : tie.Need-add-at Inv-loop μ-loop
 add-at c =
     let s = c .before .before .before .before .before .before .before in
-    omega (arith, laid-short (s .pre .standing .laid), own-ahead (s .pre .standing .laid) (s .args .state .location) (s .pre .own) .ends)
+    omega (arith, laid-short (s .pre .standing .laid), own-ahead (s .pre .standing .laid) (s .args .state .location) (s .pre .here .own) .ends)
 
 loop-holds : tie.Need-loop-holds Inv-loop μ-loop
 loop-holds c =
@@ -49,15 +49,15 @@ loop-holds c =
     let s = b .before .before .before .before .before in
     let k = s .pre .standing .laid in
     let a = s .args .state .location in (
-      own-ahead k a (s .pre .own),
-      rowing-start _ (policyOf (now (s .args .file))) _ _ (laid-well k) _ (own-here k a (s .pre .own)) _
+      own-ahead k a (s .pre .here .own),
+      rowing-start _ (policyOf (s .args .layout .reading) (now (s .args .file))) _ _ (laid-well k) _ (own-here k a (s .pre .here .own)) _
           (b .all-below .ensures ∙ ap allBelow (counted (b .before) .0)),
     )
 
 takes-requires : tie.Need-takes-requires Inv-loop μ-loop
 takes-requires c κs =
     let s = c .before .before .before .before .before .before .before .before .before in
-    (s .pre .standing .laid, ahead-rule (s .pre .standing .laid) (c .before .loop .inv .0) (c .loop-test .taken))
+    (s .pre .standing .laid, s .pre .here, ahead-rule (s .pre .standing .laid) (c .before .loop .inv .0) (c .loop-test .taken))
 
 kept-requires : tie.Need-kept-requires Inv-loop μ-loop
 kept-requires c κs =

@@ -10,7 +10,7 @@ use borrow.Author.Tests.{eq-eqb, ne-eqb, not-true, not-false}
 use denote.Ref.{now}
 use Rattle.policy.specs.File.{byteAt, ruleFrom}
 use Rattle.enforcer.specs.Laid.{laid-limits}
-use Rattle.enforcer.proofs.WayLaws.{rule-holds, takes-care, takes-bounds, takes-both}
+use Rattle.enforcer.proofs.WayLaws.{rule-seen, takes-care, takes-bounds, takes-both}
 use Rattle.enforcer.proofs.pass.takes.Statement.{statement}
 use Rattle.enforcer.proofs.pass.takes.Tie as tie
 
@@ -44,12 +44,12 @@ add-bounds-hold c = search needs
 bounds-hold-requires : tie.Need-bounds-hold-requires
 bounds-hold-requires c κs =
     let s = c .before .before .before .before .before in
-    omega (arith, laid-limits (s .pre .0), s .pre .1 .ends, s .pre .1 .short)
+    omega (arith, laid-limits (s .pre .0), s .pre .2 .ends, s .pre .2 .short)
 
 returns-2 : tie.Need-returns-2
 returns-2 c =
     let s = c .before .before .before .before .before .before .before in
-    sym (takes-bounds _ _ _ _ (rule-holds (s .args .state) (s .pre .1) _ (sym (c .before .bounds-hold .ensures) ∙ not-true _ (c .if2 .taken))))
+    sym (takes-bounds _ _ _ _ (rule-seen (s .pre .1) (s .pre .2) _ (sym (c .before .bounds-hold .ensures) ∙ not-true _ (c .if2 .taken))))
 
 add-byte-within-3 : tie.Need-add-byte-within-3
 add-byte-within-3 c = search needs
@@ -71,7 +71,7 @@ unfolding ruleFrom
 returns-3 c =
     let e = c .before .before .before in
     let s = e .before .before .before .before .before .before .before in
-    sym (takes-both _ _ _ _ (rule-holds (s .args .state) (s .pre .1) _ (sym (e .before .bounds-hold .ensures) ∙ not-false _ (e .if2 .left)))
+    sym (takes-both _ _ _ _ (rule-seen (s .pre .1) (s .pre .2) _ (sym (e .before .bounds-hold .ensures) ∙ not-false _ (e .if2 .left)))
     (cares (e .before .before .before))
     ∙ rw (← c .before .before .byte-within3 .ensures .0, ← c .before .byte-within4 .ensures .0, ← c .outs .ensures))
 

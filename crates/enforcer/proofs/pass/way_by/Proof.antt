@@ -9,7 +9,7 @@ use Rattle.enforcer.specs.Laid.{laid-limits}
 use Rattle.enforcer.specs.Outs.{outs}
 use Rattle.enforcer.specs.Changed.{Took}
 use Rattle.enforcer.specs.Pass.{turned-not, turned-nothing, turned-took}
-use Rattle.enforcer.proofs.WayLaws.{rule-holds}
+use Rattle.enforcer.proofs.WayLaws.{rule-seen}
 use Rattle.enforcer.proofs.pass.way_by.Statement.{statement}
 use Rattle.enforcer.proofs.pass.way_by.Tie as tie
 
@@ -36,12 +36,12 @@ add-bounds-hold c = search needs
 bounds-hold-requires : tie.Need-bounds-hold-requires
 bounds-hold-requires c κs =
     let s = c .before .before in
-    omega (arith, laid-limits (s .pre .0), s .pre .2 .ends, s .pre .2 .short)
+    omega (arith, laid-limits (s .pre .0), s .pre .3 .ends, s .pre .3 .short)
 
 returns : tie.Need-returns
 returns c =
     let s = c .before .before .before .before in
-    turned-not _ _ (rule-holds (s .args .state) (s .pre .2) _ (sym (c .before .bounds-hold .ensures) ∙ not-true _ (c .if1 .taken)))
+    turned-not _ _ (rule-seen (s .pre .1) (s .pre .3) _ (sym (c .before .bounds-hold .ensures) ∙ not-true _ (c .if1 .taken)))
 
 add-byte-within : tie.Need-add-byte-within
 add-byte-within c = search needs
@@ -78,7 +78,7 @@ returns-2 c =
     let d = c .before .before .before in
     let e = d .before .before .before .before .before .before in
     let s = e .before .before .before .before in
-    turned-nothing _ _ (rule-holds (s .args .state) (s .pre .2) _ (sym (e .before .bounds-hold .ensures) ∙ not-false _ (e .if1 .left)))
+    turned-nothing _ _ (rule-seen (s .pre .1) (s .pre .3) _ (sym (e .before .bounds-hold .ensures) ∙ not-false _ (e .if1 .left)))
     (took d) (not-true _ (c .if2 .taken))
 
 next-of-requires : tie.Need-next-of-requires
@@ -89,7 +89,7 @@ returns-3 c =
     let d = c .before .before .before .before in
     let e = d .before .before .before .before .before .before in
     let s = e .before .before .before .before in
-    turned-took _ _ (rule-holds (s .args .state) (s .pre .2) _ (sym (e .before .bounds-hold .ensures) ∙ not-false _ (e .if1 .left)))
+    turned-took _ _ (rule-seen (s .pre .1) (s .pre .3) _ (sym (e .before .bounds-hold .ensures) ∙ not-false _ (e .if1 .left)))
     (took d) (not-false _ (c .before .if2 .left)) (c .next-of .ensures)
 
 pub way-by-spec : {M : Type 1} → statement M

@@ -23,8 +23,8 @@ returns c = arrival-never _ _ _ _ _ _ (c .before .before .step-of .ensures) (not
 numbered : (c : tie.Else1) →
     let a = c .before .before .before .before .before .args in
     let next = c .before .before .step-of .result .state in
-    Numbered (now (a .file)) (now (a .marks)) (numberFrom (a .layout .ceilings) 4 (next .location) (next .clocks))
-    (reaches (policyOf (now (a .file))) (now (a .marks)) (place (a .layout .clocks) (a .state)) (a .x) (a .y))
+    Numbered (a .layout .reading) (now (a .file)) (now (a .marks)) (numberFrom (a .layout .ceilings) 4 (next .location) (next .clocks))
+    (reaches (policyOf (a .layout .reading) (now (a .file))) (now (a .marks)) (place (a .layout .clocks) (a .state)) (a .x) (a .y))
 numbered c =
     let s = c .before .before .before .before .before in
     let a = s .args in

@@ -1,8 +1,9 @@
 -- `enforcer::runs::events_good` meets its contract. The loop's invariant: the events are good exactly if those from i on are.
 use mathlib.Core.Path.{_≡_, sym, _∙_}
-use mathlib.Core.Bool.{_&&_}
-use Prim.Native.Nat.{_+_, _-_, _≤_}
+use mathlib.Core.Bool.{Bool, _&&_}
+use Prim.Native.Nat.{ℕ, _+_, _-_, _/_, _%_, _≤_}
 use native.Mathlib.Omega.{arith}
+use lib.Dec.{ltb}
 use lib.ListN.{length, getD, drop}
 use denote.Ref.{now}
 use borrow.Author.Needs.{needs}
@@ -16,26 +17,36 @@ use Rattle.enforcer.specs.Laid.{laid-limits, laid-inputs, laid-outputs}
 use Rattle.enforcer.proofs.runs.events_good.Statement.{statement}
 use Rattle.enforcer.proofs.runs.events_good.Tie as tie
 
+-- An event within so many values.
+abbrev good : ℕ → ℕ → ℕ → Bool
+good inputs outputs b = ltb (b % 16) inputs && ltb (b / 16) outputs
+
 abbrev Inv-loop : tie.InvT-loop
-Inv-loop file events inputs outputs i₀ i = (i ≤ length events) × (all (eventGood file) events ≡ all (eventGood file) (drop i events))
+Inv-loop file events inputs outputs i₀ i = (i ≤ length events) × (all (good inputs outputs) events ≡ all (good inputs outputs) (drop i events))
 
 abbrev μ-loop : tie.MeasureT-loop
 μ-loop file events inputs outputs i₀ i = length events - i
 
 -- The values counted are those of the inputs and of the outputs.
 counted : (c : tie.After-values2 Inv-loop μ-loop) →
-    let p = policyOf (now (c .before .before .before .before .args .file)) in
+    let p = policyOf (c .before .before .before .before .args .layout .reading) (now (c .before .before .before .before .args .file)) in
     (c .before .values .result ≡ inputValues p) × (c .values2 .result ≡ outputValues p)
 counted c =
     let k = c .before .before .before .before .pre in
     (c .before .values .ensures ∙ laid-inputs k .0, c .values2 .ensures ∙ laid-outputs k .0)
 
+good-is : (c : tie.After-values2 Inv-loop μ-loop) →
+    let a = c .before .before .before .before .args in
+    all (good (c .before .values .result) (c .values2 .result)) (now (a .events)) ≡ all (eventGood (a .layout .reading) (now (a .file))) (now (a .events))
+good-is c = rw (counted c .0, counted c .1)
+
 -- The events are good if the event i is and those after it are.
 turn : (c : tie.In-loop Inv-loop μ-loop) →
-    let a = c .before .before .before .before .before .before .args in
+    let v = c .before .before in
+    let a = v .before .before .before .before .args in
+    let g = good (v .before .values .result) (v .values2 .result) in
     let i = c .before .loop .i in
-    all (eventGood (now (a .file))) (now (a .events))
-    ≡ (eventGood (now (a .file)) (getD (now (a .events)) i 0) && all (eventGood (now (a .file))) (drop (i + 1) (now (a .events))))
+    all g (now (a .events)) ≡ (g (getD (now (a .events)) i 0) && all g (drop (i + 1) (now (a .events))))
 turn c = c .before .loop .inv .1 ∙ all-turn _ _ _ (c .loop-test .taken)
 
 values-requires : tie.Need-values-requires Inv-loop μ-loop
@@ -56,13 +67,12 @@ cast-event c = omega (arith, c .shared-slice-known3 .given (c .before .before .l
 returns : tie.Need-returns Inv-loop μ-loop
 returns c =
     let l = c .before .before in
-    rw (turn l, le-ltb _ _ (rw (counted (l .before .before) .0) at (c .if1 .taken)))
+    rw (← good-is (l .before .before), turn l, le-ltb _ _ (c .if1 .taken))
 
 returns-2 : tie.Need-returns-2 Inv-loop μ-loop
 returns-2 c =
     let l = c .before .before .before in
-    let k = counted (l .before .before) in
-    rw (turn l, lt-ltb _ _ (rw (k .0) at (c .before .if1 .left)), le-ltb _ _ (rw (k .1) at (c .if2 .taken)))
+    rw (← good-is (l .before .before), turn l, lt-ltb _ _ (c .before .if1 .left), le-ltb _ _ (c .if2 .taken))
 
 add-i : tie.Need-add-i Inv-loop μ-loop
 add-i c = search needs
@@ -73,13 +83,10 @@ loop-less c = search needs
 loop-again : tie.Need-loop-again Inv-loop μ-loop
 loop-again c =
     let l = c .before .before .before in
-    let k = counted (l .before .before) in (
-      omega arith,
-      turn l ∙ rw (lt-ltb _ _ (rw (k .0) at (c .before .if1 .left)), lt-ltb _ _ (rw (k .1) at (c .if2 .left))),
-    )
+    (omega arith, turn l ∙ rw (lt-ltb _ _ (c .before .if1 .left), lt-ltb _ _ (c .if2 .left)))
 
 returns-3 : tie.Need-returns-3 Inv-loop μ-loop
-returns-3 c = sym (c .before .loop .inv .1 ∙ all-end _ _ _ (c .loop-test .left))
+returns-3 c = rw (← good-is (c .before .before)) (sym (c .before .loop .inv .1 ∙ all-end _ _ _ (c .loop-test .left)))
 
 pub events-good-spec : {M : Type 1} → statement M
 events-good-spec =

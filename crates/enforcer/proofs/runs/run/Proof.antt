@@ -10,12 +10,13 @@ use Rattle.streams.specs.Answer.{unless, first-refused}
 use Rattle.policy.specs.File.{policyOf}
 use Rattle.policy.specs.Number.{states}
 use Rattle.policy.specs.Check.{all}
+use Rattle.policy.specs.declared.Layout.{Layout}
 use Rattle.enforcer.specs.Entries.{eventGood, marksRefusal, stateRefusal, runRefusal, runOf}
 use Rattle.enforcer.specs.Code.{asPlace}
 use Rattle.enforcer.specs.Ready.{Laid}
 use Rattle.enforcer.specs.Laid.{laid-place}
-use Rattle.enforcer.specs.States.{state-granted, granted-laid, granted-standing}
-use Rattle.enforcer.proofs.RunLaws.{good-back, run-refused}
+use Rattle.enforcer.specs.States.{state-granted, Granted, marks-by, granted-laid, granted-standing}
+use Rattle.enforcer.proofs.RunLaws.{good-back, run-past, run-refused}
 use Rattle.enforcer.proofs.runs.run.Statement.{statement}
 use Rattle.enforcer.proofs.runs.run.Tie as tie
 
@@ -25,32 +26,39 @@ clocks c = search needs
 abbrev start : tie.Else1 → tie.Start
 start c = c .before .before .before .before .before .before .before
 
+abbrev laidOut : tie.Else1 → Layout
+laidOut c = c .before .before .check-under .result .layout
+
+-- What the code finds up to 10 is the refusal.
+marked : (c : tie.After-marks-refusal) →
+    let a = c .before .before .before .before .before .before .args in c .marks-refusal .result ≡ marksRefusal (a .reading) (now (a .file)) (now (a .marks))
+marked c = c .marks-refusal .ensures ∙ marks-by _ _ _ (c .before .check-under .ensures)
+
 -- No refusal up to 10, so the file has the layout, and there are marks enough.
-none1 : (c : tie.Else1) → let a = start c .args in marksRefusal (now (a .file)) (now (a .marks)) ≡ 0
-none1 c = sym (c .before .marks-refusal .ensures) ∙ c .if1 .left
+none1 : (c : tie.Else1) → let a = start c .args in marksRefusal (a .reading) (now (a .file)) (now (a .marks)) ≡ 0
+none1 c = sym (marked (c .before)) ∙ c .if1 .left
 
 laid : (c : tie.Else1) →
     let a = start c .args in
-    Laid (now (a .file)) (c .before .before .check .result .layout) × (states (policyOf (now (a .file))) ≤ length (now (a .marks)))
-laid c = granted-laid _ (c .before .before .check .ensures .said) (none1 c)
+    Granted (a .reading) (now (a .file)) (now (a .marks)) (laidOut c)
+laid c = granted-laid _ (c .before .before .check-under .ensures) (none1 c)
 
 -- No 16, and only 15 is left to ask.
 none3 : (c : tie.Else3) →
     let a = start (c .before .before .before .before) .args in
-    stateRefusal (now (a .file)) (now (a .marks)) (asPlace (a .state)) ≡ 0
+    stateRefusal (laidOut (c .before .before .before .before) .reading) (now (a .file)) (now (a .marks)) (asPlace (a .state)) ≡ 0
 none3 c = sym (c .before .state-refusal .ensures) ∙ c .if3 .left
 
 past : (c : tie.Else3) →
     let a = start (c .before .before .before .before) .args in
-    runRefusal (now (a .file)) (now (a .marks)) (asPlace (a .state)) (now (a .events)) (now (a .out))
-    ≡ unless (all (eventGood (now (a .file))) (now (a .events))) 15
-unfolding runRefusal
+    runRefusal (a .reading) (now (a .file)) (now (a .marks)) (asPlace (a .state)) (now (a .events)) (now (a .out))
+    ≡ unless (all (eventGood (laidOut (c .before .before .before .before) .reading) (now (a .file))) (now (a .events))) 15
 past c =
     let l = c .before .before .before in
-    rw (none1 (l .before), le-leb _ _ (l .if2 .left), none3 c)
+    run-past _ _ _ _ _ _ (laidOut (l .before)) (laid (l .before) .named) (none1 (l .before)) (l .if2 .left) (none3 c)
 
-check-requires : tie.Need-check-requires
-check-requires c κs = search needs
+check-under-requires : tie.Need-check-under-requires
+check-under-requires c κs = search needs
 
 marks-refusal-requires : tie.Need-marks-refusal-requires
 marks-refusal-requires c κs = search needs
@@ -62,7 +70,7 @@ returns : tie.Need-returns
 unfolding runRefusal
 returns c =
     let t = c .before .if1 .taken in
-    run-refused (c .refused .ensures) t (rw (← c .before .before .marks-refusal .ensures) (first-refused _ _ t))
+    run-refused (c .refused .ensures) t (rw (← marked (c .before .before)) (first-refused _ _ t))
 
 refused-requires-2 : tie.Need-refused-requires-2
 refused-requires-2 c κs = search needs
@@ -72,7 +80,7 @@ unfolding runRefusal
 returns-2 c = run-refused (c .refused2 .ensures) (λ z. omega arith) (rw (none1 (c .before .before), lt-leb _ _ (c .before .if2 .taken)))
 
 state-refusal-requires : tie.Need-state-refusal-requires
-state-refusal-requires c κs = laid (c .before .before)
+state-refusal-requires c κs = let l = laid (c .before .before) in (l .laid, l .enough)
 
 refused-requires-3 : tie.Need-refused-requires-3
 refused-requires-3 c κs = search needs
@@ -84,10 +92,10 @@ returns-3 c =
     let r = c .before .before in
     let l = r .before .before in
     run-refused (c .refused3 .ensures) t
-    (rw (none1 (l .before), le-leb _ _ (l .if2 .left), ← r .state-refusal .ensures) (first-refused _ _ t))
+    (rw (none1 (l .before), le-leb _ _ (l .if2 .left), ← laid (l .before) .named, ← r .state-refusal .ensures) (first-refused _ _ t))
 
 events-good-requires : tie.Need-events-good-requires
-events-good-requires c κs = laid (c .before .before .before .before) .0
+events-good-requires c κs = laid (c .before .before .before .before) .laid
 
 refused-requires-4 : tie.Need-refused-requires-4
 refused-requires-4 c κs = search needs
@@ -106,7 +114,7 @@ release-requires c κs =
     let s = start (l .before) in
     let k = laid (l .before) in
     let z = none3 (g .before) in (
-      (granted-standing k z, good-back (k .0) _ (clocks s) (state-granted _ _ _ .0 z .0)),
+      (granted-standing (k .laid) (k .enough) z, good-back (k .laid) _ (clocks s) (state-granted _ _ _ _ .0 z .0)),
       (l .if2 .left, sym (g .events-good .ensures) ∙ not-false _ (c .before .if4 .left)),
     )
 
@@ -119,13 +127,13 @@ returns-5 c =
     let r = c .before .before in
     let g = r .before .before .before in
     let e = sym (g .events-good .ensures) ∙ not-false _ (r .before .before .if4 .left) in
-    record { said = rw (past (g .before), e, ← laid-place (laid (g .before .before .before .before .before) .0) _) (r .release .ensures) }
+    record { said = let l = laid (g .before .before .before .before .before) in rw (past (g .before), e, ← l .named, ← laid-place (l .laid) _) (r .release .ensures) }
 
 pub run-spec : {M : Type 1} → statement M
 run-spec =
     tie.close
     (tie.spec
-    check-requires
+    check-under-requires
     marks-refusal-requires
     refused-requires
     returns

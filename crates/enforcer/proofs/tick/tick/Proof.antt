@@ -8,8 +8,8 @@ use Rattle.enforcer.specs.Arrived.{tick-as-read}
 use Rattle.enforcer.proofs.tick.tick.Statement.{statement}
 use Rattle.enforcer.proofs.tick.tick.Tie as tie
 
-own-of-requires : tie.Need-own-of-requires
-own-of-requires c κs = search needs
+here-of-requires : tie.Need-here-of-requires
+here-of-requires c κs = search needs
 
 arrival-requires : tie.Need-arrival-requires
 arrival-requires c κs = search needs
@@ -54,7 +54,7 @@ pub tick-spec : {M : Type 1} → statement M
 tick-spec =
     tie.close
     (tie.spec
-    own-of-requires
+    here-of-requires
     arrival-requires
     released-requires
     returns

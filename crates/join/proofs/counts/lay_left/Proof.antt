@@ -4,7 +4,7 @@ use Prim.Native.Nat.{_+_, _-_, _*_, _≤_}
 use native.Mathlib.Omega.{arith}
 use denote.Ref.{now}
 use borrow.Author.Needs.{needs}
-use Rattle.policy.specs.File.{policyOf}
+use Rattle.join.specs.Entry.{said}
 use Rattle.join.specs.Join.{leftBelow}
 use Rattle.join.specs.Lay.{Laid}
 use Rattle.join.proofs.Laws.{laid-none, laid-more, laid-as, laid-length}
@@ -15,7 +15,7 @@ use Rattle.join.proofs.counts.lay_left.Tie as tie
 
 abbrev Inv-loop : tie.InvT-loop
 Inv-loop a x b y out₀ at locations next₀ location₀ out next location =
-    (location ≤ x .locations * y .locations) × (next ≡ at + location) × Laid (leftBelow (policyOf a) (policyOf b) location) out₀ at out next
+    (location ≤ x .locations * y .locations) × (next ≡ at + location) × Laid (leftBelow (said a) (said b) location) out₀ at out next
 
 abbrev μ-loop : tie.MeasureT-loop
 μ-loop a x b y out₀ at locations next₀ location₀ out next location = x .locations * y .locations - location
@@ -51,7 +51,7 @@ loop-again c =
     let l = c .before .before .before .before .before in
     let v = l .before .loop .inv in
     let a = entry l .args in
-    let e = left-more (policyOf (now (a .a))) (policyOf (now (a .b))) (l .before .loop .location) in
+    let e = left-more (said (now (a .a))) (said (now (a .b))) (l .before .loop .location) in
     (omega (arith, l .loop-test .taken), omega (arith, laid .ends, v .1), laid-as (rw byte e) (laid-more (v .2) laid))
 
 same-length : tie.Need-same-length Inv-loop μ-loop
@@ -62,7 +62,7 @@ returns c =
     let l = c .before .loop in
     let a = c .before .before .before .before .before .before .before .args in
     let e : l .location ≡ a .x .locations * a .y .locations = omega (arith, l .inv .0, c .loop-test .left) in
-    laid-as (ap (leftBelow (policyOf (now (a .a))) (policyOf (now (a .b)))) e) (l .inv .2)
+    laid-as (ap (leftBelow (said (now (a .a))) (said (now (a .b)))) e) (l .inv .2)
 
 pub lay-left-spec : {M : Type 1} → statement M
 lay-left-spec =

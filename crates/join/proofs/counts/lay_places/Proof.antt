@@ -3,7 +3,7 @@ use Prim.Native.Nat.{_*_}
 use native.Mathlib.Omega.{arith}
 use denote.Ref.{now}
 use borrow.Author.Needs.{needs}
-use Rattle.policy.specs.File.{policyOf}
+use Rattle.join.specs.Entry.{said}
 use Rattle.join.specs.Left.{left-length}
 use Rattle.join.proofs.Laws.{laid-more}
 use Rattle.join.proofs.FileLaws.{few}
@@ -32,7 +32,7 @@ put-pair-requires c κs =
         s .pre .2,
         c .before .before .before .before .before .before .before .put .ensures .ends,
         c .before .before .before .lay-left .ensures .ends,
-        left-length (policyOf (now (a .a))) (policyOf (now (a .b))) (a .x .locations * a .y .locations),
+        left-length (said (now (a .a))) (said (now (a .b))) (a .x .locations * a .y .locations),
       ),
     )
 

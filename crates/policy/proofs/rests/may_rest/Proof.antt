@@ -18,10 +18,10 @@ module _ (f : List ℕ) where
   unfolding rulesStart rulesAt
   bytes-before = omega arith
 
-  rests-by : (location at : ℕ) → location < locationCount f → at ≡ rulesStart f - 2 - locationCount f + location →
-      rests (policyOf f) location ≡ eqb (byteAt f at) 0
+  rests-by : (reading location at : ℕ) → location < locationCount f → at ≡ rulesStart f - 2 - locationCount f + location →
+      rests (policyOf reading f) location ≡ eqb (byteAt f at) 0
   unfolding rests policyOf rulesStart rulesAt
-  rests-by location at h e =
+  rests-by reading location at h e =
       ap (λ (b : ℕ). eqb b 0) (byte-part f (locationsAt f + 1) (locationCount f) location at (omega arith) h)
 
 sub-byte-at : tie.Need-sub-byte-at
@@ -39,7 +39,7 @@ byte-at-requires c κs = search needs
 returns : tie.Need-returns
 returns c =
     let s = c .before .before .before .before in
-    ap (λ (b : ℕ). eqb b 0) (c .byte-at .ensures .0) ∙ sym (rests-by (now (s .args .file)) (s .args .location) _ (omega (arith, s .pre)) (rw (s .pre .0, s .pre .1)))
+    ap (λ (b : ℕ). eqb b 0) (c .byte-at .ensures .0) ∙ sym (rests-by (now (s .args .file)) (s .args .layout .reading) (s .args .location) _ (omega (arith, s .pre)) (rw (s .pre .0, s .pre .1)))
 
 pub may-rest-spec : {M : Type 1} → statement M
 may-rest-spec = tie.close (tie.spec sub-byte-at sub-byte-at-2 add-byte-at byte-at-requires returns)

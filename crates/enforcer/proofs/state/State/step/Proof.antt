@@ -20,7 +20,7 @@ use Rattle.enforcer.proofs.state.State.step.Tie as tie
 found : (c : tie.After-known-told)
     → let a = c .before .before .before .before .before .args in
     some (c .before .number .given .0 .0)
-    ≡ decider (rulesFrom (a .clocks) (now (a .rules)) 0 (a .count)) (place (a .clocks) (a .self)) (eventXY (a .x) (a .y))
+    ≡ decider (rulesFrom (a .clocks) (now (a .rules)) 0 (a .count)) (place (a .clocks) (a .seen)) (eventXY (a .x) (a .y))
 found c = ap foundSaid (sym (c .before .number .given .1)) ∙ c .before .before .before .first-rule .ensures
 
 inside : (c : tie.After-known-told)
@@ -72,8 +72,8 @@ returns c =
     rw (step-decider _ _ _ _ _ _ _ _ (found (c .before .before)))
     (simp (← c .before .byte-within .ensures .0, eq-eqb _ _ (c .if1 .taken)))
 
-cast-t17 : tie.Need-cast-t17
-cast-t17 c = search needs
+cast-t18 : tie.Need-cast-t18
+cast-t18 c = search needs
 
 add-byte-within-2 : tie.Need-add-byte-within-2
 add-byte-within-2 c = omega (arith, inside (c .before .before .before))
@@ -117,7 +117,7 @@ step-spec =
     add-byte-within
     byte-within-requires
     returns
-    cast-t17
+    cast-t18
     add-byte-within-2
     byte-within-requires-2
     advanced-requires
