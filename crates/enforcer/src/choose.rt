@@ -12,7 +12,7 @@ ghost use Prim.Native.Nat.{ℕ, _≤_, _<_};
 ghost use lib.Dec.{eqb, ltb};
 ghost use lib.ListN.{getD};
 ghost use Rattle.streams.specs.Choose.{nearest};
-ghost use Rattle.policy.specs.Rules.{inputValues, outputValues};
+ghost use Rattle.policy.specs.Rules.{inputValues};
 ghost use Rattle.policy.specs.File.{policyOf};
 ghost use Rattle.enforcer.specs.Tick.{inputChoice, outputChoice};
 ghost use Rattle.enforcer.specs.Code.{place};
@@ -53,12 +53,12 @@ fn first_of_row(rows: &[u8; 256], set: u16, wanted: u8, n: usize) -> Choice
     Choice::Nothing
 }
 
-// Of the values below n in the set, the one nearest to the wanted one: the first of its row.
+// Of the values below n in the set, the one nearest to the wanted one: the first of its row. Its bits past the first four decide nothing, so they have no rows.
 fn nearest(set: u16, wanted: u8, n: usize) -> Choice
-    requires { ⌜ (wanted < 16) × (n ≤ 16) ⌝ }
+    requires { ⌜ n ≤ 16 ⌝ }
     ensures { λ r. ⌜ choiceSaid r ≡ nearest (has set) wanted n ⌝ }
 {
-    first_of_row(&NEAREST_FIRST, set, wanted, n)
+    first_of_row(&NEAREST_FIRST, set, wanted % 16, n)
 }
 
 // 1 for a set that is not empty, else 0.
@@ -110,7 +110,7 @@ pub(crate) fn choose_output(
     x: u8,
     y: u8,
 ) -> Choice
-    requires { ⌜ Ready (now file) layout here (now marks) state × (y < outputValues (policyOf (layout .reading) (now file))) ⌝ }
+    requires { ⌜ Ready (now file) layout here (now marks) state ⌝ }
     ensures { λ r. ⌜ choiceSaid r ≡ outputChoice (policyOf (layout .reading) (now (file .entry))) (now (marks .entry)) (place (layout .clocks) state) x y ⌝ }
 {
     nearest(

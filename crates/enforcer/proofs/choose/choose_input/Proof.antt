@@ -1,7 +1,6 @@
 -- `enforcer::choose::choose_input` meets its contract: the sets that are not empty are just those of the inputs that may stand.
 use mathlib.Core.Path.{_≡_, sym, _∙_}
 use Prim.Native.Nat.{_≤_}
-use native.Mathlib.Omega.{arith}
 use borrow.Author.Needs.{needs}
 use denote.Ref.{now}
 use Rattle.streams.specs.Choose.{nearest-kept}
@@ -36,7 +35,7 @@ values-requires : tie.Need-values-requires
 values-requires c κs = laid-limits (c .before .before .before .before .before .before .pre .0 .standing .laid) .0
 
 nearest-requires : tie.Need-nearest-requires
-nearest-requires c κs = (omega (arith, counted c), counted c .1)
+nearest-requires c κs = counted c .1
 
 returns-2 : tie.Need-returns-2
 returns-2 c =

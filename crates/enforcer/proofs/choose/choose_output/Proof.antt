@@ -1,7 +1,6 @@
 -- `enforcer::choose::choose_output` meets its contract: the row has just the outputs that reach a marked state.
 use mathlib.Core.Path.{_≡_, _∙_}
 use Prim.Native.Nat.{_≤_}
-use native.Mathlib.Omega.{arith}
 use borrow.Author.Needs.{needs}
 use denote.Ref.{now}
 use Rattle.policy.specs.Rules.{outputValues}
@@ -13,22 +12,22 @@ use Rattle.enforcer.proofs.choose.choose_output.Tie as tie
 
 -- The values counted are those of the outputs.
 counted : (c : tie.After-values) → (c .values .result ≡ outputValues (policyOf (c .before .before .before .before .args .layout .reading) (now (c .before .before .before .before .args .file)))) × (c .values .result ≤ 16)
-counted c = rw (c .values .ensures) (laid-outputs (c .before .before .before .before .pre .0 .standing .laid))
+counted c = rw (c .values .ensures) (laid-outputs (c .before .before .before .before .pre .standing .laid))
 
 row-requires : tie.Need-row-requires
 row-requires c κs = search needs
 
 values-requires : tie.Need-values-requires
-values-requires c κs = laid-limits (c .before .before .before .pre .0 .standing .laid) .1
+values-requires c κs = laid-limits (c .before .before .before .pre .standing .laid) .1
 
 nearest-requires : tie.Need-nearest-requires
-nearest-requires c κs = (omega (arith, counted c), counted c .1)
+nearest-requires c κs = counted c .1
 
 returns : tie.Need-returns
 returns c =
     let v = c .before in
     let s = v .before .before .before .before in
-    rw (counted v .0) at (c .nearest .ensures) ∙ row-chosen _ (laid-well (s .pre .0 .standing .laid)) _ _ _ _ (v .before .row .ensures) _
+    rw (counted v .0) at (c .nearest .ensures) ∙ row-chosen _ (laid-well (s .pre .standing .laid)) _ _ _ _ (v .before .row .ensures) _
 
 pub choose-output-spec : {M : Type 1} → statement M
 choose-output-spec =
