@@ -1,28 +1,25 @@
 -- The first entries of a list, changed one after the other.
 use mathlib.Core.Path.{_≡_, refl, sym, ap, _∙_, subst}
-use mathlib.Core.Bool.{Bool, true, false, cond, true≢false, false≢true, or-true, or-false}
+use mathlib.Core.Bool.{Bool, true, false, cond}
 use mathlib.Core.List.{List}
 use Prim.Native.Nat.{ℕ, _+_, _≤_, _<_}
 use native.Mathlib.Numerals.{add-one}
 use native.Mathlib.Omega.{arith}
 use lib.Dec.{ltb, eqb}
-use lib.ListN.{length, getD, set}
+use lib.ListN.{length, getD, set, length-set}
 use lib.Seq.{getD-set-same, getD-set-other}
-use lib.Bits.{bitXor}
 use borrow.Author.Tests.{lt-ltb, le-ltb, ltb-true, ltb-false, eqb-true, eqb-false}
-use Rattle.streams.specs.Choose.{any}
-use Rattle.enforcer.specs.Sets.{cond-same}
-use Rattle.enforcer.specs.Ways.{agreed}
 
--- Of the first n entries each is what f says, the others are as they were.
+-- Of the first n entries each is what f says, the others are as they were, and so is the length.
 pub record Changed (f : ℕ → ℕ) (n : ℕ) (xs ys : List ℕ) : Type 0 where
+  pub size : length ys ≡ length xs
   pub at : (z : ℕ) → getD ys z 0 ≡ cond (ltb z n) (f z) (getD xs z 0)
 
 pub changed-none : (f : ℕ → ℕ) (xs : List ℕ) → Changed f 0 xs xs
-changed-none f xs = record { at = λ z. rw (le-ltb z 0 (omega arith)) }
+changed-none f xs = record { size = refl; at = λ z. rw (le-ltb z 0 (omega arith)) }
 
 pub changed-more : {f : ℕ → ℕ} {n v : ℕ} {xs ys : List ℕ} → n < length ys → v ≡ f n → Changed f n xs ys → Changed f (n + 1) xs (set ys n v)
-changed-more {f} {n} {v} {xs} {ys} l e h = record { at = λ z. go z (eqb z n) refl }
+changed-more {f} {n} {v} {xs} {ys} l e h = record { size = length-set ys n v ∙ h .size; at = λ z. go z (eqb z n) refl }
   where
     same : (z : ℕ) (t : Bool) → ltb z n ≡ t → (z ≡ n → ⊥) → ltb z n ≡ ltb z (n + 1)
     same z true k d = let m : z < n = ltb-true _ _ k in k ∙ sym (lt-ltb z (n + 1) (omega arith))
@@ -36,45 +33,35 @@ changed-more {f} {n} {v} {xs} {ys} l e h = record { at = λ z. go z (eqb z n) re
         let d : z ≡ n → ⊥ = eqb-false _ _ q in
         getD-set-other ys n z v 0 d ∙ h .at z ∙ ap (λ (t : Bool). cond t (f z) (getD xs z 0)) (same z (ltb z n) refl d)
 
+-- Where f says what stood there, it may be said of fewer or of more entries.
+span : (f : ℕ → ℕ) (n m : ℕ) (xs : List ℕ) → n ≤ m → ((z : ℕ) → n ≤ z → z < m → f z ≡ getD xs z 0) → (z : ℕ) →
+    cond (ltb z n) (f z) (getD xs z 0) ≡ cond (ltb z m) (f z) (getD xs z 0)
+span f n m xs l same z = go (ltb z n) (ltb z m) refl refl
+  where
+    go : (a b : Bool) → ltb z n ≡ a → ltb z m ≡ b → cond a (f z) (getD xs z 0) ≡ cond b (f z) (getD xs z 0)
+    go true true d e = refl
+    go false false d e = refl
+    go true false d e = absurd (omega (arith, ltb-true z n d, ltb-false z m e))
+    go false true d e = sym (same z (ltb-false z n d) (ltb-true z m e))
+
+module _ {f : ℕ → ℕ} {n m : ℕ} {xs ys : List ℕ} (l : n ≤ m) (same : (z : ℕ) → n ≤ z → z < m → f z ≡ getD xs z 0) where
+  pub changed-on : Changed f n xs ys → Changed f m xs ys
+  changed-on c = record { size = c .size; at = λ z. c .at z ∙ span f n m xs l same z }
+
+  pub changed-back : Changed f m xs ys → Changed f n xs ys
+  changed-back c = record { size = c .size; at = λ z. c .at z ∙ sym (span f n m xs l same z) }
+
 -- What is said in another way.
 pub changed-as : {f : ℕ → ℕ} {n m : ℕ} {xs ys : List ℕ} → n ≡ m → Changed f n xs ys → Changed f m xs ys
 changed-as {f} {xs = xs} {ys = ys} e c = subst (λ (k : ℕ). Changed f k xs ys) e c
 
--- Changed if the test says so.
-pub changed-not : (t : Bool) (f : ℕ → ℕ) (n : ℕ) (xs : List ℕ) → t ≡ false → Changed (λ z. cond t (f z) (getD xs z 0)) n xs xs
-changed-not true f n xs e = absurd (true≢false e)
-changed-not false f n xs e = record { at = λ z. sym (cond-same (ltb z n) (getD xs z 0)) }
+pub changed-by : {f g : ℕ → ℕ} {n : ℕ} {xs ys : List ℕ} → ((z : ℕ) → z < n → f z ≡ g z) → Changed f n xs ys → Changed g n xs ys
+changed-by {f} {g} {n} {xs} {ys} e c = record { size = c .size; at = λ z. c .at z ∙ go z (ltb z n) refl }
+  where
+    go : (z : ℕ) (t : Bool) → ltb z n ≡ t → cond t (f z) (getD xs z 0) ≡ cond t (g z) (getD xs z 0)
+    go z true d = e z (ltb-true z n d)
+    go z false d = refl
 
-pub changed-so : (t : Bool) {f : ℕ → ℕ} {n : ℕ} {xs ys : List ℕ} → t ≡ true → Changed f n xs ys → Changed (λ z. cond t (f z) (getD xs z 0)) n xs ys
-changed-so true e c = c
-changed-so false e c = absurd (false≢true e)
-
--- What care bits, a value and a set take of each of the first n sets, and whether that is anything.
-pub record Took (care value outs n : ℕ) (left rest : List ℕ) (some : Bool) : Type 0 where
-  pub changed : Changed (λ x. bitXor (getD left x 0) (agreed care value outs x (getD left x 0))) n left rest
-  pub any-taken : some ≡ any (λ x. ltb 0 (agreed care value outs x (getD left x 0))) n
-
-pub took-none : (care value outs : ℕ) (left : List ℕ) → Took care value outs 0 left left false
-unfolding any
-took-none care value outs left = record { changed = changed-none _ left; any-taken = refl }
-
-pub took-as : {care value outs n m : ℕ} {left rest : List ℕ} {some : Bool} → n ≡ m → Took care value outs n left rest some → Took care value outs m left rest some
-took-as {care} {value} {outs} {left = left} {rest = rest} {some = some} e c = subst (λ (k : ℕ). Took care value outs k left rest some) e c
-
-module _ {care value outs n v : ℕ} {left rest : List ℕ} {some : Bool} (k : Took care value outs n left rest some) (l : n < length rest)
-    (e : v ≡ agreed care value outs n (getD left n 0)) where
-  pub took-more : (v ≡ 0 → ⊥) → Took care value outs (n + 1) left (set rest n (bitXor (getD left n 0) v)) true
-  unfolding any
-  took-more d =
-      record {
-        changed = changed-more l (ap (bitXor (getD left n 0)) e) (k .changed);
-        any-taken = rw (add-one, ← k .any-taken, ← e, lt-ltb 0 v (omega arith)) (sym (or-true some));
-      }
-
-  pub took-nothing : v ≡ 0 → Took care value outs (n + 1) left (set rest n (bitXor (getD left n 0) v)) some
-  unfolding any
-  took-nothing d =
-      record {
-        changed = changed-more l (ap (bitXor (getD left n 0)) e) (k .changed);
-        any-taken = rw (add-one, ← k .any-taken, ← e, d) (sym (or-false some));
-      }
+-- Nothing is changed if f says what stands there.
+pub changed-not : {f : ℕ → ℕ} {n : ℕ} {xs : List ℕ} → ((z : ℕ) → z < n → f z ≡ getD xs z 0) → Changed f n xs xs
+changed-not {f} {n} {xs} e = changed-on (omega arith) (λ z l h. e z h) (changed-none f xs)

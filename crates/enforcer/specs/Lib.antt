@@ -15,5 +15,6 @@ pub mod Table
 pub mod Outs
 pub mod Ways
 pub mod Changed
+pub mod After
 pub mod Pass
 pub mod Choice

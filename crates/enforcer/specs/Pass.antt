@@ -3,7 +3,7 @@ use mathlib.Core.Path.{_≡_, refl, sym, ap, ap₂, _∙_, subst}
 use mathlib.Core.Bool.{Bool, true, false, cond, _&&_, and-eq-true-iff, or-true, false≢true}
 use mathlib.Core.List.{List, [], _∷_}
 use Prim.Native.Nat.{ℕ, zero, suc, _+_, _-_, _*_, _≤_, _<_}
-use native.Mathlib.Nat.{suc-mul, mul-le-mul-right}
+use native.Mathlib.Nat.{suc-mul, mul-le-mul-right, pow-le-pow-right}
 use native.Mathlib.Omega.{arith}
 use lib.Dec.{eqb, ltb}
 use lib.Bits.{bitAnd, bitOr, bitXor, or-zero-r, xor-zero-r}
@@ -12,8 +12,8 @@ use borrow.Author.Tests.{lt-ltb, le-ltb, ltb-true, ltb-false, eqb-true}
 use Rattle.streams.specs.Choose.{any, any-from, any-none, any-has, any-fails}
 use Rattle.policy.specs.Rules.{Rule, Policy, Place, inputValues, outputValues, stopped, looked}
 use Rattle.policy.specs.File.{ruleSize, ruleFrom, rulesFrom, rulesOf, clockCount, policyOf}
-use Rattle.policy.specs.Sound.{WellFormed, Each, each-none, each-more, Formed}
-use Rattle.policy.specs.Checked.{frame, well-sound}
+use Rattle.policy.specs.Sound.{WellFormed, Each, each-none, each-more, each-weak, Formed}
+use Rattle.policy.specs.Checked.{frame, well-ruled}
 use Rattle.policy.specs.Parts.{rules-part}
 use Rattle.policy.specs.Own.{below, level, own, ownOf}
 use Rattle.policy.specs.declared.Layout.{Layout}
@@ -25,8 +25,8 @@ use Rattle.enforcer.specs.Ready.{Laid}
 use Rattle.enforcer.specs.Laid.{laid-well, laid-clocks, own-fits, own-rules}
 use Rattle.enforcer.specs.Sets.{cond-same, has, has-or, has-some, has-not-empty, xor-twice, allBelow}
 use Rattle.enforcer.specs.Outs.{outs}
-use Rattle.enforcer.specs.Ways.{room, holds, takes, leads, gathered, allowed, row, gathered-keeps, gathered-own, allowed-any}
-use Rattle.enforcer.specs.Changed.{Changed, changed-not, Took}
+use Rattle.enforcer.specs.Ways.{agreed, room, holds, takes, leads, gathered, allowed, row, gathered-keeps, gathered-own, allowed-any}
+use Rattle.enforcer.specs.Changed.{Changed, changed-by, changed-not}
 
 -- No number below n passes if none does.
 none-any : (n : ℕ) → any (λ x. ltb 0 0) n ≡ false
@@ -37,26 +37,75 @@ zeros zero x = refl
 zeros (suc n) zero = refl
 zeros (suc n) (suc x) = zeros n x
 
+-- What a rule takes, by care bits and a value of the input and a set of outputs.
+module _ (s : Place) where
+  pub record Parts (r : Rule) (care value set : ℕ) : Type 0 where
+    pub few : care < 16
+    pub within : bitAnd value care ≡ value
+    pub same : (x left : ℕ) → agreed care value set x left ≡ takes s r x left
+
+  -- Whether the rule r takes something of the first n sets, and if so, what.
+  pub record Parted (r : Rule) (n : ℕ) (left : List ℕ) (some : Bool) (care value set : ℕ) : Type 0 where
+    pub says : some ≡ any (λ x. ltb 0 (takes s r x (getD left x 0))) n
+    pub parts : some ≡ true → Parts r care value set
+
+  -- A rule whose bounds do not hold takes nothing.
+  pub parted-bounds : {r : Rule} {n : ℕ} {left : List ℕ} {care value set : ℕ} → holds s r ≡ false → Parted r n left false care value set
+  unfolding takes
+  parted-bounds {r} {n} e = record { says = rw (e, none-any n); parts = λ q. absurd (false≢true q) }
+
+  pub parted-so : {r : Rule} {n : ℕ} {left : List ℕ} {some : Bool} → holds s r ≡ true → r .inCare < 16 → bitAnd (r .inValue) (r .inCare) ≡ r .inValue →
+      some ≡ any (λ x. ltb 0 (agreed (r .inCare) (r .inValue) (outs (r .outCare) (r .outValue)) x (getD left x 0))) n →
+      Parted r n left some (r .inCare) (r .inValue) (outs (r .outCare) (r .outValue))
+  unfolding takes
+  parted-so e few within d = record { says = rw e d; parts = λ q. record { few = few; within = within; same = λ x l. rw e } }
+
+  module _ {r : Rule} {n : ℕ} {left : List ℕ} {care value set : ℕ} (k : Parted r n left false care value set) where
+    pub parted-none : (x : ℕ) → x < n → takes s r x (getD left x 0) ≡ 0
+    parted-none x h =
+        let m : takes s r x (getD left x 0) ≤ 0 = ltb-false _ _ (any-none _ n (sym (k .says)) x h) in
+        omega arith
+
+    pub parted-not : Changed (λ x. bitXor (getD left x 0) (takes s r x (getD left x 0))) n left left
+    parted-not = changed-not (λ x h. rw (parted-none x h, xor-zero-r))
+
+  pub parts-taken : {r : Rule} {n : ℕ} {left rest : List ℕ} {care value set : ℕ} → Parts r care value set →
+      Changed (λ x. bitXor (getD left x 0) (agreed care value set x (getD left x 0))) n left rest →
+      Changed (λ x. bitXor (getD left x 0) (takes s r x (getD left x 0))) n left rest
+  parts-taken {left = left} k c = changed-by (λ x h. rw (k .same x (getD left x 0))) c
+
 module _ (s : Place) (p : Policy) (marks : List ℕ) where
   -- What the rule r takes of the first n sets, and whether it takes something and leads to a marked place.
   pub record Went (r : Rule) (n : ℕ) (left rest : List ℕ) (found : Bool) : Type 0 where
     pub changed : Changed (λ x. bitXor (getD left x 0) (takes (looked stopped p s) r x (getD left x 0))) n left rest
     pub says : found ≡ (any (λ x. ltb 0 (takes (looked stopped p s) r x (getD left x 0))) n && leads s p marks r)
 
-  -- A rule whose bounds do not hold takes nothing.
-  pub went-not : {r : Rule} {n : ℕ} {left : List ℕ} → holds (looked stopped p s) r ≡ false → Went r n left left false
-  unfolding takes
-  went-not {r} {n} {left} e =
-      record { changed = record { at = λ z. rw (e, xor-zero-r) (sym (cond-same (ltb z n) (getD left z 0))) }; says = rw (e, none-any n) }
-
-  pub went-took : {r : Rule} {n : ℕ} {left rest : List ℕ} {some found : Bool} → holds (looked stopped p s) r ≡ true →
-      Took (r .inCare) (r .inValue) (outs (r .outCare) (r .outValue)) n left rest some → found ≡ (some && leads s p marks r) → Went r n left rest found
-  unfolding takes
-  went-took {r} {n} {left} {rest} e k f =
-      record { changed = record { at = λ z. rw e (k .changed .at z) }; says = rw (e, ← k .any-taken) f }
-
   pub went-as : {r : Rule} {n m : ℕ} {left rest : List ℕ} {found t : Bool} → n ≡ m → found ≡ t → Went r n left rest found → Went r m left rest t
   went-as {r} {n} {left = left} {rest = rest} {t = t} e d w = subst (λ (k : ℕ). Went r k left rest t) e (subst (λ (b : Bool). Went r n left rest b) d w)
+
+  -- What the rule r takes of the first n sets; and it is found, if the rule leads to a marked place.
+  pub record Gathers (r : Rule) (n : ℕ) (left rest found more : List ℕ) : Type 0 where
+    pub taken : Changed (λ x. bitXor (getD left x 0) (takes (looked stopped p s) r x (getD left x 0))) n left rest
+    pub gained : Changed (λ x. cond (leads s p marks r) (bitOr (getD found x 0) (takes (looked stopped p s) r x (getD left x 0))) (getD found x 0)) n found more
+
+  pub gathers-as : {r : Rule} {n m : ℕ} {left rest found more : List ℕ} → n ≡ m → Gathers r n left rest found more → Gathers r m left rest found more
+  gathers-as {r} {left = left} {rest = rest} {found = found} {more = more} e w = subst (λ (k : ℕ). Gathers r k left rest found more) e w
+
+  pub gathers-not : {r : Rule} {n : ℕ} {left : List ℕ} (found : List ℕ) {care value set : ℕ} → Parted (looked stopped p s) r n left false care value set → Gathers r n left left found found
+  gathers-not {r} {n} {left} found k =
+      record {
+        taken = parted-not (looked stopped p s) k;
+        gained = changed-not (λ x h. rw (parted-none (looked stopped p s) k x h, or-zero-r) (cond-same (leads s p marks r) (getD found x 0)));
+      }
+
+  module _ {r : Rule} {n : ℕ} {left rest : List ℕ} {care value set : ℕ} (k : Parts (looked stopped p s) r care value set)
+      (c : Changed (λ x. bitXor (getD left x 0) (agreed care value set x (getD left x 0))) n left rest) (found : List ℕ) where
+    pub gathers-lost : leads s p marks r ≡ false → Gathers r n left rest found found
+    gathers-lost e = record { taken = parts-taken (looked stopped p s) k c; gained = changed-not (λ x h. rw e) }
+
+    pub gathers-led : leads s p marks r ≡ true → {more : List ℕ} →
+        Changed (λ x. bitOr (getD found x 0) (agreed care value set x (getD left x 0))) n found more → Gathers r n left rest found more
+    gathers-led e g = record { taken = parts-taken (looked stopped p s) k c; gained = changed-by (λ x h. rw (e, k .same x (getD left x 0))) g }
 
   -- What is known with the rules rs still to come.
   pub record Gathering (rs : List Rule) (left found : List ℕ) : Type 0 where
@@ -74,40 +123,29 @@ module _ (s : Place) (p : Policy) (marks : List ℕ) where
       }
 
   -- One rule more.
-  module _ {r : Rule} {rs : List Rule} {left rest found more : List ℕ} {t : Bool} (g : Gathering (r ∷ rs) left found)
-      (w : Went r (inputValues p) left rest t) where
-    pub gathering-more :
-        Changed (λ x. cond t (bitOr (getD found x 0) (bitXor (getD left x 0) (getD rest x 0))) (getD found x 0)) (inputValues p) found more →
-        Gathering rs rest more
-    unfolding gathered
-    gathering-more c = record { within = within; past = λ x h. c .at x ∙ rw (le-ltb x (inputValues p) h) (g .past x h) }
-      where
-        left-now : (x : ℕ) → x < inputValues p → getD rest x 0 ≡ bitXor (getD left x 0) (takes (looked stopped p s) r x (getD left x 0))
-        left-now x h = w .changed .at x ∙ rw (lt-ltb x (inputValues p) h)
-
-        found-now : (x : ℕ) → x < inputValues p → getD more x 0 ≡ cond t (bitOr (getD found x 0) (takes (looked stopped p s) r x (getD left x 0))) (getD found x 0)
-        found-now x h = c .at x ∙ rw (lt-ltb x (inputValues p) h, left-now x h, xor-twice)
-
-        -- What takes nothing finds nothing.
-        same : (x : ℕ) → x < inputValues p → (a : Bool) → any (λ z. ltb 0 (takes (looked stopped p s) r z (getD left z 0))) (inputValues p) ≡ a → (b : Bool) →
-            cond b (bitOr (getD found x 0) (takes (looked stopped p s) r x (getD left x 0))) (getD found x 0)
-            ≡ cond (a && b) (bitOr (getD found x 0) (takes (looked stopped p s) r x (getD left x 0))) (getD found x 0)
-        same x h true e b = refl
-        same x h false e false = refl
-        same x h false e true =
-            let n : takes (looked stopped p s) r x (getD left x 0) ≤ 0 = ltb-false _ _ (any-none _ (inputValues p) e x h) in
-            let z : takes (looked stopped p s) r x (getD left x 0) ≡ 0 = omega arith in
-            rw (z, or-zero-r)
-
-        within : (x : ℕ) → x < inputValues p → allowed p marks s x ≡ gathered s p marks rs x (getD rest x 0) (getD more x 0)
-        within x h =
-            g .within x h
-            ∙ ap₂ (gathered s p marks rs x) (sym (left-now x h)) (same x h _ refl (leads s p marks r) ∙ rw (← w .says) (sym (found-now x h)))
+  pub gathering-more : {r : Rule} {rs : List Rule} {left rest found more : List ℕ} →
+      Gathering (r ∷ rs) left found → Gathers r (inputValues p) left rest found more → Gathering rs rest more
+  unfolding gathered
+  gathering-more {r} {rs} {left} {rest} {found} {more} g w =
+      record { within = within; past = λ x h. w .gained .at x ∙ rw (le-ltb x (inputValues p) h) (g .past x h) }
+    where
+      within : (x : ℕ) → x < inputValues p → allowed p marks s x ≡ gathered s p marks rs x (getD rest x 0) (getD more x 0)
+      within x h = g .within x h ∙ ap₂ (gathered s p marks rs x) (sym (w .taken .at x ∙ rw (lt-ltb x (inputValues p) h))) (sym (w .gained .at x ∙ rw (lt-ltb x (inputValues p) h)))
 
   -- A rule that takes nothing, or leads to no marked place, finds nothing.
   pub gathering-on : {r : Rule} {rs : List Rule} {left rest found : List ℕ} →
       Gathering (r ∷ rs) left found → Went r (inputValues p) left rest false → Gathering rs rest found
-  gathering-on {found = found} g w = gathering-more g w (changed-not false (λ x. 0) (inputValues p) found refl)
+  gathering-on {r} {left = left} {found = found} g w =
+      gathering-more g (record { taken = w .changed; gained = changed-not (λ x h. same x h _ refl (leads s p marks r) refl) })
+    where
+      same : (x : ℕ) → x < inputValues p → (a : Bool) → any (λ z. ltb 0 (takes (looked stopped p s) r z (getD left z 0))) (inputValues p) ≡ a → (b : Bool) →
+          leads s p marks r ≡ b → cond b (bitOr (getD found x 0) (takes (looked stopped p s) r x (getD left x 0))) (getD found x 0) ≡ getD found x 0
+      same x h a e false d = refl
+      same x h true e true d = absurd (false≢true (w .says ∙ rw (e, d)))
+      same x h false e true d =
+          let n : takes (looked stopped p s) r x (getD left x 0) ≤ 0 = ltb-false _ _ (any-none _ (inputValues p) e x h) in
+          let z : takes (looked stopped p s) r x (getD left x 0) ≡ 0 = omega arith in
+          rw (z, or-zero-r)
 
   -- What a rule that leads on takes is allowed.
   takes-found : {r : Rule} {rs : List Rule} {left found : List ℕ} → Gathering (r ∷ rs) left found → leads s p marks r ≡ true →
@@ -172,16 +210,13 @@ module _ (s : Place) (p : Policy) where
   pub turned-as : {r : Rule} {n m : ℕ} {left rest : List ℕ} {some : Bool} {to : ℕ} → n ≡ m → Turned r n left rest some to → Turned r m left rest some to
   turned-as {r} {left = left} {rest = rest} {some = some} {to = to} e w = subst (λ (k : ℕ). Turned r k left rest some to) e w
 
-  pub turned-not : {r : Rule} {n : ℕ} {left : List ℕ} {to : ℕ} → holds (looked stopped p s) r ≡ false → Turned r n left left false to
-  turned-not e = record { went = λ marks. went-not s p marks e; below = λ q. absurd (false≢true q) }
+  pub turned-not : {r : Rule} {n : ℕ} {left : List ℕ} {care value set to : ℕ} → Parted (looked stopped p s) r n left false care value set → Turned r n left left false to
+  turned-not k = record { went = λ marks. record { changed = parted-not (looked stopped p s) k; says = rw (← k .says) }; below = λ q. absurd (false≢true q) }
 
-  module _ {r : Rule} {n : ℕ} {left rest : List ℕ} {some : Bool} (e : holds (looked stopped p s) r ≡ true)
-      (k : Took (r .inCare) (r .inValue) (outs (r .outCare) (r .outValue)) n left rest some) where
-    pub turned-nothing : {to : ℕ} → some ≡ false → Turned r n left rest false to
-    turned-nothing q = record { went = λ marks. went-took s p marks e k (rw q); below = λ d. absurd (false≢true d) }
-
-    pub turned-took : {leads : Bool} {to : ℕ} → some ≡ true → Led r leads to → Turned r n left rest leads to
-    turned-took q w = record { went = λ marks. went-took s p marks e k (rw (q, w .mark marks)); below = w .below }
+  pub turned-took : {r : Rule} {n : ℕ} {left rest : List ℕ} {care value set : ℕ} {some : Bool} {to : ℕ} → Parted (looked stopped p s) r n left true care value set →
+      Changed (λ x. bitXor (getD left x 0) (agreed care value set x (getD left x 0))) n left rest → Led r some to → Turned r n left rest some to
+  turned-took k c w =
+      record { went = λ marks. record { changed = parts-taken (looked stopped p s) (k .parts refl) c; says = rw (← k .says, w .mark marks) }; below = w .below }
 
   -- What is known with the rules rs still to come, if the states of the kind F are found: no rule passed leads to another.
   pub record Passing (F : ℕ → Type 0) (rs : List Rule) (left : List ℕ) : Type 0 where
@@ -237,9 +272,19 @@ module _ (s : Place) (p : Policy) (marks : List ℕ) (x : ℕ) where
   rowing-done g = sym (g .is)
 
 -- The location's own rules, where they stand in the file.
+pub record Cared (clocks locations : ℕ) (r : Rule) : Type 0 where
+  pub formed : Formed clocks locations r
+  pub care : r .inCare < 16
+
+well-cared : (p : Policy) → WellFormed p → Each (Cared (length (p .ceilings)) (p .locations)) (p .rules)
+well-cared p k =
+    each-weak (λ r g. let l = pow-le-pow-right {n = 2} (omega arith) (k .inputs) in record { formed = g .formed; care = omega (arith, g .inCare) })
+    (well-ruled p k)
+
 pub record Ours (clocks locations a : ℕ) (r : Rule) : Type 0 where
   pub source : r .source ≡ a
   pub formed : Formed clocks locations r
+  pub care : r .inCare < 16
 
 each-drop : {P : Rule → Type 0} (n : ℕ) {rs : List Rule} → Each P rs → Each P (drop n rs)
 each-drop zero h = h
@@ -247,17 +292,17 @@ each-drop (suc n) each-none = each-none
 each-drop (suc n) (each-more p h) = each-drop n h
 
 module _ (clocks locations a : ℕ) where
-  each-level : {rs : List Rule} → Each (Formed clocks locations) rs → Each (Ours clocks locations a) (take (level a rs) rs)
+  each-level : {rs : List Rule} → Each (Cared clocks locations) rs → Each (Ours clocks locations a) (take (level a rs) rs)
   unfolding level
   each-level each-none = each-none
   each-level (each-more {r = r} {rs = rs} f h) = go (eqb (r .source) a) refl (each-level h)
     where
       go : (t : Bool) → eqb (r .source) a ≡ t → Each (Ours clocks locations a) (take (level a rs) rs) →
           Each (Ours clocks locations a) (take (cond t (suc (level a rs)) 0) (r ∷ rs))
-      go true e k = each-more (record { source = eqb-true _ _ e; formed = f }) k
+      go true e k = each-more (record { source = eqb-true _ _ e; formed = f .formed; care = f .care }) k
       go false e k = each-none
 
-  each-own : {rs : List Rule} → Each (Formed clocks locations) rs → Each (Ours clocks locations a) (own a rs)
+  each-own : {rs : List Rule} → Each (Cared clocks locations) rs → Each (Ours clocks locations a) (own a rs)
   unfolding own
   each-own {rs} h = each-level (each-drop (below a rs) h)
 
@@ -285,7 +330,7 @@ module _ {f : List ℕ} {l : Layout} (k : Laid f l) where
     unfolding policyOf
     own-ahead =
         record {
-          each = rw (own-here, k .locations, laid-clocks k) (each-own _ _ a (well-sound (policyOf (l .reading) f) (laid-well k) .rules));
+          each = rw (own-here, k .locations, laid-clocks k) (each-own _ _ a (well-cared (policyOf (l .reading) f) (laid-well k)));
           ends = own-fits k a e .0;
         }
 

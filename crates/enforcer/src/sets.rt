@@ -1,18 +1,15 @@
 // Sets of outputs, one for each input, one bit an output.
 ghost use mathlib.Core.Path.{_≡_};
-ghost use Prim.Native.Nat.{_≤_};
-ghost use mathlib.Core.Bool.{cond};
-ghost use lib.ListN.{getD, replicate};
-ghost use lib.Bits.{bitOr, bitXor};
+ghost use Prim.Native.Nat.{_≤_, _<_};
+ghost use lib.Dec.{ltb};
+ghost use lib.ListN.{length, getD, replicate};
+ghost use lib.Bits.{bitAnd, bitOr, bitXor};
+ghost use Rattle.streams.specs.Choose.{any};
 ghost use Rattle.enforcer.specs.Sets.{allBelow};
 ghost use Rattle.enforcer.specs.Outs.{column, outs};
 ghost use Rattle.enforcer.specs.Ways.{agreed};
-ghost use Rattle.enforcer.specs.Changed.{Changed, Took};
-
-pub struct Taken {
-    pub left: [u16; 16],
-    pub some: bool,
-}
+ghost use Rattle.enforcer.specs.Changed.{Changed};
+ghost use Rattle.enforcer.specs.After.{after};
 
 // Of one output signal: the outputs that agree; `ones` are those in which its bit is 1.
 fn column(care: usize, value: usize, ones: u16) -> u16
@@ -57,51 +54,56 @@ pub fn room(inputs: usize, outputs: usize) -> [u16; 16]
     sets
 }
 
-// What the care bits, the value and the set take of what is left with x.
-pub(crate) fn agreed(care: usize, value: usize, set: u16, x: usize, left: u16) -> u16
-    ensures { λ r. ⌜ r ≡ agreed care value set x left ⌝ }
+// The next input after x that agrees with the care bits as x does. From 16 on there is none.
+fn after(care: usize, x: usize) -> usize
+    requires { ⌜ (care < 16) × (x < 16) ⌝ }
+    ensures { λ r. ⌜ r ≡ after care x ⌝ }
 {
-    if x & care == value { left & set } else { 0 }
+    ((x | care) + 1) & (31 - care) | (x & care)
 }
 
-// What is left of each set, and whether anything was taken.
-pub(crate) fn take(left: [u16; 16], inputs: usize, care: usize, value: usize, set: u16) -> Taken
-    requires { ⌜ inputs ≤ 16 ⌝ }
-    ensures { λ r. ⌜ Took care value set inputs left (r .left) (r .some) ⌝ }
+// Something is left that agrees with the care bits, the value and the set.
+pub(crate) fn is_left(left: &[u16; 16], inputs: usize, care: usize, value: usize, set: u16) -> bool
+    requires { ⌜ (inputs ≤ 16) × (care < 16) × (bitAnd value care ≡ value) ⌝ }
+    ensures { λ r. ⌜ r ≡ any (λ x. ltb 0 (agreed care value set x (getD (now (left .entry)) x 0))) inputs ⌝ }
 {
-    let mut rest = left;
-    let mut some = false;
-    let mut x = 0;
+    let mut x = value;
     while x < inputs {
-        let taken = agreed(care, value, set, x, left[x]);
-        rest[x] = left[x] ^ taken;
-        if taken != 0 {
-            some = true;
+        if left[x] & set != 0 {
+            return true;
         }
-        x += 1;
+        x = after(care, x);
     }
-    Taken { left: rest, some }
+    false
 }
 
-// What was left before and is no more is found, if it leads on.
-pub(crate) fn gain(
-    found: [u16; 16],
-    before: [u16; 16],
-    after: [u16; 16],
-    inputs: usize,
-    leads: bool,
-) -> [u16; 16]
-    requires { ⌜ inputs ≤ 16 ⌝ }
-    ensures { λ r. ⌜ Changed (λ x. cond leads (bitOr (getD found x 0) (bitXor (getD before x 0) (getD after x 0))) (getD found x 0)) inputs found r ⌝ }
+// Takes from what is left what agrees with the care bits, the value and the set.
+pub(crate) fn take(left: &mut [u16; 16], inputs: usize, care: usize, value: usize, set: u16)
+    requires { ⌜ (inputs ≤ 16) × (care < 16) × (bitAnd value care ≡ value) × (length (now left) ≡ 16) ⌝ }
+    ensures { λ _. ⌜ Changed (λ x. bitXor (getD (now (left .entry)) x 0) (agreed care value set x (getD (now (left .entry)) x 0))) inputs (now (left .entry)) (now (left .exit)) ⌝ }
 {
-    if !leads {
-        return found;
-    }
-    let mut more = found;
-    let mut x = 0;
+    let mut x = value;
     while x < inputs {
-        more[x] = found[x] | (before[x] ^ after[x]);
-        x += 1;
+        left[x] = left[x] ^ (left[x] & set);
+        x = after(care, x);
     }
-    more
+}
+
+// Adds to what is found what is left and agrees with the care bits, the value and the set.
+pub(crate) fn gain(
+    found: &mut [u16; 16],
+    left: &[u16; 16],
+    inputs: usize,
+    care: usize,
+    value: usize,
+    set: u16,
+)
+    requires { ⌜ (inputs ≤ 16) × (care < 16) × (bitAnd value care ≡ value) × (length (now found) ≡ 16) ⌝ }
+    ensures { λ _. ⌜ Changed (λ x. bitOr (getD (now (found .entry)) x 0) (agreed care value set x (getD (now (left .entry)) x 0))) inputs (now (found .entry)) (now (found .exit)) ⌝ }
+{
+    let mut x = value;
+    while x < inputs {
+        found[x] = found[x] | (left[x] & set);
+        x = after(care, x);
+    }
 }

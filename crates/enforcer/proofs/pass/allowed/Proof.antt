@@ -1,21 +1,21 @@
 -- `enforcer::pass::allowed` meets its contract. The loop's invariant: the rules still to come are the location's own, and from what is left and found they find what all rules find.
-use mathlib.Core.Path.{_≡_, refl}
+use mathlib.Core.Path.{_≡_, refl, _∙_}
 use Prim.Native.Nat.{_≤_}
 use native.Mathlib.Omega.{arith}
+use lib.ListN.{length}
 use borrow.Author.Needs.{needs}
 use denote.Ref.{now}
 use Rattle.policy.specs.Rules.{inputValues, outputValues}
 use Rattle.policy.specs.File.{rulesFrom, policyOf}
 use Rattle.enforcer.specs.Code.{place}
 use Rattle.enforcer.specs.Laid.{laid-limits, laid-well, laid-inputs, laid-outputs}
-use Rattle.enforcer.specs.Changed.{changed-as}
-use Rattle.enforcer.specs.Pass.{Ahead, Gathering, went-as, gathering-start, gathering-more, gathering-done, own-here, own-ahead, laid-short, ahead-first, ahead-rule, ahead-rest, none-ahead}
+use Rattle.enforcer.specs.Pass.{Ahead, Gathering, gathers-as, gathering-start, gathering-more, gathering-done, own-here, own-ahead, laid-short, ahead-first, ahead-rule, ahead-rest, none-ahead}
 use Rattle.enforcer.proofs.pass.allowed.Statement.{statement}
 use Rattle.enforcer.proofs.pass.allowed.Tie as tie
 
 abbrev Inv-loop : tie.InvT-loop
 Inv-loop file layout here marks state inputs outputs size left₀ found₀ at₀ ahead₀ left found at ahead =
-    Ahead file layout (state .location) at ahead
+    ((length left ≡ 16) × (length found ≡ 16) × Ahead file layout (state .location) at ahead)
     × Gathering (place (layout .clocks) state) (policyOf (layout .reading) file) marks (rulesFrom (layout .clocks) file at ahead) left found
 
 abbrev μ-loop : tie.MeasureT-loop
@@ -55,25 +55,24 @@ loop-holds c =
     let s = v .before .before .before .before in
     let k = s .pre .standing .laid in
     let a = s .args .state .location in (
-      own-ahead k a (s .pre .here .own),
+      (c .before .before .room .ensures .size, refl, own-ahead k a (s .pre .here .own)),
       gathering-start _ (policyOf (s .args .layout .reading) (now (s .args .file))) _ (laid-well k) _ (own-here k a (s .pre .here .own)) _
           (rw (← counted v .1 .0, ← counted v .0 .0) (c .before .before .room .ensures)),
     )
 
-go-by-requires : tie.Need-go-by-requires Inv-loop μ-loop
-go-by-requires c κs =
-    let v = c .before .before .before .before .before .before in
+gather-by-requires : tie.Need-gather-by-requires Inv-loop μ-loop
+gather-by-requires c κs =
+    let i = c .before .before in
+    let v = i .before .before .before .before .before .before in
     let s = v .before .before .before .before in
-    (s .pre, ahead-rule (s .pre .standing .laid) (c .before .loop .inv .0) (c .loop-test .taken), counted v .0 .1)
-
-gain-requires : tie.Need-gain-requires Inv-loop μ-loop
-gain-requires c κs = counted (c .before .before .before .before .before .before .before .before) .0 .1
+    let g = i .before .loop .inv .0 in
+    (s .pre, ahead-rule (s .pre .standing .laid) (g .2) (i .loop-test .taken), counted v .0 .1, g .0, g .1)
 
 add-at-2 : tie.Need-add-at-2 Inv-loop μ-loop
 add-at-2 c =
     let i = c .before .before .before in
     let s = i .before .before .before .before .before .before .before .before .before .before in
-    omega (arith, laid-short (s .pre .standing .laid), ahead-rest (s .pre .standing .laid) (i .before .loop .inv .0) (i .loop-test .taken) .ends)
+    omega (arith, laid-short (s .pre .standing .laid), ahead-rest (s .pre .standing .laid) (i .before .loop .inv .0 .2) (i .loop-test .taken) .ends)
 
 sub-ahead : tie.Need-sub-ahead Inv-loop μ-loop
 sub-ahead c = search needs
@@ -87,10 +86,10 @@ loop-again c =
     let v = i .before .before .before .before .before .before in
     let k = v .before .before .before .before .pre .standing .laid in
     let g = i .before .loop .inv in
-    let m = i .loop-test .taken in (
-      ahead-rest k (g .0) m,
-      gathering-more _ _ _ (rw (ahead-first k (g .0) m) at (g .1)) (went-as _ _ _ (counted v .0 .0) refl (c .before .before .go-by .ensures))
-          (changed-as (counted v .0 .0) (c .gain .ensures)),
+    let m = i .loop-test .taken in
+    let w = c .gather-by .ensures in (
+      (w .taken .size ∙ g .0 .0, w .gained .size ∙ g .0 .1, ahead-rest k (g .0 .2) m),
+      gathering-more _ _ _ (rw (ahead-first k (g .0 .2) m) at (g .1)) (gathers-as _ _ _ (counted v .0 .0) w),
     )
 
 returns : tie.Need-returns Inv-loop μ-loop
@@ -111,8 +110,7 @@ allowed-spec =
     room-requires
     add-at
     loop-holds
-    go-by-requires
-    gain-requires
+    gather-by-requires
     add-at-2
     sub-ahead
     loop-less

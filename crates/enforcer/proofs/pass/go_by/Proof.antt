@@ -4,15 +4,13 @@ use Rattle.enforcer.proofs.pass.go_by.Statement.{statement}
 use Rattle.enforcer.proofs.pass.go_by.Tie as tie
 
 way-by-requires : tie.Need-way-by-requires
-way-by-requires c κs = let s = c .before .before in (s .pre .0 .standing .laid, s .pre .0 .here, s .pre .0 .standing .inside, s .pre .1, s .pre .2)
+way-by-requires c κs = let s = c .before .before .before in (s .pre .0 .standing .laid, s .pre .0 .here, s .pre .0 .standing .inside, s .pre .1, s .pre .2, s .pre .3)
 
 is-marked-requires : tie.Need-is-marked-requires
-is-marked-requires c κs = λ q.
-    let w = c .before .before in
-    omega (arith, w .way-by .ensures .below q, w .before .before .before .pre .0 .standing .enough)
+is-marked-requires c κs = λ q. omega (arith, c .way-by .ensures .below q, c .before .before .before .before .pre .0 .standing .enough)
 
 returns : tie.Need-returns
-returns c = rw (c .is-marked .ensures) (c .before .before .before .way-by .ensures .went _)
+returns c = rw (c .is-marked .ensures) (c .before .way-by .ensures .went _)
 
 pub go-by-spec : {M : Type 1} → statement M
 go-by-spec = tie.close (tie.spec way-by-requires is-marked-requires returns)

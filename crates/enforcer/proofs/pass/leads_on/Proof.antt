@@ -2,7 +2,7 @@
 use mathlib.Core.Path.{_≡_, sym, _∙_}
 use Prim.Native.Nat.{_≤_}
 use native.Mathlib.Omega.{arith}
-use lib.ListN.{replicate}
+use lib.ListN.{length, replicate}
 use lib.Pow.{pow-pos}
 use borrow.Author.Needs.{needs}
 use denote.Ref.{now}
@@ -18,7 +18,7 @@ use Rattle.enforcer.proofs.pass.leads_on.Tie as tie
 
 abbrev Inv-loop : tie.InvT-loop
 Inv-loop file layout here marks state inputs outputs size left₀ at₀ ahead₀ left at ahead =
-    Ahead file layout (state .location) at ahead
+    ((length left ≡ 16) × Ahead file layout (state .location) at ahead)
     × Gathering (place (layout .clocks) state) (policyOf (layout .reading) file) marks (rulesFrom (layout .clocks) file at ahead) left (replicate 16 0)
 
 abbrev μ-loop : tie.MeasureT-loop
@@ -65,31 +65,32 @@ loop-holds c =
     let s = v .before .before .before .before .before .before in
     let k = s .pre .standing .laid in
     let a = s .args .state .location in (
-      own-ahead k a (s .pre .here .own),
+      (c .before .before .room .ensures .size, own-ahead k a (s .pre .here .own)),
       gathering-start _ (policyOf (s .args .layout .reading) (now (s .args .file))) _ (laid-well k) _ (own-here k a (s .pre .here .own)) _
           (rw (← counted v .1 .0, ← counted v .0 .0) (c .before .before .room .ensures)),
     )
 
 go-by-requires : tie.Need-go-by-requires Inv-loop μ-loop
 go-by-requires c κs =
-    let v = c .before .before .before .before .before .before in
+    let i = c .before in
+    let v = i .before .before .before .before .before .before in
     let s = v .before .before .before .before .before .before in
-    (s .pre, ahead-rule (s .pre .standing .laid) (c .before .loop .inv .0) (c .loop-test .taken), counted v .0 .1)
+    (s .pre, ahead-rule (s .pre .standing .laid) (i .before .loop .inv .0 .1) (i .loop-test .taken), counted v .0 .1, i .before .loop .inv .0 .0)
 
 returns-2 : tie.Need-returns-2 Inv-loop μ-loop
 returns-2 c =
-    let i = c .before .before in
+    let i = c .before .before .before in
     let v = i .before .before .before .before .before .before in
     let k = v .before .before .before .before .before .before .pre .standing .laid in
     let g = i .before .loop .inv in
-    sym (gathering-found _ _ _ (laid-well k) (rw (ahead-first k (g .0) (i .loop-test .taken)) at (g .1))
+    sym (gathering-found _ _ _ (laid-well k) (rw (ahead-first k (g .0 .1) (i .loop-test .taken)) at (g .1))
     (went-as _ _ _ (counted v .0 .0) (c .if2 .taken) (c .before .go-by .ensures)))
 
 add-at-2 : tie.Need-add-at-2 Inv-loop μ-loop
 add-at-2 c =
     let i = c .before .before .before in
     let s = i .before .before .before .before .before .before .before .before .before .before .before .before in
-    omega (arith, laid-short (s .pre .standing .laid), ahead-rest (s .pre .standing .laid) (i .before .loop .inv .0) (i .loop-test .taken) .ends)
+    omega (arith, laid-short (s .pre .standing .laid), ahead-rest (s .pre .standing .laid) (i .before .loop .inv .0 .1) (i .loop-test .taken) .ends)
 
 sub-ahead : tie.Need-sub-ahead Inv-loop μ-loop
 sub-ahead c = search needs
@@ -104,8 +105,8 @@ loop-again c =
     let k = v .before .before .before .before .before .before .pre .standing .laid in
     let g = i .before .loop .inv in
     let m = i .loop-test .taken in (
-      ahead-rest k (g .0) m,
-      gathering-on _ _ _ (rw (ahead-first k (g .0) m) at (g .1)) (went-as _ _ _ (counted v .0 .0) (c .before .if2 .left) (c .before .before .go-by .ensures)),
+      (c .before .go-by .ensures .changed .size ∙ g .0 .0, ahead-rest k (g .0 .1) m),
+      gathering-on _ _ _ (rw (ahead-first k (g .0 .1) m) at (g .1)) (went-as _ _ _ (counted v .0 .0) (c .if2 .left) (c .before .go-by .ensures)),
     )
 
 returns-3 : tie.Need-returns-3 Inv-loop μ-loop

@@ -1,62 +1,78 @@
--- `enforcer::sets::gain` meets its contract. The loop's invariant: the sets of the inputs passed have what was taken.
+-- `enforcer::sets::gain` meets its contract. The loop's invariant: the sets of the inputs passed have what agrees.
 use mathlib.Core.Path.{_≡_, refl}
-use Prim.Native.Nat.{_-_, _≤_}
+use Prim.Native.Nat.{ℕ, _-_, _<_}
+use mathlib.Core.Bool.{false}
+use mathlib.Core.List.{List}
 use native.Mathlib.Omega.{arith}
-use lib.ListN.{length, getD}
-use lib.Bits.{bitOr, bitXor}
+use lib.Bits.{bitAnd, bitOr, or-zero-r}
+use lib.Dec.{eqb}
+use lib.ListN.{getD}
 use borrow.Author.Needs.{needs}
-use borrow.Author.Tests.{not-true, not-false}
-use Rattle.enforcer.specs.Changed.{Changed, changed-none, changed-more, changed-as, changed-not, changed-so}
+use borrow.Author.Tests.{eq-eqb}
+use denote.Ref.{now}
+use Rattle.enforcer.specs.Ways.{agreed}
+use Rattle.enforcer.specs.After.{Walked, after-up, walked-start, walked-more, walked-done, walked-now}
 use Rattle.enforcer.proofs.sets.gain.Statement.{statement}
 use Rattle.enforcer.proofs.sets.gain.Tie as tie
 
+-- What is found with z.
+abbrev more : ℕ → ℕ → ℕ → List ℕ → List ℕ → ℕ → ℕ
+more care value set left found z = bitOr (getD found z 0) (agreed care value set z (getD left z 0))
+
 abbrev Inv-loop : tie.InvT-loop
-Inv-loop inputs leads found before after more₀ x₀ more x = ((x ≤ inputs) × (length more ≡ 16)) × Changed (λ z. bitOr (getD found z 0) (bitXor (getD before z 0) (getD after z 0))) x found more
+Inv-loop found₀ left inputs care value set x₀ found x = Walked care value (more care value set left found₀) inputs found₀ x found
 
 abbrev μ-loop : tie.MeasureT-loop
-μ-loop inputs leads found before after more₀ x₀ more x = inputs - x
+μ-loop found₀ left inputs care value set x₀ found x = inputs - x
 
-returns : tie.Need-returns Inv-loop μ-loop
-returns c = changed-not (c .before .args .leads) _ _ _ (not-true _ (c .if1 .taken))
+still : (care value set : ℕ) (left found : List ℕ) (z : ℕ) → eqb (bitAnd z care) value ≡ false → more care value set left found z ≡ getD found z 0
+still care value set left found z e = rw (e, or-zero-r)
 
 loop-holds : tie.Need-loop-holds Inv-loop μ-loop
-loop-holds c = (search needs, changed-none _ _)
+loop-holds c = walked-start _ _ _ _ _ (still (c .args .care) (c .args .value) (c .args .set) (now (c .args .left)) (now (c .args .found))) (c .pre .2)
 
-mul-more : tie.Need-mul-more Inv-loop μ-loop
-mul-more c = search needs
+mul-found : tie.Need-mul-found Inv-loop μ-loop
+mul-found c = search needs
 
-array-read-more : tie.Need-array-read-more Inv-loop μ-loop
-array-read-more c = search needs
+element-copy-out-found : tie.Need-element-copy-out-found Inv-loop μ-loop
+element-copy-out-found c = omega arith
 
-mul-more-2 : tie.Need-mul-more-2 Inv-loop μ-loop
-mul-more-2 c = search needs
+mul-found-2 : tie.Need-mul-found-2 Inv-loop μ-loop
+mul-found-2 c = search needs
 
-array-read-more-2 : tie.Need-array-read-more-2 Inv-loop μ-loop
-array-read-more-2 c = search needs
+element-copy-out-found-2 : tie.Need-element-copy-out-found-2 Inv-loop μ-loop
+element-copy-out-found-2 c = omega arith
 
-mul-more-3 : tie.Need-mul-more-3 Inv-loop μ-loop
-mul-more-3 c = search needs
+mul-found-3 : tie.Need-mul-found-3 Inv-loop μ-loop
+mul-found-3 c = search needs
 
-array-read-more-3 : tie.Need-array-read-more-3 Inv-loop μ-loop
-array-read-more-3 c = search needs
+element-write-found : tie.Need-element-write-found Inv-loop μ-loop
+element-write-found c = omega arith
 
-mul-more-4 : tie.Need-mul-more-4 Inv-loop μ-loop
-mul-more-4 c = search needs
-
-array-write-more : tie.Need-array-write-more Inv-loop μ-loop
-array-write-more c = search needs
-
-add-x : tie.Need-add-x Inv-loop μ-loop
-add-x c = search needs
+after-requires : tie.Need-after-requires Inv-loop μ-loop
+after-requires c κs = let s = c .before .before .before .before in (s .pre .1, omega arith)
 
 loop-less : tie.Need-loop-less Inv-loop μ-loop
-loop-less c = search needs
+loop-less c =
+    let l = c .before .before .before .before in
+    let u : l .loop .x < 16 = omega arith in
+    omega (arith, c .after .ensures, after-up _ _ (l .before .pre .1) u (l .loop .inv .here))
 
 loop-again : tie.Need-loop-again Inv-loop μ-loop
-loop-again c = (search needs, changed-more (omega arith) refl (c .before .loop .inv .1))
+loop-again c =
+    let l = c .before .before .before .before in
+    let a = l .before .args in
+    let u : l .loop .x < 16 = omega arith in
+    let w = l .loop .inv in
+    rw (c .after .ensures)
+    (walked-more _ _ _ _ _ (still (a .care) (a .value) (a .set) (now (a .left)) (now (a .found))) (l .before .pre .1) (l .before .pre .0) (c .before .before .before .loop-test .taken)
+    (omega (arith, w .changed .size, l .before .pre .3)) (rw (walked-now _ _ _ _ _ w, eq-eqb _ _ (w .here)) refl) w)
 
-returns-2 : tie.Need-returns-2 Inv-loop μ-loop
-returns-2 c = changed-so (c .before .before .before .args .leads) (not-false _ (c .before .before .if1 .left)) (changed-as (omega arith) (c .before .loop .inv .1))
+returns : tie.Need-returns Inv-loop μ-loop
+returns c =
+    let l = c .before in
+    let a = l .before .args in
+    walked-done _ _ _ _ _ (still (a .care) (a .value) (a .set) (now (a .left)) (now (a .found))) {x = l .loop .x} (omega arith) (l .loop .inv)
 
 pub gain-spec : {M : Type 1} → statement M
 gain-spec =
@@ -64,17 +80,14 @@ gain-spec =
     (tie.spec
     Inv-loop
     μ-loop
-    returns
     loop-holds
-    mul-more
-    array-read-more
-    mul-more-2
-    array-read-more-2
-    mul-more-3
-    array-read-more-3
-    mul-more-4
-    array-write-more
-    add-x
+    mul-found
+    element-copy-out-found
+    mul-found-2
+    element-copy-out-found-2
+    mul-found-3
+    element-write-found
+    after-requires
     loop-less
     loop-again
-    returns-2)
+    returns)
