@@ -1,4 +1,3 @@
-pub mod ChooseLaws
 pub mod Laws
 pub mod RuleLaws
 pub mod RunLaws

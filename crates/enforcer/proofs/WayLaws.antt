@@ -22,9 +22,9 @@ use Rattle.enforcer.specs.Laid.{Numbered, laid-limits, laid-ceilings, la
 use Rattle.enforcer.specs.declared.state.State.{State}
 use Rattle.enforcer.specs.declared.reach.Here.{Here}
 use Rattle.enforcer.proofs.Laws.{advance-four}
-use Rattle.enforcer.specs.Sets.{cond-same}
+use Rattle.choice.specs.Sets.{cond-same}
 use Rattle.enforcer.specs.Ways.{holds, takes, leads}
-use Rattle.enforcer.specs.Outs.{outs}
+use Rattle.choice.specs.Outs.{outs}
 use Rattle.enforcer.specs.Pass.{RuleAt}
 
 -- A violation leads nowhere.

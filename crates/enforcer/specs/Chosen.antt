@@ -1,4 +1,4 @@
--- What the chooser's and the tick's own types stand for, and what a chosen output does.
+-- What the tick's own type stands for, and what a chosen output does.
 use mathlib.Core.Path.{_≡_, refl, sym, ap, _∙_}
 use mathlib.Core.Bool.{true, false, false≢true}
 use mathlib.Core.List.{List}
@@ -9,13 +9,7 @@ use Rattle.policy.specs.Rules.{Policy, Place, stopped, step}
 use Rattle.enforcer.specs.Tick as Spec
 use Rattle.enforcer.specs.Code.{stateFrom, eventXY}
 use Rattle.enforcer.specs.declared.state.State.{State}
-use Rattle.enforcer.specs.declared.choose.Choice.{Choice}
-use Rattle.enforcer.specs.declared.choose.Choice.the-variants as Choice
 use Rattle.enforcer.specs.declared.tick.Ticked.{Ticked}
-
-abbrev pub choiceSaid : Choice → Option ℕ
-choiceSaid (Choice.Value z) = some z
-choiceSaid Choice.Nothing = none
 
 abbrev pub tickFrom : State → Option Spec.Tick → Ticked
 tickFrom s none = record { released = false; x = 0; y = 0; state = s }

@@ -10,11 +10,6 @@ pub mod Refusals
 pub mod Chosen
 pub mod Arrived
 pub mod Promises
-pub mod Sets
-pub mod Table
-pub mod Outs
 pub mod Ways
-pub mod Changed
-pub mod After
 pub mod Pass
 pub mod Choice

@@ -23,10 +23,10 @@ use Rattle.enforcer.specs.State.{isMarked}
 use Rattle.enforcer.specs.Tick.{mayStand}
 use Rattle.enforcer.specs.Ready.{Laid}
 use Rattle.enforcer.specs.Laid.{laid-well, laid-clocks, own-fits, own-rules}
-use Rattle.enforcer.specs.Sets.{cond-same, has, has-or, has-some, has-not-empty, xor-twice, allBelow}
-use Rattle.enforcer.specs.Outs.{outs}
-use Rattle.enforcer.specs.Ways.{agreed, room, holds, takes, leads, gathered, allowed, row, gathered-keeps, gathered-own, allowed-any}
-use Rattle.enforcer.specs.Changed.{Changed, changed-by, changed-not}
+use Rattle.choice.specs.Sets.{agreed, cond-same, has, has-or, has-some, has-not-empty, xor-twice, allBelow}
+use Rattle.choice.specs.Outs.{outs}
+use Rattle.enforcer.specs.Ways.{room, holds, takes, leads, gathered, allowed, row, gathered-keeps, gathered-own, allowed-any}
+use Rattle.choice.specs.Changed.{Changed, changed-by, changed-not}
 
 -- No number below n passes if none does.
 none-any : (n : ℕ) → any (λ x. ltb 0 0) n ≡ false

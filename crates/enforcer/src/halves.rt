@@ -1,10 +1,10 @@
 // The input half, and the output half by value.
-use crate::choose::Choice;
 use crate::choose::choose_input;
 use crate::reach::here_of;
 use crate::reach::values;
 use crate::state::State;
 use crate::tick::output_tick;
+use choice::Choice;
 use policy::Checked;
 use policy::Layout;
 ghost use mathlib.Core.Path.{_≡_};

@@ -7,9 +7,7 @@ mod next;
 mod pass;
 mod reach;
 mod runs;
-mod sets;
 mod state;
-mod table;
 mod tick;
 
 pub use halves::Answer;
@@ -27,6 +25,5 @@ pub use reach::own_of;
 pub use reach::values;
 pub use runs::Ran;
 pub use runs::run;
-pub use sets::room;
 pub use state::Limits;
 pub use state::State;

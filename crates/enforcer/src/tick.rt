@@ -1,5 +1,4 @@
 // One tick: the input first, without a look at y; then the output; then the state moves. An event that as read takes the state to a marked one is what both halves keep, so it is asked about before either.
-use crate::choose::Choice;
 use crate::choose::choose_input;
 use crate::choose::choose_output;
 use crate::reach::Here;
@@ -7,6 +6,7 @@ use crate::reach::arrival;
 use crate::reach::here_of;
 use crate::reach::step_of;
 use crate::state::State;
+use choice::Choice;
 use policy::Layout;
 ghost use mathlib.Core.Path.{_≡_};
 ghost use mathlib.Core.Bool.{true};

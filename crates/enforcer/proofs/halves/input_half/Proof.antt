@@ -15,7 +15,7 @@ use Rattle.enforcer.specs.Tick.{inputChoice}
 use Rattle.enforcer.specs.Entries.{chosen, xGood, marksRefusal, stateRefusal, inputRefusal, inputOf}
 use Rattle.enforcer.specs.Code.{asPlace, place}
 use Rattle.enforcer.specs.Ready.{Laid, Standing}
-use Rattle.enforcer.specs.Chosen.{choiceSaid}
+use Rattle.choice.specs.Said.{choiceSaid}
 use Rattle.enforcer.specs.Laid.{laid-limits, laid-inputs, laid-place}
 use Rattle.enforcer.specs.States.{chosen-first, Granted, marks-by, granted-laid, granted-standing}
 use Rattle.enforcer.proofs.halves.input_half.Statement.{statement}

@@ -3,7 +3,8 @@ use mathlib.Core.Path.{sym, ap, _∙_}
 use mathlib.Core.Option.{bind}
 use borrow.Author.Needs.{needs}
 use Rattle.enforcer.specs.Tick.{outputTick}
-use Rattle.enforcer.specs.Chosen.{choiceSaid, output-chosen}
+use Rattle.choice.specs.Said.{choiceSaid}
+use Rattle.enforcer.specs.Chosen.{output-chosen}
 use Rattle.enforcer.specs.Arrived.{output-as-read}
 use Rattle.enforcer.proofs.tick.output_tick.Statement.{statement}
 use Rattle.enforcer.proofs.tick.output_tick.Tie as tie

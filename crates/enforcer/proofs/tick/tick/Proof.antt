@@ -3,7 +3,7 @@ use mathlib.Core.Path.{sym, ap, _∙_}
 use mathlib.Core.Option.{bind}
 use borrow.Author.Needs.{needs}
 use Rattle.enforcer.specs.Tick.{tick}
-use Rattle.enforcer.specs.Chosen.{choiceSaid}
+use Rattle.choice.specs.Said.{choiceSaid}
 use Rattle.enforcer.specs.Arrived.{tick-as-read}
 use Rattle.enforcer.proofs.tick.tick.Statement.{statement}
 use Rattle.enforcer.proofs.tick.tick.Tie as tie

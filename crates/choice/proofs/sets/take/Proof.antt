@@ -1,0 +1,93 @@
+-- `choice::sets::take` meets its contract. The loop's invariant: the sets of the inputs passed have lost what agrees.
+use mathlib.Core.Path.{_≡_, refl}
+use Prim.Native.Nat.{ℕ, _-_, _<_}
+use mathlib.Core.Bool.{false}
+use mathlib.Core.List.{List}
+use native.Mathlib.Omega.{arith}
+use lib.Bits.{bitAnd, bitXor, xor-zero-r}
+use lib.Dec.{eqb}
+use lib.ListN.{getD}
+use borrow.Author.Needs.{needs}
+use borrow.Author.Tests.{eq-eqb}
+use denote.Ref.{now}
+use Rattle.choice.specs.Sets.{agreed}
+use Rattle.choice.specs.After.{Walked, after-up, walked-start, walked-more, walked-done, walked-now}
+use Rattle.choice.proofs.sets.take.Statement.{statement}
+use Rattle.choice.proofs.sets.take.Tie as tie
+
+-- What is left with z.
+abbrev rest : ℕ → ℕ → ℕ → List ℕ → ℕ → ℕ
+rest care value set left z = bitXor (getD left z 0) (agreed care value set z (getD left z 0))
+
+abbrev Inv-loop : tie.InvT-loop
+Inv-loop left₀ inputs care value set x₀ left x = Walked care value (rest care value set left₀) inputs left₀ x left
+
+abbrev μ-loop : tie.MeasureT-loop
+μ-loop left₀ inputs care value set x₀ left x = inputs - x
+
+still : (care value set : ℕ) (left : List ℕ) (z : ℕ) → eqb (bitAnd z care) value ≡ false → rest care value set left z ≡ getD left z 0
+still care value set left z e = rw (e, xor-zero-r)
+
+loop-holds : tie.Need-loop-holds Inv-loop μ-loop
+loop-holds c = walked-start _ _ _ _ _ (still (c .args .care) (c .args .value) (c .args .set) (now (c .args .left))) (c .pre .2)
+
+mul-left : tie.Need-mul-left Inv-loop μ-loop
+mul-left c = search needs
+
+element-copy-out-left : tie.Need-element-copy-out-left Inv-loop μ-loop
+element-copy-out-left c = omega arith
+
+mul-left-2 : tie.Need-mul-left-2 Inv-loop μ-loop
+mul-left-2 c = search needs
+
+element-copy-out-left-2 : tie.Need-element-copy-out-left-2 Inv-loop μ-loop
+element-copy-out-left-2 c = omega arith
+
+mul-left-3 : tie.Need-mul-left-3 Inv-loop μ-loop
+mul-left-3 c = search needs
+
+element-write-left : tie.Need-element-write-left Inv-loop μ-loop
+element-write-left c = omega arith
+
+after-requires : tie.Need-after-requires Inv-loop μ-loop
+after-requires c κs = let s = c .before .before .before .before in (s .pre .1, omega arith)
+
+loop-less : tie.Need-loop-less Inv-loop μ-loop
+loop-less c =
+    let l = c .before .before .before .before in
+    let u : l .loop .x < 16 = omega arith in
+    omega (arith, c .after .ensures, after-up _ _ (l .before .pre .1) u (l .loop .inv .here))
+
+loop-again : tie.Need-loop-again Inv-loop μ-loop
+loop-again c =
+    let l = c .before .before .before .before in
+    let a = l .before .args in
+    let u : l .loop .x < 16 = omega arith in
+    let w = l .loop .inv in
+    rw (c .after .ensures)
+    (walked-more _ _ _ _ _ (still (a .care) (a .value) (a .set) (now (a .left))) (l .before .pre .1) (l .before .pre .0) (c .before .before .before .loop-test .taken)
+    (omega (arith, w .changed .size, l .before .pre .3)) (rw (walked-now _ _ _ _ _ w, eq-eqb _ _ (w .here)) refl) w)
+
+returns : tie.Need-returns Inv-loop μ-loop
+returns c =
+    let l = c .before in
+    let a = l .before .args in
+    walked-done _ _ _ _ _ (still (a .care) (a .value) (a .set) (now (a .left))) {x = l .loop .x} (omega arith) (l .loop .inv)
+
+pub take-spec : {M : Type 1} → statement M
+take-spec =
+    tie.close
+    (tie.spec
+    Inv-loop
+    μ-loop
+    loop-holds
+    mul-left
+    element-copy-out-left
+    mul-left-2
+    element-copy-out-left-2
+    mul-left-3
+    element-write-left
+    after-requires
+    loop-less
+    loop-again
+    returns)

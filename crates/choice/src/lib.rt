@@ -1,0 +1,14 @@
+// Sets of values below sixteen, a bit a value, and the value of a set that is nearest to a wanted one. What they are stands in specs/.
+mod chooser;
+mod sets;
+mod table;
+
+pub use chooser::Choice;
+pub use chooser::nearest;
+pub use chooser::standing;
+pub use sets::all_below;
+pub use sets::gain;
+pub use sets::is_left;
+pub use sets::outs;
+pub use sets::room;
+pub use sets::take;
