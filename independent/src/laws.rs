@@ -1,8 +1,9 @@
 //! Laws that joins and runs keep, tried on random policies with the same
 //! signals: the order and the grouping of a join do not matter, nor does
 //! joining a policy with itself or with the one that permits everything; and
-//! a released stream is permitted by every part and comes back unchanged. All of
-//! a case is read in the same way; the bytes of a join carry no reading.
+//! a released stream is permitted by every part and comes back unchanged, and
+//! passes every part's enforcer without an edit. All of a case is read in the
+//! same way; the bytes of a join carry no reading.
 
 use crate::call::hex;
 use crate::engine::{found_in, refusal_in, Engine};
@@ -15,7 +16,7 @@ use crate::random::Random;
 use crate::reading::{Reading, READINGS};
 use crate::refusal::Refusal;
 
-/// Three policies with the same signals, a reading for all of them and their
+/// Four policies with the same signals, a reading for all of them and their
 /// joins, and a stream.
 pub struct LawCase {
     reading: Reading,
@@ -79,7 +80,7 @@ pub fn case(seed: u64, number: u64) -> LawCase {
     // Apart from the groups of calls, which use the seed itself.
     let mut random = Random::for_group(!seed, number);
     let reading = random.pick(&READINGS);
-    let parts = policies::sisters(&mut random, reading, Family::Small, 3);
+    let parts = policies::sisters(&mut random, reading, Family::Small, 4);
     let length = random.between(0, 40);
     let mask = parts[0].event_mask();
     LawCase {
@@ -147,8 +148,7 @@ impl Examination<'_> {
 
     fn all(&mut self) -> Result<(), String> {
         let case = self.case;
-        let [a, b, c] = [&case.files[0], &case.files[1], &case.files[2]];
-        let (a, b, c) = (Some(a.clone()), Some(b.clone()), Some(c.clone()));
+        let [a, b, c, d] = [0, 1, 2, 3].map(|part| Some(case.files[part].clone()));
         let ab = self.join(&a, &b)?;
         let ba = self.join(&b, &a)?;
         if ab.is_some() != ba.is_some() {
@@ -171,7 +171,37 @@ impl Examination<'_> {
         self.same("unit before", &unit_a, &a)?;
 
         self.released(&ab, &[0, 1])?;
-        self.released(&left, &[0, 1, 2])
+        self.released(&left, &[0, 1, 2])?;
+
+        let whole = self.join(&left, &d)?;
+        self.kept(&ab, &[&a, &b])?;
+        self.kept(&left, &[&a, &b, &ab, &c])?;
+        self.kept(&whole, &[&a, &b, &ab, &c, &left, &d])
+    }
+
+    /// Where the join is not hopeless, nothing that went into it is, and each
+    /// of its parts passes what it releases without an edit.
+    fn kept(&mut self, join: &Option<Vec<u8>>, parts: &[&Option<Vec<u8>>]) -> Result<(), String> {
+        let Some(file) = join else {
+            return Ok(());
+        };
+        let Behaviour::Released { stream, .. } = self.behaviour(file)? else {
+            return Ok(());
+        };
+        for part in parts {
+            let Some(part) = part else {
+                return Err("annex: a join is made without one of its parts".to_string());
+            };
+            let Some(marks) = self.marks(part)? else {
+                return Err(format!("annex: {} alone is hopeless", hex(part)));
+            };
+            match self.run(part, &marks, &stream)? {
+                Behaviour::Released { stream: passed, .. } if passed == stream => (),
+                other => return Err(format!("annex: {} edits: {other:?}", hex(part))),
+            }
+        }
+        self.count("annex", false);
+        Ok(())
     }
 
     /// Nothing if a part is missing or the join is refused by 13.
@@ -323,7 +353,7 @@ mod tests {
                 panic!("{breach}\n{}", case.describe());
             }
         }
-        assert_eq!(tally.laws.len(), 8, "{:?}", tally.laws);
+        assert_eq!(tally.laws.len(), 9, "{:?}", tally.laws);
         for count in &tally.laws {
             for tried in count.tried {
                 assert!(tried.resting > 50 && tried.leaving > 100, "{count:?}");

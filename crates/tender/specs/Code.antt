@@ -105,7 +105,7 @@ abbrev codeSummary : Summary → Given
 codeSummary s = record { verdict = s .verdict; states = s .states; live = s .live }
 
 -- What the word of prepare holds is what prepare answers.
-prepare-read : {reading : ℕ} {file before marks : List ℕ} {v : ℕ} → PrepareCall reading file before v marks → v % 256 ≡ 0 →
+pub prepare-read : {reading : ℕ} {file before marks : List ℕ} {v : ℕ} → PrepareCall reading file before v marks → v % 256 ≡ 0 →
     (s : Summary) × (prepareOf reading file before ≡ gives s)
 prepare-read {reading} {file} {before} {v = v} h z =
     let s : Summary = record { verdict = v / 256 % 256; states = v / 65536 % 16777216; live = v / 1099511627776 } in

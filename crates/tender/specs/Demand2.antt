@@ -86,6 +86,14 @@ pub record Released (p : Policy) (events before : List ℕ) (r : RunAnswer) : Ty
   pub leads : Leads p released place
   pub state : r .state ≡ stateOf place
 
+-- The slice begins with the released events.
+module _ {p : Policy} {events before : List ℕ} {r : RunAnswer} (h : Released p events before r) where
+  pub released-length : length (map byteOf (h .released)) ≡ length events
+  released-length = length-map (h .released) byteOf ∙ as-many p events (h .enforced)
+
+  pub released-bytes : take (length events) (r .out) ≡ map byteOf (h .released)
+  released-bytes = ap (take (length events)) (h .out) ∙ take-at (map byteOf (h .released)) _ _ released-length
+
 -- A run takes a reading, a file, marks, a state, events, and a slice for the released ones.
 abbrev pub Run : Type 0
 Run = (reading : ℕ) (file marks : List ℕ) → Place → (events out : List ℕ) → RunAnswer
@@ -159,9 +167,8 @@ module _ (reading : ℕ) (file marks : List ℕ) (s : Summary) (e : prepareOf re
       let ok = well-formed reading file (given-passed reading file marks s e) in
       let r = releases reading file marks s e events out good long in
       let bytes = map byteOf (r .released) in
-      let n : length bytes ≡ length events = length-map (r .released) byteOf ∙ as-many p events (r .enforced) in
-      let t : take (length events) (fromStart reading file marks events out .out) ≡ bytes = ap (take (length events)) (r .out) ∙ take-at bytes _ _ n in
-      rw t
+      let n = released-length r in
+      rw (released-bytes r)
       (released-one (releases reading file marks s e bytes again (fits-good reading file ok (r .leads .fits)) (rw n room))
       (record {
         released = r .released;

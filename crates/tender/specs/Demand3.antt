@@ -62,15 +62,15 @@ module _ {a b f : List ℕ} (j : Joined a b f) where
   joined-reads reading = ap (policyOf reading) joined-is ∙ joined-policy a b (j .slice) (only .0) reading
 
 -- What is known of a join that was made.
-record Made (a b f : List ℕ) : Type 0 where
-  first : refusalOf a ≡ 0
-  second : refusalOf b ≡ 0
-  passed : refusalOf f ≡ 0
-  tags-first : tags f ≡ tags a
-  tags-second : tags f ≡ tags b
-  permits : (reading : ℕ) → Permits (policyOf reading f) ≋ Permits (policyOf reading a) ∩ Permits (policyOf reading b)
+pub record Made (a b f : List ℕ) : Type 0 where
+  pub first : refusalOf a ≡ 0
+  pub second : refusalOf b ≡ 0
+  pub passed : refusalOf f ≡ 0
+  pub tags-first : tags f ≡ tags a
+  pub tags-second : tags f ≡ tags b
+  pub permits : (reading : ℕ) → Permits (policyOf reading f) ≋ Permits (policyOf reading a) ∩ Permits (policyOf reading b)
 
-made : {a b f : List ℕ} → Joined a b f → Made a b f
+pub made : {a b f : List ℕ} → Joined a b f → Made a b f
 unfolding joinedFile join policyOf
 made {a} {b} {f} j =
     let e = only j .0 in
@@ -98,10 +98,10 @@ module _ (reading : ℕ) where
   permits-exactly j = made j .permits reading
 
   -- To each part, and from both.
-  to-first : {a b f : List ℕ} → Joined a b f → Permits (policyOf reading f) ⊆ Permits (policyOf reading a)
+  pub to-first : {a b f : List ℕ} → Joined a b f → Permits (policyOf reading f) ⊆ Permits (policyOf reading a)
   to-first j = ⊆-trans (permits-exactly j .0) (∩-first _ _)
 
-  to-second : {a b f : List ℕ} → Joined a b f → Permits (policyOf reading f) ⊆ Permits (policyOf reading b)
+  pub to-second : {a b f : List ℕ} → Joined a b f → Permits (policyOf reading f) ⊆ Permits (policyOf reading b)
   to-second j = ⊆-trans (permits-exactly j .0) (∩-second _ _)
 
   into : {a b f : List ℕ} {L : Language} → Joined a b f →

@@ -14,3 +14,5 @@ pub mod Apart
 pub mod Made
 pub mod Unchanged
 pub mod Rests
+pub mod Annex
+pub mod InARow

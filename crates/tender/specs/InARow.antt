@@ -1,0 +1,165 @@
+-- What the annex does not say: "not by two enforcers in a row". Two policies, each with its own enforcer, the second fed with what the first released, may
+-- release something else than their join does, or a stream that is not permitted. Two such pairs, byte by byte, and what is said to them, by computation
+-- and under reading 1. The page for a lawyer is docs/ANNEX.md.
+use mathlib.Core.Path.{_≡_, refl, sym, ap, subst, _∙_}
+use mathlib.Core.List.{List, [], _∷_, map}
+use mathlib.Core.Option.{bind, Option·none-ne-some}
+use Prim.Native.Nat.{ℕ}
+use native.Mathlib.Omega.{arith}
+use lib.Count.{ones, onesIn}
+use lib.ListN.{getD, replicate}
+use Rattle.streams.specs.Choose.{any, nearest, better}
+use Rattle.streams.specs.Corrections.{distance, nearer, spares}
+use Rattle.policy.specs.Rules.{step, steps, decides, fires, hold, within, tested, taken, advance, fits-none, fits-more, Runs, Permits}
+use Rattle.policy.specs.Rules as Rules
+use Rattle.policy.specs.Number.{statesOf, numberFrom, locationFrom, clocksFrom}
+use Rattle.policy.specs.File.{policyOf, outputsAt, clocksAt, locationsAt, rulesAt, rulesStart, rulesEnd, pairsFrom, rulesFrom, ruleFrom, boundsFrom}
+use Rattle.policy.specs.Check.{readingRefusal, refusalUnder, refusalOf, inputsRefusal, outputsRefusal, clocksRefusal, locationsRefusal, rulesSectionRefusal, sectionRefusal, tagsGood, among, all, rulesRefusal, ruleRefusal, headGood, maskGood, boundsGood, boundGood}
+use Rattle.policy.specs.Bytes.{bytesOf, countsBytes, pairsBytes, rulesBytes, ruleBytes, boundsBytes}
+use Rattle.enforcer.specs.State.{stateGood, clocksGood}
+use Rattle.enforcer.specs.Tick.{ran, tick, outputTick, moved, outputChoice, inputChoice, mayStand, reaches}
+use Rattle.enforcer.specs.Entries.{eventOf, runOf, runRefusal, marksRefusal, stateRefusal}
+use Rattle.resting.specs.Table.{roundsBy, roundBy, tab}
+use Rattle.resting.specs.Keeps.{keeps, leadsTo, stays, someEvent}
+use Rattle.prepare.specs.Entry.{prepareOf, preparedMarks}
+use Rattle.join.specs.Join.{of, agree, target, both, pair, each, cell, rows, leftAt, leftBelow, join}
+use Rattle.join.specs.Masks.{alike}
+use Rattle.join.specs.Entry.{sameTags, sameSignals, joinFits, joinedFile, joinRefusal, joinOf, joinedOut}
+use Rattle.tender.specs.Cases.{Case, prepared, enforced, summary, released, said, run}
+use Rattle.tender.specs.Demand3.{Joined}
+
+-- The outputs are the pump P, in bit 0, and the valve V, in bit 1: event 10 is the pump alone, 20 the valve alone, 30 both. "The pump runs only with the
+-- valve open", "The pump stays off", "The valve stays shut".
+abbrev pub pumpWithValve : List ℕ
+pumpWithValve =
+    0x00 ∷ 0x02 ∷ 0x50 ∷ 0x56 ∷ 0x00 ∷ 0x01 ∷ 0x00 ∷ 0x00 ∷ 0x02
+    ∷ 0x00 ∷ 0x00 ∷ 0x00 ∷ 0x03 ∷ 0x01 ∷ 0x00 ∷ 0xFF
+    ∷ 0x00 ∷ 0x00 ∷ 0x00 ∷ 0x00 ∷ 0x00 ∷ 0x00 ∷ 0x00 ∷ []
+
+abbrev pub pumpOff : List ℕ
+pumpOff =
+    0x00 ∷ 0x02 ∷ 0x50 ∷ 0x56 ∷ 0x00 ∷ 0x01 ∷ 0x00 ∷ 0x00 ∷ 0x02
+    ∷ 0x00 ∷ 0x00 ∷ 0x00 ∷ 0x01 ∷ 0x01 ∷ 0x00 ∷ 0xFF
+    ∷ 0x00 ∷ 0x00 ∷ 0x00 ∷ 0x00 ∷ 0x00 ∷ 0x00 ∷ 0x00 ∷ []
+
+abbrev pub valveShut : List ℕ
+valveShut =
+    0x00 ∷ 0x02 ∷ 0x50 ∷ 0x56 ∷ 0x00 ∷ 0x01 ∷ 0x00 ∷ 0x00 ∷ 0x02
+    ∷ 0x00 ∷ 0x00 ∷ 0x00 ∷ 0x02 ∷ 0x02 ∷ 0x00 ∷ 0xFF
+    ∷ 0x00 ∷ 0x00 ∷ 0x00 ∷ 0x00 ∷ 0x00 ∷ 0x00 ∷ 0x00 ∷ []
+
+-- Each with the first clause, joined.
+abbrev pub withPumpOff : List ℕ
+withPumpOff =
+    0x00 ∷ 0x02 ∷ 0x50 ∷ 0x56 ∷ 0x00 ∷ 0x01 ∷ 0x00 ∷ 0x00 ∷ 0x04
+    ∷ 0x00 ∷ 0x00 ∷ 0x00 ∷ 0x03 ∷ 0x01 ∷ 0x00 ∷ 0xFF
+    ∷ 0x00 ∷ 0x00 ∷ 0x00 ∷ 0x03 ∷ 0x01 ∷ 0x00 ∷ 0xFF
+    ∷ 0x00 ∷ 0x00 ∷ 0x00 ∷ 0x01 ∷ 0x01 ∷ 0x00 ∷ 0xFF
+    ∷ 0x00 ∷ 0x00 ∷ 0x00 ∷ 0x00 ∷ 0x00 ∷ 0x00 ∷ 0x00 ∷ []
+
+abbrev pub withValveShut : List ℕ
+withValveShut =
+    0x00 ∷ 0x02 ∷ 0x50 ∷ 0x56 ∷ 0x00 ∷ 0x01 ∷ 0x00 ∷ 0x00 ∷ 0x03
+    ∷ 0x00 ∷ 0x00 ∷ 0x00 ∷ 0x03 ∷ 0x01 ∷ 0x00 ∷ 0xFF
+    ∷ 0x00 ∷ 0x00 ∷ 0x00 ∷ 0x02 ∷ 0x02 ∷ 0x00 ∷ 0xFF
+    ∷ 0x00 ∷ 0x00 ∷ 0x00 ∷ 0x00 ∷ 0x00 ∷ 0x00 ∷ 0x00 ∷ []
+
+pub both-made : Joined pumpWithValve pumpOff withPumpOff × Joined pumpWithValve valveShut withValveShut
+unfolding
+    joinOf joinedOut joinRefusal joinedFile sameSignals sameTags joinFits join rows cell each pair both agree target of alike leftAt leftBelow
+    Rules.rests bytesOf countsBytes pairsBytes rulesBytes ruleBytes boundsBytes refusalOf inputsRefusal outputsRefusal clocksRefusal locationsRefusal
+    rulesSectionRefusal sectionRefusal tagsGood among all rulesRefusal ruleRefusal headGood maskGood boundsGood boundGood policyOf outputsAt clocksAt
+    locationsAt rulesAt rulesStart rulesEnd pairsFrom rulesFrom ruleFrom boundsFrom statesOf
+both-made = (
+  record { slice = replicate 37 0; size = 37; given = refl; written = refl },
+  record { slice = replicate 30 0; size = 30; given = refl; written = refl },
+)
+
+-- Neither is hopeless; and the first as an example of the annex: what it releases passes the enforcers of both parts. It is not what the first part alone
+-- would release, and that does not pass the join.
+unfoldable pub annexCases : List Case
+annexCases =
+    record { reading = 1; file = withPumpOff; asked = prepared; expected = summary 0 1 1 }
+    ∷ record { reading = 1; file = withValveShut; asked = prepared; expected = summary 0 1 1 }
+    ∷ record {
+      reading = 1;
+      file = withPumpOff;
+      asked = enforced (0x10 ∷ 0x30 ∷ 0x20 ∷ 0x00 ∷ []);
+      expected = released (0x00 ∷ 0x20 ∷ 0x20 ∷ 0x00 ∷ []);
+    }
+    ∷ record {
+      reading = 1;
+      file = pumpWithValve;
+      asked = enforced (0x00 ∷ 0x20 ∷ 0x20 ∷ 0x00 ∷ []);
+      expected = released (0x00 ∷ 0x20 ∷ 0x20 ∷ 0x00 ∷ []);
+    }
+    ∷ record {
+      reading = 1;
+      file = pumpOff;
+      asked = enforced (0x00 ∷ 0x20 ∷ 0x20 ∷ 0x00 ∷ []);
+      expected = released (0x00 ∷ 0x20 ∷ 0x20 ∷ 0x00 ∷ []);
+    }
+    ∷ record {
+      reading = 1;
+      file = pumpWithValve;
+      asked = enforced (0x10 ∷ 0x30 ∷ 0x20 ∷ 0x00 ∷ []);
+      expected = released (0x30 ∷ 0x30 ∷ 0x20 ∷ 0x00 ∷ []);
+    }
+    ∷ record {
+      reading = 1;
+      file = withPumpOff;
+      asked = enforced (0x30 ∷ 0x30 ∷ 0x20 ∷ 0x00 ∷ []);
+      expected = released (0x20 ∷ 0x20 ∷ 0x20 ∷ 0x00 ∷ []);
+    }
+    ∷ []
+
+pub annex-cases : map (λ c. said (c .reading) (c .file) (c .asked)) annexCases ≡ map (λ c. c .expected) annexCases
+unfolding
+    annexCases runOf runRefusal marksRefusal refusalUnder readingRefusal stateRefusal stateGood clocksGood refusalOf inputsRefusal outputsRefusal
+    clocksRefusal locationsRefusal rulesSectionRefusal sectionRefusal tagsGood among all rulesRefusal ruleRefusal headGood maskGood boundsGood
+    boundGood policyOf outputsAt clocksAt locationsAt rulesAt rulesStart rulesEnd pairsFrom rulesFrom ruleFrom boundsFrom statesOf numberFrom
+    locationFrom clocksFrom ran tick outputTick moved outputChoice inputChoice mayStand reaches step decides fires hold within tested taken advance
+    bind nearest better nearer distance spares any prepareOf preparedMarks roundsBy roundBy keeps leadsTo stays someEvent Rules.rests tab ones onesIn
+annex-cases = refl
+
+-- What one enforcer releases for the events, and what two in a row do: B's reads what A's released. Each from the start, with the marks of prepare.
+abbrev pub alone : (a events : List ℕ) → List ℕ
+alone a events = run 1 a events .out
+
+abbrev pub inARow : (a b events : List ℕ) → List ℕ
+inARow a b events = alone b (alone a events)
+
+-- The pump alone: the first clause opens the valve. Then the second stops the pump, or it shuts the valve again. The joins stop the pump at once.
+pub pump-alone :
+    (alone pumpWithValve (0x10 ∷ []) ≡ 0x30 ∷ [])
+    × (inARow pumpWithValve pumpOff (0x10 ∷ []) ≡ 0x20 ∷ []) × (alone withPumpOff (0x10 ∷ []) ≡ 0x00 ∷ [])
+    × (inARow pumpWithValve valveShut (0x10 ∷ []) ≡ 0x10 ∷ []) × (alone withValveShut (0x10 ∷ []) ≡ 0x00 ∷ [])
+unfolding
+    runOf runRefusal marksRefusal refusalUnder readingRefusal stateRefusal stateGood clocksGood refusalOf inputsRefusal outputsRefusal clocksRefusal
+    locationsRefusal rulesSectionRefusal sectionRefusal tagsGood among all rulesRefusal ruleRefusal headGood maskGood boundsGood boundGood policyOf
+    outputsAt clocksAt locationsAt rulesAt rulesStart rulesEnd pairsFrom rulesFrom ruleFrom boundsFrom statesOf numberFrom locationFrom clocksFrom ran
+    tick outputTick moved outputChoice inputChoice mayStand reaches step decides fires hold within tested taken advance bind nearest better nearer
+    distance spares any preparedMarks roundsBy roundBy keeps leadsTo stays someEvent Rules.rests tab ones onesIn
+pump-alone = (refl, refl, refl, refl, refl)
+
+-- "something else than the join does": a stream that both clauses permit, and another one.
+pub row-else :
+    Permits (policyOf 1 withPumpOff) .permits (map eventOf (inARow pumpWithValve pumpOff (0x10 ∷ [])))
+    × (¬ (inARow pumpWithValve pumpOff (0x10 ∷ []) ≡ alone withPumpOff (0x10 ∷ [])))
+unfolding
+    Runs steps policyOf outputsAt clocksAt locationsAt rulesAt rulesStart rulesEnd pairsFrom rulesFrom ruleFrom boundsFrom step decides fires hold within
+    tested taken advance bind
+row-else = (
+  subst (λ (bs : List ℕ). Permits (policyOf 1 withPumpOff) .permits (map eventOf bs)) (sym (pump-alone .1))
+      (fits-more {e = record { x = 0; y = 2 }} (record { x = omega arith; y = omega arith }) fits-none, (record { location = 0; clocks = [] }, refl)),
+  λ e. omega (arith, ap (λ (l : List ℕ). getD l 0 0) (sym (pump-alone .1) ∙ e ∙ pump-alone .2)),
+)
+
+-- "or nothing permitted": the pump runs against the shut valve, as it was read, which the first clause forbids.
+pub row-forbidden : ¬ Permits (policyOf 1 pumpWithValve) .permits (map eventOf (inARow pumpWithValve valveShut (0x10 ∷ [])))
+unfolding
+    Runs steps policyOf outputsAt clocksAt locationsAt rulesAt rulesStart rulesEnd pairsFrom rulesFrom ruleFrom boundsFrom step decides fires hold within
+    tested taken advance bind
+row-forbidden h =
+    let r = subst (λ (bs : List ℕ). Permits (policyOf 1 pumpWithValve) .permits (map eventOf bs)) (pump-alone .3) h in
+    Option·none-ne-some (r .1 .0) (r .1 .1)
