@@ -77,7 +77,7 @@ pub record CodeKeeps (reading : ℕ) (f a : List ℕ) : Type 0 where
       all (eventGood reading f) events ≡ true → length events ≤ length out → length events ≤ length again →
       RunPromise reading f m startState events out r after → RunPromise reading a n startState (take (length events) after) again q also →
       Unedited (policyOf reading a) (take (length events) after) again (ranSaid q also)
-  -- And so by the two halves, tick after tick.
+  -- And so by the two halves, tick after tick. They never stop: `ticks-go-on` in specs/Halves.antt.
   pub ticks :
       {x m y n : List ℕ} {s t : Given} {u v : State} {es rs qs : Stream} →
       PreparePromise reading f x (Prepared.Gives s) m → PreparePromise reading a y (Prepared.Gives t) n →

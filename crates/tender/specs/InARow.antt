@@ -1,6 +1,6 @@
 -- What the annex does not say: "not by two enforcers in a row". Two policies, each with its own enforcer, the second fed with what the first released, may
 -- release something else than their join does, or a stream that is not permitted. Two such pairs, byte by byte, and what is said to them, by computation
--- and under reading 1. The page for a lawyer is docs/ANNEX.md.
+-- and under each reading. The page for a lawyer is docs/ANNEX.md.
 use mathlib.Core.Path.{_≡_, refl, sym, ap, subst, _∙_}
 use mathlib.Core.List.{List, [], _∷_, map}
 use mathlib.Core.Option.{bind, Option·none-ne-some}
@@ -26,6 +26,7 @@ use Rattle.join.specs.Join.{of, agree, target, both, pair, each, cell, rows, le
 use Rattle.join.specs.Masks.{alike}
 use Rattle.join.specs.Entry.{sameTags, sameSignals, joinFits, joinedFile, joinRefusal, joinOf, joinedOut}
 use Rattle.tender.specs.Cases.{Case, prepared, enforced, summary, released, said, run}
+use Rattle.tender.specs.Granted.{each-reading}
 use Rattle.tender.specs.Demand3.{Joined}
 
 -- The outputs are the pump P, in bit 0, and the valve V, in bit 1: event 10 is the pump alone, 20 the valve alone, 30 both. "The pump runs only with the
@@ -77,89 +78,102 @@ both-made = (
 
 -- Neither is hopeless; and the first as an example of the annex: what it releases passes the enforcers of both parts. It is not what the first part alone
 -- would release, and that does not pass the join.
-unfoldable pub annexCases : List Case
-annexCases =
-    record { reading = 1; file = withPumpOff; asked = prepared; expected = summary 0 1 1 }
-    ∷ record { reading = 1; file = withValveShut; asked = prepared; expected = summary 0 1 1 }
+unfoldable pub annexCases : ℕ → List Case
+annexCases reading =
+    record { reading = reading; file = withPumpOff; asked = prepared; expected = summary 0 1 1 }
+    ∷ record { reading = reading; file = withValveShut; asked = prepared; expected = summary 0 1 1 }
     ∷ record {
-      reading = 1;
+      reading = reading;
       file = withPumpOff;
       asked = enforced (0x10 ∷ 0x30 ∷ 0x20 ∷ 0x00 ∷ []);
       expected = released (0x00 ∷ 0x20 ∷ 0x20 ∷ 0x00 ∷ []);
     }
     ∷ record {
-      reading = 1;
+      reading = reading;
       file = pumpWithValve;
       asked = enforced (0x00 ∷ 0x20 ∷ 0x20 ∷ 0x00 ∷ []);
       expected = released (0x00 ∷ 0x20 ∷ 0x20 ∷ 0x00 ∷ []);
     }
     ∷ record {
-      reading = 1;
+      reading = reading;
       file = pumpOff;
       asked = enforced (0x00 ∷ 0x20 ∷ 0x20 ∷ 0x00 ∷ []);
       expected = released (0x00 ∷ 0x20 ∷ 0x20 ∷ 0x00 ∷ []);
     }
     ∷ record {
-      reading = 1;
+      reading = reading;
       file = pumpWithValve;
       asked = enforced (0x10 ∷ 0x30 ∷ 0x20 ∷ 0x00 ∷ []);
       expected = released (0x30 ∷ 0x30 ∷ 0x20 ∷ 0x00 ∷ []);
     }
     ∷ record {
-      reading = 1;
+      reading = reading;
       file = withPumpOff;
       asked = enforced (0x30 ∷ 0x30 ∷ 0x20 ∷ 0x00 ∷ []);
       expected = released (0x20 ∷ 0x20 ∷ 0x20 ∷ 0x00 ∷ []);
     }
     ∷ []
 
-pub annex-cases : map (λ c. said (c .reading) (c .file) (c .asked)) annexCases ≡ map (λ c. c .expected) annexCases
+pub annex-cases :
+    (reading : ℕ) → readingRefusal reading ≡ 0 →
+    map (λ c. said (c .reading) (c .file) (c .asked)) (annexCases reading) ≡ map (λ c. c .expected) (annexCases reading)
 unfolding
     annexCases runOf runRefusal marksRefusal refusalUnder readingRefusal stateRefusal stateGood clocksGood refusalOf inputsRefusal outputsRefusal
     clocksRefusal locationsRefusal rulesSectionRefusal sectionRefusal tagsGood among all rulesRefusal ruleRefusal headGood maskGood boundsGood
     boundGood policyOf outputsAt clocksAt locationsAt rulesAt rulesStart rulesEnd pairsFrom rulesFrom ruleFrom boundsFrom statesOf numberFrom
     locationFrom clocksFrom ran tick outputTick moved outputChoice inputChoice mayStand reaches step decides fires hold within tested taken advance
     bind nearest better nearer distance spares any prepareOf preparedMarks roundsBy roundBy keeps leadsTo stays someEvent Rules.rests tab ones onesIn
-annex-cases = refl
+annex-cases =
+    each-reading (λ reading. map (λ c. said (c .reading) (c .file) (c .asked)) (annexCases reading) ≡ map (λ c. c .expected) (annexCases reading)) refl refl
 
 -- What one enforcer releases for the events, and what two in a row do: B's reads what A's released. Each from the start, with the marks of prepare.
-abbrev pub alone : (a events : List ℕ) → List ℕ
-alone a events = run 1 a events .out
+abbrev pub alone : (reading : ℕ) (a events : List ℕ) → List ℕ
+alone reading a events = run reading a events .out
 
-abbrev pub inARow : (a b events : List ℕ) → List ℕ
-inARow a b events = alone b (alone a events)
+abbrev pub inARow : (reading : ℕ) (a b events : List ℕ) → List ℕ
+inARow reading a b events = alone reading b (alone reading a events)
 
 -- The pump alone: the first clause opens the valve. Then the second stops the pump, or it shuts the valve again. The joins stop the pump at once.
-pub pump-alone :
-    (alone pumpWithValve (0x10 ∷ []) ≡ 0x30 ∷ [])
-    × (inARow pumpWithValve pumpOff (0x10 ∷ []) ≡ 0x20 ∷ []) × (alone withPumpOff (0x10 ∷ []) ≡ 0x00 ∷ [])
-    × (inARow pumpWithValve valveShut (0x10 ∷ []) ≡ 0x10 ∷ []) × (alone withValveShut (0x10 ∷ []) ≡ 0x00 ∷ [])
+pub record PumpAlone (reading : ℕ) : Type 0 where
+  pub first : alone reading pumpWithValve (0x10 ∷ []) ≡ 0x30 ∷ []
+  pub then-pump-off : inARow reading pumpWithValve pumpOff (0x10 ∷ []) ≡ 0x20 ∷ []
+  pub joined-pump-off : alone reading withPumpOff (0x10 ∷ []) ≡ 0x00 ∷ []
+  pub then-valve-shut : inARow reading pumpWithValve valveShut (0x10 ∷ []) ≡ 0x10 ∷ []
+  pub joined-valve-shut : alone reading withValveShut (0x10 ∷ []) ≡ 0x00 ∷ []
+
+pub pump-alone : (reading : ℕ) → readingRefusal reading ≡ 0 → PumpAlone reading
 unfolding
     runOf runRefusal marksRefusal refusalUnder readingRefusal stateRefusal stateGood clocksGood refusalOf inputsRefusal outputsRefusal clocksRefusal
     locationsRefusal rulesSectionRefusal sectionRefusal tagsGood among all rulesRefusal ruleRefusal headGood maskGood boundsGood boundGood policyOf
     outputsAt clocksAt locationsAt rulesAt rulesStart rulesEnd pairsFrom rulesFrom ruleFrom boundsFrom statesOf numberFrom locationFrom clocksFrom ran
     tick outputTick moved outputChoice inputChoice mayStand reaches step decides fires hold within tested taken advance bind nearest better nearer
     distance spares any preparedMarks roundsBy roundBy keeps leadsTo stays someEvent Rules.rests tab ones onesIn
-pump-alone = (refl, refl, refl, refl, refl)
+pump-alone =
+    each-reading PumpAlone
+    (record { first = refl; then-pump-off = refl; joined-pump-off = refl; then-valve-shut = refl; joined-valve-shut = refl })
+    (record { first = refl; then-pump-off = refl; joined-pump-off = refl; then-valve-shut = refl; joined-valve-shut = refl })
 
--- "something else than the join does": a stream that both clauses permit, and another one.
-pub row-else :
-    Permits (policyOf 1 withPumpOff) .permits (map eventOf (inARow pumpWithValve pumpOff (0x10 ∷ [])))
-    × (¬ (inARow pumpWithValve pumpOff (0x10 ∷ []) ≡ alone withPumpOff (0x10 ∷ [])))
-unfolding
-    Runs steps policyOf outputsAt clocksAt locationsAt rulesAt rulesStart rulesEnd pairsFrom rulesFrom ruleFrom boundsFrom step decides fires hold within
-    tested taken advance bind
-row-else = (
-  subst (λ (bs : List ℕ). Permits (policyOf 1 withPumpOff) .permits (map eventOf bs)) (sym (pump-alone .1))
-      (fits-more {e = record { x = 0; y = 2 }} (record { x = omega arith; y = omega arith }) fits-none, (record { location = 0; clocks = [] }, refl)),
-  λ e. omega (arith, ap (λ (l : List ℕ). getD l 0 0) (sym (pump-alone .1) ∙ e ∙ pump-alone .2)),
-)
+module _ (reading : ℕ) (named : readingRefusal reading ≡ 0) where
+  -- "something else than the join does": a stream that both clauses permit, and another one.
+  pub row-else :
+      Permits (policyOf reading withPumpOff) .permits (map eventOf (inARow reading pumpWithValve pumpOff (0x10 ∷ [])))
+      × (¬ (inARow reading pumpWithValve pumpOff (0x10 ∷ []) ≡ alone reading withPumpOff (0x10 ∷ [])))
+  unfolding
+      Runs steps policyOf outputsAt clocksAt locationsAt rulesAt rulesStart rulesEnd pairsFrom rulesFrom ruleFrom boundsFrom step decides fires hold
+      within tested taken advance bind
+  row-else =
+      let c = pump-alone reading named in (
+        subst (λ (bs : List ℕ). Permits (policyOf reading withPumpOff) .permits (map eventOf bs)) (sym (c .then-pump-off))
+            (fits-more {e = record { x = 0; y = 2 }} (record { x = omega arith; y = omega arith }) fits-none, (record { location = 0; clocks = [] }, refl)),
+        λ e. omega (arith, ap (λ (l : List ℕ). getD l 0 0) (sym (c .then-pump-off) ∙ e ∙ c .joined-pump-off)),
+      )
 
--- "or nothing permitted": the pump runs against the shut valve, as it was read, which the first clause forbids.
-pub row-forbidden : ¬ Permits (policyOf 1 pumpWithValve) .permits (map eventOf (inARow pumpWithValve valveShut (0x10 ∷ [])))
-unfolding
-    Runs steps policyOf outputsAt clocksAt locationsAt rulesAt rulesStart rulesEnd pairsFrom rulesFrom ruleFrom boundsFrom step decides fires hold within
-    tested taken advance bind
-row-forbidden h =
-    let r = subst (λ (bs : List ℕ). Permits (policyOf 1 pumpWithValve) .permits (map eventOf bs)) (pump-alone .3) h in
-    Option·none-ne-some (r .1 .0) (r .1 .1)
+  -- "or nothing permitted": the pump runs against the shut valve, as it was read, which the first clause forbids.
+  pub row-forbidden : ¬ Permits (policyOf reading pumpWithValve) .permits (map eventOf (inARow reading pumpWithValve valveShut (0x10 ∷ [])))
+  unfolding
+      Runs steps policyOf outputsAt clocksAt locationsAt rulesAt rulesStart rulesEnd pairsFrom rulesFrom ruleFrom boundsFrom step decides fires hold
+      within tested taken advance bind
+  row-forbidden h =
+      let bytes = pump-alone reading named .then-valve-shut in
+      let r = subst (λ (bs : List ℕ). Permits (policyOf reading pumpWithValve) .permits (map eventOf bs)) bytes h in
+      Option·none-ne-some (r .1 .0) (r .1 .1)
