@@ -29,8 +29,8 @@ use Rattle.tender.specs.Cases.{Case, prepared, enforced, summary, releas
 use Rattle.tender.specs.Granted.{each-reading}
 use Rattle.tender.specs.Demand3.{Joined}
 
--- The outputs are the pump P, in bit 0, and the valve V, in bit 1: event 10 is the pump alone, 20 the valve alone, 30 both. "The pump runs only with the
--- valve open", "The pump stays off", "The valve stays shut".
+-- The outputs are the pump P, in bit 0, and the valve V, in bit 1: event 10 is the pump alone, 20 the valve alone, 30 both. The clauses: the pump runs
+-- only with the valve open; the pump stays off; the valve stays shut.
 abbrev pub pumpWithValve : List ℕ
 pumpWithValve =
     0x00 ∷ 0x02 ∷ 0x50 ∷ 0x56 ∷ 0x00 ∷ 0x01 ∷ 0x00 ∷ 0x00 ∷ 0x02
@@ -154,7 +154,7 @@ pump-alone =
     (record { first = refl; then-pump-off = refl; joined-pump-off = refl; then-valve-shut = refl; joined-valve-shut = refl })
 
 module _ (reading : ℕ) (named : readingRefusal reading ≡ 0) where
-  -- "something else than the join does": a stream that both clauses permit, and another one.
+  -- In a row they release a stream that both clauses permit, and another one than the join.
   pub row-else :
       Permits (policyOf reading withPumpOff) .permits (map eventOf (inARow reading pumpWithValve pumpOff (0x10 ∷ [])))
       × (¬ (inARow reading pumpWithValve pumpOff (0x10 ∷ []) ≡ alone reading withPumpOff (0x10 ∷ [])))
@@ -168,7 +168,7 @@ module _ (reading : ℕ) (named : readingRefusal reading ≡ 0) where
         λ e. omega (arith, ap (λ (l : List ℕ). getD l 0 0) (sym (c .then-pump-off) ∙ e ∙ c .joined-pump-off)),
       )
 
-  -- "or nothing permitted": the pump runs against the shut valve, as it was read, which the first clause forbids.
+  -- In a row they release a stream that is not permitted: the pump runs against the shut valve, as it was read, and the first clause forbids it.
   pub row-forbidden : ¬ Permits (policyOf reading pumpWithValve) .permits (map eventOf (inARow reading pumpWithValve valveShut (0x10 ∷ [])))
   unfolding
       Runs steps policyOf outputsAt clocksAt locationsAt rulesAt rulesStart rulesEnd pairsFrom rulesFrom ruleFrom boundsFrom step decides fires hold
