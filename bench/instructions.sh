@@ -1,6 +1,6 @@
 #!/usr/bin/env bash
-# Counts the instructions of one tick on both sides, and of one call of each
-# half at the worst ticks, with callgrind.
+# Counts the instructions of one tick on both sides, of one call of each half
+# at the worst ticks, and of waves written and read, with callgrind.
 set -euo pipefail
 shopt -s inherit_errexit
 cd "$(dirname "$0")"
@@ -23,6 +23,12 @@ worst=(
     "nested, both edited, reading 2"
 )
 
+waves=(
+    "all change"
+    "one changes"
+    "one changes in sixteen"
+)
+
 sides=(plain)
 features=()
 if [[ -f "${GROOVEPAWN_LIB:-../target/staticlib/libgroovepawn.a}" ]]; then
@@ -37,7 +43,7 @@ work=$(mktemp -d)
 trap 'rm -rf "$work"' EXIT
 
 # Instructions of the whole program: side, how many times, stream, and nothing
-# for ticks of a run or the half that is called.
+# for ticks of a run, the half that is called, or what is done with a wave.
 instructions() {
     valgrind --tool=callgrind --log-file="$work/log" --callgrind-out-file="$work/counts" \
         target/release/bench instructions "$@"
@@ -85,5 +91,11 @@ heading "instructions a call, the check of the file among them"
 for stream in "${worst[@]}"; do
     for half in input output; do
         row 64 256 "$stream" "$half"
+    done
+done
+heading "instructions a call over a wave of 16,384 events"
+for wave in "${waves[@]}"; do
+    for way in write read; do
+        row 1 3 "$wave" "$way"
     done
 done

@@ -15,6 +15,7 @@
  *   state   five numbers: the location, then the four clock values, unused ones 0. The start state is { 0, 0, 0, 0, 0 }
  *   x, y    an input, an output: bit 0 is the first signal of its section of the file
  *   event   one byte: input x in the low four bits, output y in the high four
+ *   text    a wave: a Value Change Dump (IEEE 1364) of a stream. 497,013 bytes are always enough
  *
  * Readings. Contracts read a deadline in two ways, and the caller names one, by the number 1 or 2, as the first argument:
  *
@@ -48,11 +49,13 @@
  *   17  no input, or for the given x' no output, reaches a state marked 1
  *   18  the tick length is 0
  *   19  the tick count is above 1,000
+ *   21  a text is not one that groovepawn_wave_write makes, or holds a time above 16,384
  *   22  the reading is neither 1 nor 2
+ *   29  a stream to be written as a wave has over 16,384 events
  *
  * Where several hold, the first in this order is given: 22, 1 to 9 as they come in the file, 10, 11, 14, 16, 15, 17. A join asks 1 to 9 of its first
- * file, then of its second, then 12, 13, 14. A conversion asks 18, then 19. With the marks of groovepawn_prepare under the same reading and a live
- * state, groovepawn_input and groovepawn_run never give 17.
+ * file, then of its second, then 12, 13, 14. A conversion asks 18, then 19. After 1 to 9 the writer of waves asks 29, 15, 14, their reader 21, 14.
+ * With the marks of groovepawn_prepare under the same reading and a live state, groovepawn_input and groovepawn_run never give 17.
  *
  * Stack use: less than 2 KiB for each call, in the archive as it is compiled for x86-64. No heap and no global data.
  */
@@ -120,6 +123,20 @@ uint64_t groovepawn_join(const uint8_t *a, size_t a_len, const uint8_t *b, size_
  * A time in milliseconds as ticks of so many milliseconds, rounded down where up is 0, else up. Refusals 18, 19. Returns refusal | ticks << 8.
  */
 uint32_t groovepawn_ticks(uint32_t milliseconds, uint32_t tick_length, uint8_t up);
+
+/*
+ * A released stream as a text for wave viewers: 100 ms for each event, and for each signal, inputs first in file order, a wire with its tag as name.
+ * Refusals 1 to 9, 29, 15, 14. Returns refusal | length << 8: how many bytes the text takes; the other bytes stay. There is no zero byte at its end.
+ * With a refusal text stays as given. The policy's rules do not matter here: no marks are taken, and a policy without a live start is not refused.
+ */
+uint64_t groovepawn_wave_write(const uint8_t *file, size_t file_len, const uint8_t *events, size_t events_len, uint8_t *text, size_t text_len);
+
+/*
+ * The stream of such a text. It takes exactly the texts that groovepawn_wave_write makes with this policy's signals, byte for byte, and each gives
+ * the stream it was made of. Refusals 1 to 9, 21, 14. Returns refusal | count << 8: how many events there are; they stand in front in events, whose
+ * other bytes stay. 16,384 bytes are always enough. With a refusal events stays as given.
+ */
+uint64_t groovepawn_wave_read(const uint8_t *file, size_t file_len, const uint8_t *text, size_t text_len, uint8_t *events, size_t events_len);
 
 #ifdef __cplusplus
 }

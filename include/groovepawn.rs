@@ -61,4 +61,22 @@ extern "C" {
     ) -> u64;
 
     pub fn groovepawn_ticks(milliseconds: u32, tick_length: u32, up: u8) -> u32;
+
+    pub fn groovepawn_wave_write(
+        file: *const u8,
+        file_len: usize,
+        events: *const u8,
+        events_len: usize,
+        text: *mut u8,
+        text_len: usize,
+    ) -> u64;
+
+    pub fn groovepawn_wave_read(
+        file: *const u8,
+        file_len: usize,
+        text: *const u8,
+        text_len: usize,
+        events: *mut u8,
+        events_len: usize,
+    ) -> u64;
 }

@@ -39,10 +39,14 @@ mod reading;
 mod refusal;
 #[path = "../../independent/src/rules.rs"]
 mod rules;
+#[path = "../../independent/src/spoil.rs"]
+mod spoil;
 #[path = "../../independent/src/subject.rs"]
 mod subject;
 #[path = "../../independent/src/ticks.rs"]
 mod ticks;
+#[path = "../../independent/src/waves.rs"]
+mod waves;
 
 use bench::engine::{Engine as _, Plain};
 use compare::Tally;
@@ -119,6 +123,14 @@ impl Engine for PlainSide {
 
     fn join(&mut self, a: &[u8], b: &[u8], out: &mut [u8]) -> u64 {
         Plain.join(a, b, out)
+    }
+
+    fn wave_write(&mut self, file: &[u8], events: &[u8], text: &mut [u8]) -> u64 {
+        Plain.wave_write(file, events, text)
+    }
+
+    fn wave_read(&mut self, file: &[u8], text: &[u8], events: &mut [u8]) -> u64 {
+        Plain.wave_read(file, text, events)
     }
 
     /// The conversion is not measured, so the plain program has none.

@@ -2,8 +2,10 @@
 
 use crate::file::Policy;
 use crate::policies;
-use crate::streams::{Edits, Stream, STREAMS};
-use crate::work::{InputWork, JoinWork, OutputWork, PrepareWork, Work};
+use crate::streams::{Edits, Stream, Wave, STREAMS, WAVES};
+use crate::work::{
+    InputWork, JoinWork, OutputWork, PrepareWork, WaveReadWork, WaveWriteWork, Work,
+};
 
 /// Long enough that the one check of the file is a small part of a run, and
 /// that no branch predictor learns the stream.
@@ -42,7 +44,12 @@ pub fn all() -> Vec<Case> {
         join("small", policies::small_pair()),
         join("the largest", policies::largest_pair()),
     ];
-    runs.chain(halves).chain(prepares).chain(joins).collect()
+    let waves = WAVES.iter().flat_map(|wave| [write(wave), read(wave)]);
+    runs.chain(halves)
+        .chain(prepares)
+        .chain(joins)
+        .chain(waves)
+        .collect()
 }
 
 fn run(stream: &Stream) -> Case {
@@ -70,6 +77,16 @@ fn prepare_counted(size: &str, policy: Policy) -> Case {
 
 fn join(size: &str, pair: (Policy, Policy)) -> Case {
     case("join", size, JoinWork::new(pair))
+}
+
+fn write(wave: &Wave) -> Case {
+    let work = WaveWriteWork::new(&policies::short(), wave.events(TICKS));
+    case("wave writer, an event", wave.name, work)
+}
+
+fn read(wave: &Wave) -> Case {
+    let work = WaveReadWork::new(&policies::short(), wave.events(TICKS));
+    case("wave reader, an event", wave.name, work)
 }
 
 fn case(function: &str, what: &str, work: impl Work + 'static) -> Case {
@@ -106,6 +123,14 @@ mod tests {
         }
 
         fn join(&self, _: &[u8], _: &[u8], _: &mut [u8]) -> u64 {
+            0
+        }
+
+        fn wave_write(&self, _: &[u8], _: &[u8], _: &mut [u8]) -> u64 {
+            0
+        }
+
+        fn wave_read(&self, _: &[u8], _: &[u8], _: &mut [u8]) -> u64 {
             0
         }
     }

@@ -40,6 +40,12 @@ pub trait Engine {
 
     /// refusal | length << 8
     fn join(&self, a: &[u8], b: &[u8], out: &mut [u8]) -> u64;
+
+    /// refusal | length << 8
+    fn wave_write(&self, file: &[u8], events: &[u8], text: &mut [u8]) -> u64;
+
+    /// refusal | events << 8
+    fn wave_read(&self, file: &[u8], text: &[u8], events: &mut [u8]) -> u64;
 }
 
 /// The refusal in an answer; 0 for none.
@@ -98,6 +104,14 @@ impl Engine for Plain {
 
     fn join(&self, a: &[u8], b: &[u8], out: &mut [u8]) -> u64 {
         packed(plain::join(a, b, out).map(|length| length as u64))
+    }
+
+    fn wave_write(&self, file: &[u8], events: &[u8], text: &mut [u8]) -> u64 {
+        packed(plain::wave_write(file, events, text).map(|length| length as u64))
+    }
+
+    fn wave_read(&self, file: &[u8], text: &[u8], events: &mut [u8]) -> u64 {
+        packed(plain::wave_read(file, text, events).map(|count| count as u64))
     }
 }
 

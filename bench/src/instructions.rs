@@ -2,9 +2,10 @@
 //! instructions.
 
 use crate::engine::{found_in, refusal_in, Engine};
+use crate::policies;
 use crate::ready::Ready;
-use crate::streams::Stream;
-use crate::work::{InputWork, OutputWork};
+use crate::streams::{Stream, Wave};
+use crate::work::{InputWork, OutputWork, WaveReadWork, WaveWriteWork};
 
 /// This many events are always made, however many are run, so that all that
 /// is done before the first tick is the same for every number of ticks.
@@ -46,11 +47,33 @@ fn moments(stream: &Stream, calls: usize) -> Result<(Ready, Vec<u8>), String> {
     }
 }
 
+/// The events of a wave: as many as there can be.
+const EVENTS: usize = 16_384;
+
+/// So many calls of the wave writer.
+pub fn write(engine: &dyn Engine, wave: &Wave, calls: usize) -> Result<(), String> {
+    let mut work = WaveWriteWork::new(&policies::short(), wave.events(EVENTS));
+    (0..calls).try_for_each(|_| not_refused(work.write(engine)))
+}
+
+/// So many calls of the reader, of the text of the same stream.
+pub fn read(engine: &dyn Engine, wave: &Wave, calls: usize) -> Result<(), String> {
+    let mut work = WaveReadWork::new(&policies::short(), wave.events(EVENTS));
+    (0..calls).try_for_each(|_| not_refused(work.read(engine)))
+}
+
+fn not_refused(answer: u64) -> Result<(), String> {
+    match refusal_in(answer) {
+        0 => Ok(()),
+        refusal => Err(format!("refused {refusal}")),
+    }
+}
+
 #[cfg(test)]
 mod tests {
     use super::*;
     use crate::engine::Plain;
-    use crate::streams::STREAMS;
+    use crate::streams::{STREAMS, WAVES};
 
     #[test]
     fn any_number_of_ticks_up_to_the_most_can_be_run() {
@@ -58,6 +81,17 @@ mod tests {
             assert_eq!(run(&Plain, &STREAMS[0], ticks), Ok(()));
         }
         assert!(run(&Plain, &STREAMS[0], MOST_TICKS + 1).is_err());
+    }
+
+    #[test]
+    fn every_wave_can_be_written_and_read() {
+        for wave in &WAVES {
+            for counted in [write, read] {
+                for calls in [0, 1, 3] {
+                    assert_eq!(counted(&Plain, wave, calls), Ok(()));
+                }
+            }
+        }
     }
 
     #[test]

@@ -100,4 +100,30 @@ impl Engine for Library {
             )
         }
     }
+
+    fn wave_write(&self, file: &[u8], events: &[u8], text: &mut [u8]) -> u64 {
+        unsafe {
+            groovepawn_wave_write(
+                file.as_ptr(),
+                file.len(),
+                events.as_ptr(),
+                events.len(),
+                text.as_mut_ptr(),
+                text.len(),
+            )
+        }
+    }
+
+    fn wave_read(&self, file: &[u8], text: &[u8], events: &mut [u8]) -> u64 {
+        unsafe {
+            groovepawn_wave_read(
+                file.as_ptr(),
+                file.len(),
+                text.as_ptr(),
+                text.len(),
+                events.as_mut_ptr(),
+                events.len(),
+            )
+        }
+    }
 }

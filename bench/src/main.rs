@@ -2,7 +2,7 @@
 //! one side.
 
 use bench::engine::{Engine, Plain};
-use bench::streams::{Stream, STREAMS};
+use bench::streams::{Stream, Wave, STREAMS, WAVES};
 use bench::{cases, instructions, measure, report, work};
 use std::process::ExitCode;
 
@@ -29,16 +29,26 @@ fn perform(words: &[&str]) -> Result<(), String> {
         ["instructions", side, calls, stream, "output"] => {
             count(side, calls, stream, instructions::output)
         }
+        ["instructions", side, calls, wave, "write"] => {
+            count_wave(side, calls, wave, instructions::write)
+        }
+        ["instructions", side, calls, wave, "read"] => {
+            count_wave(side, calls, wave, instructions::read)
+        }
         _ => Err(usage()),
     }
 }
 
 fn usage() -> String {
-    let names: Vec<&str> = STREAMS.iter().map(|stream| stream.name).collect();
+    let streams: Vec<&str> = STREAMS.iter().map(|stream| stream.name).collect();
+    let waves: Vec<&str> = WAVES.iter().map(|wave| wave.name).collect();
     format!(
         "usage:\n  bench\n  bench instructions plain|library TICKS [STREAM]\n  \
-         bench instructions plain|library CALLS STREAM input|output\nstreams: {}",
-        names.join("; ")
+         bench instructions plain|library CALLS STREAM input|output\n  \
+         bench instructions plain|library CALLS WAVE write|read\n\
+         streams: {}\nwaves: {}",
+        streams.join("; "),
+        waves.join("; ")
     )
 }
 
@@ -76,11 +86,23 @@ type Counted = fn(&dyn Engine, &Stream, usize) -> Result<(), String>;
 fn count(side: &str, times: &str, stream: &str, counted: Counted) -> Result<(), String> {
     let times = times.parse().map_err(|_| usage())?;
     let stream = Stream::named(stream).ok_or_else(usage)?;
-    let engine = match (side, second_side()) {
-        ("plain", _) => &Plain,
-        ("library", ("library", library)) => library,
-        ("library", _) => return Err("build with `--features library`".to_string()),
-        _ => return Err(usage()),
-    };
-    counted(engine, stream, times)
+    counted(engine(side)?, stream, times)
+}
+
+/// The same for a wave.
+type CountedWave = fn(&dyn Engine, &Wave, usize) -> Result<(), String>;
+
+fn count_wave(side: &str, calls: &str, wave: &str, counted: CountedWave) -> Result<(), String> {
+    let calls = calls.parse().map_err(|_| usage())?;
+    let wave = Wave::named(wave).ok_or_else(usage)?;
+    counted(engine(side)?, wave, calls)
+}
+
+fn engine(side: &str) -> Result<&'static dyn Engine, String> {
+    match (side, second_side()) {
+        ("plain", _) => Ok(&Plain),
+        ("library", ("library", library)) => Ok(library),
+        ("library", _) => Err("build with `--features library`".to_string()),
+        _ => Err(usage()),
+    }
 }

@@ -18,6 +18,7 @@ mod refusal;
 mod rule;
 mod sets;
 mod state;
+mod waves;
 
 #[cfg(test)]
 mod tests;
@@ -26,3 +27,4 @@ pub use enforcer::{input, output, run, RunEnd};
 pub use join::join;
 pub use prepare::{prepare, Prepared};
 pub use refusal::Refusal;
+pub use waves::{wave_read, wave_write};

@@ -110,6 +110,40 @@ impl Stream {
     }
 }
 
+/// A stream over eight signals for the wave writer and its reader.
+pub struct Wave {
+    pub name: &'static str,
+    /// The signals that change at once, every so many events.
+    changing: u8,
+    every: usize,
+}
+
+pub const WAVES: [Wave; 3] = [
+    wave("all change", 0xFF, 1),
+    wave("one changes", 0x10, 1),
+    wave("one changes in sixteen", 0x10, 16),
+];
+
+const fn wave(name: &'static str, changing: u8, every: usize) -> Wave {
+    Wave {
+        name,
+        changing,
+        every,
+    }
+}
+
+impl Wave {
+    pub fn named(name: &str) -> Option<&'static Wave> {
+        WAVES.iter().find(|wave| wave.name == name)
+    }
+
+    pub fn events(&self, count: usize) -> Vec<u8> {
+        let on = |place| place / self.every % 2 == 1;
+        let event = |place| if on(place) { self.changing } else { 0 };
+        (0..count).map(event).collect()
+    }
+}
+
 fn any_events(policy: &Policy, count: usize) -> Vec<u8> {
     let mut random = Random::new(3);
     let mask = policy.event_mask();

@@ -5,6 +5,7 @@ mod halves;
 mod join;
 mod prepare;
 mod run;
+mod wave;
 
 use crate::engine::{Engine, State};
 
@@ -12,6 +13,7 @@ pub use halves::{InputWork, OutputWork};
 pub use join::JoinWork;
 pub use prepare::PrepareWork;
 pub use run::RunWork;
+pub use wave::{WaveReadWork, WaveWriteWork};
 
 /// What no successful call leaves behind, so that a byte not written shows.
 pub const FILLER: u8 = 0xEE;

@@ -43,17 +43,36 @@ pub enum Call {
         tick_length: u32,
         up: u8,
     },
+    WaveWrite {
+        file: Vec<u8>,
+        events: Vec<u8>,
+        text: Vec<u8>,
+    },
+    WaveRead {
+        file: Vec<u8>,
+        text: Vec<u8>,
+        events: Vec<u8>,
+    },
 }
 
 /// The functions, in the order of `Call::kind`.
-pub const FUNCTIONS: [&str; 6] = ["prepare", "input", "output", "run", "join", "ticks"];
+pub const FUNCTIONS: [&str; 8] = [
+    "prepare",
+    "input",
+    "output",
+    "run",
+    "join",
+    "ticks",
+    "wave_write",
+    "wave_read",
+];
 
 /// An answer and the later contents of what was lent for writing.
 #[derive(Clone, Debug, PartialEq, Eq)]
 pub struct Outcome {
     pub answer: u64,
-    /// The marks of prepare, the released events of run, the file of join;
-    /// otherwise empty.
+    /// The marks of prepare, the released events of run, the file of join, the
+    /// text of the wave writer, the events of its reader; otherwise empty.
     pub bytes: Vec<u8>,
     /// The state of output and run; otherwise empty.
     pub state: Vec<u16>,
@@ -71,17 +90,19 @@ impl Call {
             Call::Run { .. } => 3,
             Call::Join { .. } => 4,
             Call::Ticks { .. } => 5,
+            Call::WaveWrite { .. } => 6,
+            Call::WaveRead { .. } => 7,
         }
     }
 
-    /// The reading that the caller names; a join and a conversion take none.
+    /// The reading that the caller names; joins, conversions and waves take none.
     pub fn reading(&self) -> Option<u8> {
         match *self {
             Call::Prepare { reading, .. }
             | Call::Input { reading, .. }
             | Call::Output { reading, .. }
             | Call::Run { reading, .. } => Some(reading),
-            Call::Join { .. } | Call::Ticks { .. } => None,
+            _ => None,
         }
     }
 
@@ -92,7 +113,7 @@ impl Call {
             | Call::Input { reading, .. }
             | Call::Output { reading, .. }
             | Call::Run { reading, .. } => *reading = other,
-            Call::Join { .. } | Call::Ticks { .. } => {}
+            _ => {}
         }
         self
     }
@@ -130,6 +151,8 @@ impl Call {
                 tick_length,
                 up,
             } => engine.ticks(*milliseconds, *tick_length, *up),
+            Call::WaveWrite { file, events, .. } => engine.wave_write(file, events, &mut bytes),
+            Call::WaveRead { file, text, .. } => engine.wave_read(file, text, &mut bytes),
         };
         Outcome {
             answer,
@@ -145,6 +168,8 @@ impl Call {
             Call::Prepare { marks, .. } => marks,
             Call::Run { released, .. } => released,
             Call::Join { out, .. } => out,
+            Call::WaveWrite { text, .. } => text,
+            Call::WaveRead { events, .. } => events,
             _ => &[],
         }
     }
@@ -218,6 +243,15 @@ impl fmt::Display for Call {
             } => {
                 writeln!(out, "milliseconds {milliseconds}")?;
                 writeln!(out, "tick length {tick_length}\nup {up}")
+            }
+            Call::WaveWrite { file, events, text } => {
+                writeln!(out, "file {}\nevents {}", hex(file), hex(events))?;
+                writeln!(out, "text before {}", hex(text))
+            }
+            Call::WaveRead { file, text, events } => {
+                writeln!(out, "file {}\ntext {}", hex(file), hex(text))?;
+                writeln!(out, "in letters {:?}", String::from_utf8_lossy(text))?;
+                writeln!(out, "events before {}", hex(events))
             }
         }
     }

@@ -1,5 +1,6 @@
 //! Random calls. A group is all the calls made around one random policy, or
-//! a pair to be joined, or some times to be converted.
+//! a pair to be joined, some times to be converted, or a stream to be written
+//! as a wave and read back.
 
 use crate::call::Call;
 use crate::damage;
@@ -9,9 +10,11 @@ use crate::policies::{self, Family, Size};
 use crate::policy::*;
 use crate::random::Random;
 use crate::reading::READINGS;
+use crate::spoil;
 use crate::subject::{
     filler, lent_length, marks_and_state, some_events, some_reading, some_value, Subject,
 };
+use crate::waves::{self, MOST_EVENTS};
 
 /// A table on which prepare may take more steps than this is not given to it,
 /// so that no single call takes minutes.
@@ -20,13 +23,14 @@ const MOST_PREPARE_STEPS: usize = 300_000_000;
 /// Group `number` of `seed`; always the same.
 pub fn group(seed: u64, number: u64) -> Vec<Call> {
     let mut random = Random::for_group(seed, number);
-    match random.below(100) {
+    match random.below(112) {
         0..=55 => around_policy(&mut random),
         56..=59 => around_edits(&mut random),
         60..=77 => around_damage(&mut random),
         78 => around_prefixes(&mut random),
         79..=94 => around_join(&mut random),
-        _ => around_ticks(&mut random),
+        95..=99 => around_ticks(&mut random),
+        _ => around_wave(&mut random),
     }
 }
 
@@ -100,7 +104,10 @@ fn around_damage(random: &mut Random) -> Vec<Call> {
         });
         made.push(with_file(input_call(random, &subject), file.clone()));
         made.push(with_file(output_call(random, &subject), file.clone()));
-        made.push(with_file(run_call(random, &subject), file));
+        made.push(with_file(run_call(random, &subject), file.clone()));
+        let wave = Wave::new(random, subject.policy.clone());
+        made.push(with_file(wave.write_call(random), file.clone()));
+        made.push(with_file(wave.read_call(random), file));
     }
     made
 }
@@ -111,7 +118,9 @@ fn with_file(mut call: Call, other: Vec<u8>) -> Call {
         Call::Prepare { file, .. }
         | Call::Input { file, .. }
         | Call::Output { file, .. }
-        | Call::Run { file, .. } => *file = other,
+        | Call::Run { file, .. }
+        | Call::WaveWrite { file, .. }
+        | Call::WaveRead { file, .. } => *file = other,
         Call::Join { a, .. } => *a = other,
         Call::Ticks { .. } => {}
     }
@@ -291,6 +300,116 @@ fn run_call(random: &mut Random, subject: &Subject) -> Call {
     }
 }
 
+/// A policy, a stream over its signals, and the text of the stream.
+struct Wave {
+    policy: Policy,
+    events: Vec<u8>,
+    text: Vec<u8>,
+}
+
+impl Wave {
+    fn new(random: &mut Random, policy: Policy) -> Wave {
+        let events = wave_events(random, &policy);
+        Wave {
+            text: waves::text_of(&policy, &events).into_bytes(),
+            policy,
+            events,
+        }
+    }
+
+    /// Now and then over a stream that is too long, or has a bit beyond the
+    /// signals.
+    fn write_call(&self, random: &mut Random) -> Call {
+        let mut events = self.events.clone();
+        if random.percent(8) {
+            events.resize(MOST_EVENTS + random.pick(&[1, 1, 2, 700]), 0);
+        }
+        if random.percent(12) && !events.is_empty() {
+            let place = random.pick(&[0, events.len() / 2, events.len() - 1]);
+            events[place] = 1 << random.below(8);
+        }
+        let length = lent_length(random, self.text.len());
+        Call::WaveWrite {
+            file: self.policy.encode(),
+            events,
+            text: filler(random, length),
+        }
+    }
+
+    fn read_call(&self, random: &mut Random) -> Call {
+        self.call_to_read(random, self.text.clone())
+    }
+
+    fn spoilt_call(&self, random: &mut Random) -> Call {
+        let text = spoil::spoilt(random, &self.text);
+        self.call_to_read(random, text)
+    }
+
+    fn call_to_read(&self, random: &mut Random, text: Vec<u8>) -> Call {
+        // A spoilt text may be that of a longer stream, and is to be refused
+        // for what it is rather than for want of room.
+        let needed = match random.percent(30) {
+            true => MOST_EVENTS,
+            false => self.events.len(),
+        };
+        let length = lent_length(random, needed);
+        Call::WaveRead {
+            file: self.policy.encode(),
+            text,
+            events: filler(random, length),
+        }
+    }
+}
+
+/// Events over the signals of the policy: any, few changes, none, or at every
+/// tick all signals; few or as many as there can be.
+fn wave_events(random: &mut Random, policy: &Policy) -> Vec<u8> {
+    let mask = policy.event_mask();
+    let length = match random.below(40) {
+        0..=2 => MOST_EVENTS - random.between(0, 2),
+        3 => random.between(900, 1_100),
+        4 => random.between(9_995, 10_005),
+        5..=8 => random.between(90, 110),
+        9..=15 => random.between(0, 2),
+        _ => random.between(0, 16),
+    };
+    let steady = random.byte() & mask;
+    let chance = match length {
+        0..=110 => random.pick(&[0, 10, 50, 100]),
+        // Of a long stream all is written but seldom.
+        _ => random.pick(&[0, 0, 0, 0, 0, 0, 1, 100]),
+    };
+    let all = random.percent(30);
+    let mut event = steady;
+    let mut next = || {
+        if random.percent(chance) {
+            event = match all {
+                true => event ^ mask,
+                false => random.byte() & mask,
+            };
+        }
+        event
+    };
+    (0..length).map(|_| next()).collect()
+}
+
+fn around_wave(random: &mut Random) -> Vec<Call> {
+    let size = random.pick(&[Size::Tiny, Size::Small]);
+    let policy = policies::of_size(random, size);
+    let wave = Wave::new(random, policy);
+    let mut made = vec![
+        wave.write_call(random),
+        wave.write_call(random),
+        wave.read_call(random),
+    ];
+    let spoilt = match wave.text.len() {
+        0..=20_000 => 6,
+        _ => 1,
+    };
+    made.extend((0..spoilt).map(|_| wave.spoilt_call(random)));
+    made
+}
+
 fn around_ticks(random: &mut Random) -> Vec<Call> {
     (0..8).map(|_| ticks_call(random)).collect()
 }
@@ -364,6 +483,8 @@ mod tests {
             &[10, 14, 15, 16, 17, 22],
             &[12, 13, 14],
             &[18, 19],
+            &[14, 15, 29],
+            &[14, 21],
         ];
         for (kind, own) in own.iter().enumerate() {
             let files: &[usize] = if kind == 5 { &[] } else { &file };

@@ -160,6 +160,7 @@ mod tests {
     use crate::parse;
     use crate::policy::Policy;
     use crate::reading::Reading;
+    use crate::waves;
 
     /// Calls the model, and spoils one thing before or after. A comparison
     /// that does not notice is worth nothing.
@@ -196,10 +197,25 @@ mod tests {
         JoinRestsWhereOneRests,
         RoundUpOneTooMany,
         WideLocationCut,
+        WaveOutputsFirst,
+        WaveTimesFromOne,
+        WaveTimesWithoutChange,
+        WaveWithoutClosing,
+        WaveEmptyClosedTwice,
+        WaveOneEventLess,
+        WaveRoomBeforeEvents,
+        WaveTextOnRefusal,
+        WaveReturnsTaken,
+        WaveZerosTaken,
+        WaveEndTaken,
+        WaveAgainTaken,
+        WaveTimeWrapped,
+        WaveEventsOnRefusal,
+        WavePastTheEvents,
         Stray,
     }
 
-    const FAULTS: [Fault; 27] = [
+    const FAULTS: [Fault; 42] = [
         Fault::RefuseAlways,
         Fault::ForwardEverything,
         Fault::SmallestAmongEquals,
@@ -226,6 +242,21 @@ mod tests {
         Fault::JoinRestsWhereOneRests,
         Fault::RoundUpOneTooMany,
         Fault::WideLocationCut,
+        Fault::WaveOutputsFirst,
+        Fault::WaveTimesFromOne,
+        Fault::WaveTimesWithoutChange,
+        Fault::WaveWithoutClosing,
+        Fault::WaveEmptyClosedTwice,
+        Fault::WaveOneEventLess,
+        Fault::WaveRoomBeforeEvents,
+        Fault::WaveTextOnRefusal,
+        Fault::WaveReturnsTaken,
+        Fault::WaveZerosTaken,
+        Fault::WaveEndTaken,
+        Fault::WaveAgainTaken,
+        Fault::WaveTimeWrapped,
+        Fault::WaveEventsOnRefusal,
+        Fault::WavePastTheEvents,
         Fault::Stray,
     ];
 
@@ -282,6 +313,58 @@ mod tests {
                 state[0] &= 255;
             }
             state
+        }
+    }
+
+    impl Spoilt {
+        /// Another text where a spoilt writer makes one; not all of it, where
+        /// there is no room.
+        fn other_text(&self, policy: &Policy, events: &[u8], text: &mut [u8], answer: u64) -> u64 {
+            let right = waves::text_of(policy, events);
+            let other = match self.fault {
+                Fault::WaveOutputsFirst => {
+                    let mut exchanged = policy.clone();
+                    std::mem::swap(&mut exchanged.inputs, &mut exchanged.outputs);
+                    let halves = |event: &u8| event.rotate_left(4);
+                    let events: Vec<u8> = events.iter().map(halves).collect();
+                    waves::text_of(&exchanged, &events)
+                }
+                Fault::WaveTimesFromOne => right.replace("#0\n", "#1\n"),
+                Fault::WaveTimesWithoutChange => match events {
+                    [first, .., last] if [*first, *last].repeat(events.len() / 2) == events => {
+                        right.replace("#2\n", "#1\n#2\n")
+                    }
+                    _ => right,
+                },
+                Fault::WaveWithoutClosing if !events.is_empty() => {
+                    right.replace(&format!("#{}\n", events.len()), "")
+                }
+                Fault::WaveEmptyClosedTwice if events.is_empty() => right + "#0\n",
+                _ => return answer,
+            };
+            let length = other.len().min(text.len());
+            text[..length].copy_from_slice(&other.as_bytes()[..length]);
+            (length as u64) << 8
+        }
+
+        /// The text as a spoilt reader takes it.
+        fn text(&self, text: &[u8]) -> Vec<u8> {
+            let Ok(letters) = std::str::from_utf8(text) else {
+                return text.to_vec();
+            };
+            let mended = match self.fault {
+                Fault::WaveReturnsTaken => letters.replace('\r', ""),
+                Fault::WaveZerosTaken => letters.replace("#0", "#").replace("#\n", "#0\n"),
+                Fault::WaveEndTaken => letters.trim_end().to_string() + "\n",
+                Fault::WaveAgainTaken => {
+                    let mut lines: Vec<&str> = letters.split('\n').collect();
+                    lines.dedup();
+                    lines.join("\n")
+                }
+                Fault::WaveTimeWrapped => wrapped(letters),
+                _ => letters.to_string(),
+            };
+            mended.into_bytes()
         }
     }
 
@@ -414,6 +497,40 @@ mod tests {
             }
         }
 
+        fn wave_write(&mut self, file: &[u8], events: &[u8], text: &mut [u8]) -> u64 {
+            let Ok(policy) = parse::check(file) else {
+                return Model.wave_write(file, events, text);
+            };
+            if self.has(Fault::WaveOneEventLess) && events.len() == waves::MOST_EVENTS {
+                return 29;
+            }
+            let needed = waves::text_of(&policy, events).len();
+            if self.has(Fault::WaveRoomBeforeEvents) && text.len() < needed {
+                return 14;
+            }
+            let answer = Model.wave_write(file, events, text);
+            if self.has(Fault::WaveTextOnRefusal) && answer == 14 {
+                text.fill(b'$');
+            }
+            match refusal_in(answer) {
+                0 => self.other_text(&policy, events, text, answer),
+                _ => answer,
+            }
+        }
+
+        fn wave_read(&mut self, file: &[u8], text: &[u8], events: &mut [u8]) -> u64 {
+            let answer = Model.wave_read(file, &self.text(text), events);
+            if self.has(Fault::WaveEventsOnRefusal) && answer == 21 && !events.is_empty() {
+                events[0] ^= 1;
+            }
+            let count = found_in(answer);
+            let more = refusal_in(answer) == 0 && count < events.len();
+            if self.has(Fault::WavePastTheEvents) && more {
+                events[count] = 0;
+            }
+            answer
+        }
+
         fn strayed(&mut self) -> bool {
             self.has(Fault::Stray)
         }
@@ -442,6 +559,16 @@ mod tests {
             let (of_a, of_b) = (number / b.locations(), number % b.locations());
             *byte = u8::from(a.must_leave[of_a] && b.must_leave[of_b]);
         }
+    }
+
+    /// The text with the times that sixteen bits hold of its times.
+    fn wrapped(text: &str) -> String {
+        let line = |line: &str| match line.strip_prefix('#').map(str::parse) {
+            Some(Ok(time @ 65_536..)) => format!("#{}", time & 0xFFFF_usize),
+            _ => line.to_string(),
+        };
+        let lines: Vec<String> = text.split('\n').map(line).collect();
+        lines.join("\n")
     }
 
     fn outcome(fault: Fault) -> Result<(), String> {

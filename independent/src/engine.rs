@@ -1,10 +1,11 @@
-//! The six functions under comparison, with their answers packed into one
+//! The eight functions under comparison, with their answers packed into one
 //! number, and the model as one maker of such answers.
 
 use crate::enforce;
 use crate::join;
 use crate::refusal::Refusal;
 use crate::ticks::{self, Rounding};
+use crate::waves;
 
 /// Anything that answers as the library's C functions do: the refusal in the
 /// lowest byte, 0 for none, and above it what the function found.
@@ -42,6 +43,12 @@ pub trait Engine {
 
     /// refusal | ticks << 8
     fn ticks(&mut self, milliseconds: u32, tick_length: u32, up: u8) -> u64;
+
+    /// refusal | length << 8
+    fn wave_write(&mut self, file: &[u8], events: &[u8], text: &mut [u8]) -> u64;
+
+    /// refusal | events << 8
+    fn wave_read(&mut self, file: &[u8], text: &[u8], events: &mut [u8]) -> u64;
 
     /// Whether, since this was last asked, a byte was changed that was not
     /// lent for writing.
@@ -114,6 +121,14 @@ impl Engine for Model {
             _ => Rounding::Up,
         };
         packed(ticks::ticks(milliseconds, tick_length, rounding))
+    }
+
+    fn wave_write(&mut self, file: &[u8], events: &[u8], text: &mut [u8]) -> u64 {
+        packed(waves::write(file, events, text).map(|length| length as u64))
+    }
+
+    fn wave_read(&mut self, file: &[u8], text: &[u8], events: &mut [u8]) -> u64 {
+        packed(waves::read(file, text, events).map(|count| count as u64))
     }
 }
 

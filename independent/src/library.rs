@@ -188,6 +188,42 @@ impl Engine for Library {
         u64::from(unsafe { groovepawn_ticks(milliseconds, tick_length, up) })
     }
 
+    fn wave_write(&mut self, file: &[u8], events: &[u8], text: &mut [u8]) -> u64 {
+        let (mut f, mut e, mut t) = (bytes(file), bytes(events), bytes(text));
+        let answer = unsafe {
+            groovepawn_wave_write(
+                f.pointer(),
+                f.length,
+                e.pointer(),
+                e.length,
+                t.pointer(),
+                t.length,
+            )
+        };
+        self.expect(f.is_still(file));
+        self.expect(e.is_still(events));
+        self.expect(t.give_back(text));
+        answer
+    }
+
+    fn wave_read(&mut self, file: &[u8], text: &[u8], events: &mut [u8]) -> u64 {
+        let (mut f, mut t, mut e) = (bytes(file), bytes(text), bytes(events));
+        let answer = unsafe {
+            groovepawn_wave_read(
+                f.pointer(),
+                f.length,
+                t.pointer(),
+                t.length,
+                e.pointer(),
+                e.length,
+            )
+        };
+        self.expect(f.is_still(file));
+        self.expect(t.is_still(text));
+        self.expect(e.give_back(events));
+        answer
+    }
+
     fn strayed(&mut self) -> bool {
         std::mem::take(&mut self.strayed)
     }

@@ -26,14 +26,17 @@ mod refusal;
 mod rules;
 mod samples;
 mod selfcheck;
+mod spoil;
 mod subject;
 mod ticks;
 mod vectors;
+mod waves;
 mod written;
 mod wrong;
 
 use compare::Tally;
 use engine::{Engine, Model};
+use program::Program;
 use std::io::{self, Read, Write};
 use std::process::ExitCode;
 use std::time::{Duration, Instant};
@@ -42,7 +45,8 @@ const USAGE: &str = "usage:
   independent selfcheck
   independent compare SECONDS SEED [trace]   (needs the feature `library`)
   independent rehearse SECONDS SEED
-  independent program SECONDS SEED WORD...   (the words run `enforce`)
+  independent program enforce|wave SECONDS SEED WORD...   (the words run it)
+  independent prints enforce|wave < INPUT
   independent show SEED GROUP
   independent vectors COUNT SEED > FILE
   independent wrong EACH SEED > FILE
@@ -70,9 +74,10 @@ fn perform(words: &[&str]) -> Result<(), String> {
         ["rehearse", seconds, seed] => {
             compare_engine(&mut Model, number(seconds)?, number(seed)?, false)
         }
-        ["program", seconds, seed, ref words @ ..] => {
-            compare_program(words, number(seconds)?, number(seed)?)
+        ["program", name, seconds, seed, ref words @ ..] => {
+            compare_program(program(name)?, words, number(seconds)?, number(seed)?)
         }
+        ["prints", name] => print_as(program(name)?),
         ["show", seed, group] => show(number(seed)?, number(group)?),
         ["vectors", count, seed] => {
             write_file(&vectors::vectors(number(count)? as usize, number(seed)?))
@@ -86,6 +91,10 @@ fn perform(words: &[&str]) -> Result<(), String> {
 fn number(word: &str) -> Result<u64, String> {
     word.parse()
         .map_err(|_| format!("not a number: {word}\n{USAGE}"))
+}
+
+fn program(name: &str) -> Result<Program, String> {
+    Program::named(name).ok_or_else(|| format!("not a program: {name}\n{USAGE}"))
 }
 
 fn selfcheck_all() -> Result<(), String> {
@@ -139,10 +148,15 @@ fn compare_engine(
     }
 }
 
-fn compare_program(words: &[&str], seconds: u64, seed: u64) -> Result<(), String> {
+fn compare_program(
+    program: Program,
+    words: &[&str],
+    seconds: u64,
+    seed: u64,
+) -> Result<(), String> {
     let began = Instant::now();
     let goes_on = |_| began.elapsed() < Duration::from_secs(seconds);
-    let (inputs, refused) = program::compare(words, seed, goes_on)?;
+    let (inputs, refused) = program::compare(program, words, seed, goes_on)?;
     println!("{inputs} inputs, of which refused {refused}; no difference");
     Ok(())
 }
@@ -162,10 +176,20 @@ fn write_file(file: &[u8]) -> Result<(), String> {
     Ok(())
 }
 
-fn replay_all() -> Result<(), String> {
-    let mut file = Vec::new();
-    let read = io::stdin().read_to_end(&mut file);
+fn print_as(program: Program) -> Result<(), String> {
+    print!("{}", program.printed(&standard_input()?));
+    Ok(())
+}
+
+fn standard_input() -> Result<Vec<u8>, String> {
+    let mut bytes = Vec::new();
+    let read = io::stdin().read_to_end(&mut bytes);
     read.map_err(|error| format!("standard input: {error}"))?;
+    Ok(bytes)
+}
+
+fn replay_all() -> Result<(), String> {
+    let file = standard_input()?;
     println!(
         "model: {} records hold",
         vectors::replay(&file, &mut Model)?

@@ -1,16 +1,18 @@
-//! What the program `enforce` prints for an input, by the paper, and a
-//! comparison of a program with that on random inputs.
+//! What the programs `enforce` and `wave` print for an input, by the paper, and
+//! a comparison of a program with that on random inputs.
 
 use crate::call::hex;
 use crate::damage;
-use crate::enforce;
+use crate::enforce::{self, Prepared};
 use crate::moment::STATE_LENGTH;
+use crate::parse;
 use crate::policies::{self, Size};
 use crate::policy::{Policy, MAX_STATES};
 use crate::random::Random;
 use crate::reading::Reading;
 use crate::refusal::Refusal;
 use crate::subject::some_events;
+use crate::waves::{self, MOST_EVENTS};
 use std::fmt::Write as _;
 use std::io::{self, Write as _};
 use std::process::{Command, Stdio};
@@ -18,56 +20,100 @@ use std::thread;
 use std::time::Duration;
 
 const LONGEST_POLICY: usize = 5_974;
-const MOST_EVENTS: usize = 16_384;
-/// The program uses reading 1.
+/// The programs use reading 1.
 const READING: Reading = Reading::AtStart;
 
-/// All that is to be printed.
-pub fn printed(input: &[u8]) -> String {
-    match lines(input) {
-        Ok(lines) => lines,
-        Err(refusal) => format!("refused {}\n", refusal.number()),
+#[derive(Clone, Copy, Debug, PartialEq, Eq)]
+pub enum Program {
+    /// Prints a line for the policy and one for each event.
+    Enforce,
+    /// Prints the released stream for a wave viewer. It takes the same input,
+    /// and refuses what `enforce` refuses.
+    Wave,
+}
+
+impl Program {
+    pub fn named(name: &str) -> Option<Program> {
+        match name {
+            "enforce" => Some(Program::Enforce),
+            "wave" => Some(Program::Wave),
+            _ => None,
+        }
+    }
+
+    /// All that is to be printed.
+    pub fn printed(self, input: &[u8]) -> String {
+        match (Ran::of(input), self) {
+            (Ok(ran), Program::Enforce) => ran.lines(),
+            (Ok(ran), Program::Wave) => ran.wave(),
+            (Err(refusal), _) => format!("refused {}\n", refusal.number()),
+        }
     }
 }
 
-fn lines(input: &[u8]) -> Result<String, Refusal> {
-    let (file, rest) = counted(input, LONGEST_POLICY)?;
-    let mut marks = vec![0; MAX_STATES as usize];
-    let prepared = enforce::prepare(READING.number(), file, &mut marks)?;
-    let (events, rest) = counted(rest, MOST_EVENTS)?;
-    if !rest.is_empty() {
-        return Err(Refusal::LeftOver);
+/// An input that is not refused, and what is released for it.
+struct Ran<'a> {
+    file: &'a [u8],
+    prepared: Prepared,
+    events: &'a [u8],
+    released: Vec<u8>,
+}
+
+impl Ran<'_> {
+    fn of(input: &[u8]) -> Result<Ran<'_>, Refusal> {
+        let (file, rest) = counted(input, LONGEST_POLICY)?;
+        let mut marks = vec![0; MAX_STATES as usize];
+        let prepared = enforce::prepare(READING.number(), file, &mut marks)?;
+        let (events, rest) = counted(rest, MOST_EVENTS)?;
+        if !rest.is_empty() {
+            return Err(Refusal::LeftOver);
+        }
+        let mut released = vec![0; events.len()];
+        let mut state = [0; STATE_LENGTH];
+        let end = enforce::run(
+            READING.number(),
+            file,
+            &marks,
+            &mut state,
+            events,
+            &mut released,
+        );
+        match end.refusal {
+            Some(refusal) => Err(refusal),
+            None => Ok(Ran {
+                file,
+                prepared,
+                events,
+                released,
+            }),
+        }
     }
-    let mut released = vec![0; events.len()];
-    let mut state = [0; STATE_LENGTH];
-    let end = enforce::run(
-        READING.number(),
-        file,
-        &marks,
-        &mut state,
-        events,
-        &mut released,
-    );
-    if let Some(refusal) = end.refusal {
-        return Err(refusal);
+
+    fn lines(&self) -> String {
+        let prepared = &self.prepared;
+        let mut lines = format!(
+            "verdict {} states {} live {}\n",
+            prepared.verdict, prepared.states, prepared.live
+        );
+        for (place, (&event, &out)) in self.events.iter().zip(&self.released).enumerate() {
+            let letter = |same| if same { 'F' } else { 'E' };
+            let (x, y) = (event % 16, event / 16);
+            let (x_out, y_out) = (out % 16, out / 16);
+            let (input, output) = (letter(x == x_out), letter(y == y_out));
+            writeln!(
+                lines,
+                "{} {x} {y} {x_out} {y_out} {input}{output}",
+                place + 1
+            )
+            .expect("a string takes all");
+        }
+        lines
     }
-    let mut lines = format!(
-        "verdict {} states {} live {}\n",
-        prepared.verdict, prepared.states, prepared.live
-    );
-    for (place, (&event, &out)) in events.iter().zip(&released).enumerate() {
-        let letter = |same| if same { 'F' } else { 'E' };
-        let (x, y) = (event % 16, event / 16);
-        let (x_out, y_out) = (out % 16, out / 16);
-        let (input, output) = (letter(x == x_out), letter(y == y_out));
-        writeln!(
-            lines,
-            "{} {x} {y} {x_out} {y_out} {input}{output}",
-            place + 1
-        )
-        .expect("a string takes all");
+
+    fn wave(&self) -> String {
+        let policy = parse::check(self.file).expect("it was prepared");
+        waves::text_of(&policy, &self.released)
     }
-    Ok(lines)
 }
 
 /// The bytes after their two-byte count, and the rest.
@@ -175,9 +221,10 @@ fn run(words: &[&str], input: &[u8], random: &mut Random) -> io::Result<String> 
     String::from_utf8(output.stdout).map_err(io::Error::other)
 }
 
-/// Runs a program on random inputs while `goes_on`, and returns how many it
-/// printed right and how many of these were refusals.
+/// Runs a program, which the words name, on random inputs while `goes_on`, and
+/// returns how many it printed right and how many of these were refusals.
 pub fn compare(
+    program: Program,
     words: &[&str],
     seed: u64,
     mut goes_on: impl FnMut(u64) -> bool,
@@ -187,7 +234,7 @@ pub fn compare(
     let mut number = 0;
     while goes_on(number) {
         let input = some_input(seed, number);
-        let expected = printed(&input);
+        let expected = program.printed(&input);
         let found = run(words, &input, &mut random).map_err(|error| format!("{error}"))?;
         if found != expected {
             return Err(format!(
@@ -233,7 +280,20 @@ mod tests {
     #[test]
     fn the_sample_of_the_paper() {
         let expected = "verdict 1 states 2 live 1\n1 1 0 0 0 EF\n2 1 1 0 1 EF\n";
-        assert_eq!(printed(&input(samples::T, "00 02 01 11")), expected);
+        let input = input(samples::T, "00 02 01 11");
+        assert_eq!(Program::Enforce.printed(&input), expected);
+    }
+
+    /// What T releases for 01 11 is 00 10.
+    #[test]
+    fn the_wave_of_the_sample() {
+        let expected = "$timescale 100 ms $end\n\
+            $var wire 1 A A $end\n\
+            $var wire 1 B B $end\n\
+            $enddefinitions $end\n\
+            #0\n0A\n0B\n#1\n1B\n#2\n";
+        let input = input(samples::T, "00 02 01 11");
+        assert_eq!(Program::Wave.printed(&input), expected);
     }
 
     #[test]
@@ -250,14 +310,16 @@ mod tests {
             (input(samples::T, "00 01 02"), 15),
         ];
         for (input, number) in cases {
-            assert_eq!(printed(&input), format!("refused {number}\n"));
+            for program in [Program::Enforce, Program::Wave] {
+                assert_eq!(program.printed(&input), format!("refused {number}\n"));
+            }
         }
     }
 
     #[test]
     fn random_inputs_reach_lines_and_refusals() {
         let texts: Vec<String> = (0..600)
-            .map(|number| printed(&some_input(1, number)))
+            .map(|number| Program::Enforce.printed(&some_input(1, number)))
             .collect();
         for refusal in [1, 2, 3, 4, 5, 6, 7, 8, 9, 11, 15] {
             let line = format!("refused {refusal}\n");
@@ -271,6 +333,8 @@ mod tests {
 
     #[test]
     fn a_program_that_prints_something_else_is_noticed() {
-        assert!(compare(&["true"], 1, |number| number < 1).is_err());
+        for program in [Program::Enforce, Program::Wave] {
+            assert!(compare(program, &["true"], 1, |number| number < 1).is_err());
+        }
     }
 }

@@ -22,10 +22,12 @@ pub enum Refusal {
     NothingReachesLive = 17,
     TickLengthZero = 18,
     TooManyTicks = 19,
+    NotThisForm = 21,
     UnknownReading = 22,
+    TooManyEvents = 29,
 }
 
-pub const LAST_REFUSAL: usize = 22;
+pub const LAST_REFUSAL: usize = 29;
 
 impl Refusal {
     pub fn number(self) -> u8 {

@@ -10,7 +10,7 @@ use crate::written;
 pub const MAGIC: [u8; 4] = *b"GPV2";
 
 /// A random call whose record is longer than this is left out.
-const LONGEST_RECORD: usize = 1_200;
+const LONGEST_RECORD: usize = 700;
 /// No record is added once the file has this length.
 const LONGEST_FILE: usize = 295_000;
 /// The longest that a policy, unpacked, may be, and the slice for a join.
@@ -84,6 +84,9 @@ fn strings_fit(call: &Call) -> bool {
         } => (vec![file], vec![marks, events, released]),
         Call::Join { a, b, out } => (vec![a, b, out], vec![]),
         Call::Ticks { .. } => (vec![], vec![]),
+        Call::WaveWrite { file, events, text } | Call::WaveRead { file, text, events } => {
+            (vec![file], vec![events, text])
+        }
     };
     let fit =
         |strings: Vec<&Vec<u8>>, longest| strings.iter().all(|string| string.len() <= longest);
@@ -167,6 +170,16 @@ fn body(call: &Call, outcome: &Outcome) -> Vec<u8> {
             put_number(&mut body, *tick_length as usize);
             body.push(*up);
         }
+        Call::WaveWrite { file, events, text } => {
+            put_string(&mut body, file);
+            put_string(&mut body, events);
+            put_string(&mut body, text);
+        }
+        Call::WaveRead { file, text, events } => {
+            put_string(&mut body, file);
+            put_string(&mut body, text);
+            put_string(&mut body, events);
+        }
     }
     body.extend(outcome.answer.to_be_bytes());
     if writes_bytes(call.kind()) {
@@ -178,9 +191,9 @@ fn body(call: &Call, outcome: &Outcome) -> Vec<u8> {
     body
 }
 
-/// Prepare, run and join.
+/// Prepare, run, join and both functions of waves.
 pub fn writes_bytes(kind: usize) -> bool {
-    [0, 3, 4].contains(&kind)
+    [0, 3, 4, 6, 7].contains(&kind)
 }
 
 /// Output and run.
@@ -319,6 +332,16 @@ impl<'a> Reader<'a> {
                 tick_length: self.number(4)? as u32,
                 up: self.byte()?,
             },
+            7 => Call::WaveWrite {
+                file: self.string()?,
+                events: self.string()?,
+                text: self.string()?,
+            },
+            8 => Call::WaveRead {
+                file: self.string()?,
+                text: self.string()?,
+                events: self.string()?,
+            },
             _ => return Err(BROKEN.to_string()),
         })
     }
@@ -425,7 +448,8 @@ mod tests {
     fn a_changed_answer_is_noticed() {
         let mut file = vectors(0, 1);
         let last = file.len() - 1;
-        // The last record is a conversion, and the last byte its refusal.
+        // The last record is of a wave that is read, and the last byte one of
+        // the events that it leaves.
         file[last] ^= 1;
         assert!(replay(&file, &mut Model).is_err());
     }

@@ -8,6 +8,7 @@ mod leaving;
 mod readings;
 mod runs;
 mod times;
+mod waves;
 
 use crate::call::{from_hex, Call, Outcome};
 use crate::moment::STATE_LENGTH;
@@ -36,6 +37,7 @@ pub fn all() -> Vec<Written> {
         leaving::all(),
         readings::all(),
         times::all(),
+        waves::all(),
     ]
     .into_iter()
     .flatten()
@@ -81,8 +83,8 @@ mod tests {
             let refusal = refusal_in(written.expected.answer);
             seen[written.call.kind()][usize::from(refusal)] = true;
         }
-        // 20 and 21 are not given by any function.
-        for number in (0..=19).chain([22]) {
+        // The others are not given by any function.
+        for number in (0..=19).chain([21, 22, 29]) {
             assert!(seen.iter().any(|function| function[number]), "{number}");
         }
         // Those that take a reading.

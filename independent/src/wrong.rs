@@ -139,6 +139,10 @@ mod tests {
             "join Answer",
             "join Bytes",
             "ticks Answer",
+            "wave_write Answer",
+            "wave_write Bytes",
+            "wave_read Answer",
+            "wave_read Bytes",
         ];
         assert_eq!(named, expected);
     }

@@ -5,8 +5,9 @@ use Prim.Native.Nat.{ℕ, zero, suc, _+_, _/_, _%_, _^_, _≤_, _<_}
 use native.Mathlib.Nat.{zero-add}
 use native.Mathlib.Omega.{arith}
 use lib.ListN.{length, take, getD, length-append}
-use Rattle.console.specs.Text.{ascii, spaced, halves, letter, tickLine, eventLine, tickLines}
-use Rattle.console.specs.Decimal.{decimal-short}
+use Rattle.texts.specs.Text.{ascii}
+use Rattle.console.specs.Text.{spaced, halves, letter, tickLine, eventLine, tickLines}
+use Rattle.texts.specs.Decimal.{decimal-short}
 
 -- A number of at most k + 1 digits and a space; an event's halves.
 pub spaced-short : (n k : ℕ) → n < 10 ^ suc k → length (spaced n) ≤ k + 2

@@ -25,9 +25,9 @@ use Rattle.prepare.specs.declared.Prepared.{Prepared}
 use Rattle.prepare.specs.declared.Prepared.the-variants as Prepared
 use Rattle.console.specs.Text.{refusedLine}
 use Rattle.console.specs.Frame.{policyFrameRefusal, policyPart, eventsFrameRefusal, eventsPart}
-use Rattle.console.specs.Wrote.{Wrote, wrote-one, wrote-front, wrote-within}
+use Rattle.texts.specs.Wrote.{Wrote, wrote-one, wrote-front, wrote-within}
 use Rattle.console.specs.Printed.{unlessRefused, lent, ranInto, ranOver, summaryLines, enforcedText, printed}
-use Rattle.console.specs.Scratch.{prepare-alike, Alike, run-alike, start-is}
+use Rattle.console.specs.Scratch.{prepare-alike, Alike, run-alike, run-front, start-is}
 
 -- The bytes stand at the front of the text, and r is their number. What stood after them stays. The last two follow: they are what the loan of the
 -- first r bytes asks.
@@ -67,11 +67,11 @@ prepared-marks {file} {before} {after} {s} h =
       rw (← n, e) (take-at (marksOf p) _ _ (marks-length p)),
     )
 
-refused-text : (n : ℕ) (text : List ℕ) → (n ≡ 0 → ⊥) → unlessRefused n text ≡ refusedLine n
+pub refused-text : (n : ℕ) (text : List ℕ) → (n ≡ 0 → ⊥) → unlessRefused n text ≡ refusedLine n
 refused-text zero text h = absurd (h refl)
 refused-text (suc n) text h = refl
 
-lent-length : (n : ℕ) → length (lent n) ≡ n
+pub lent-length : (n : ℕ) → length (lent n) ≡ n
 unfolding lent
 lent-length n = length-replicate n 0
 
@@ -105,6 +105,16 @@ module _ (input : List ℕ) where
       ran-alike =
           subst (λ (q : RunAnswer). Alike (eventsPart input) q (ranOver (policyPart input) (eventsPart input))) ran-said
           (run-alike 1 _ _ _ (eventsPart input) released _ room (rw lent-length (le-refl (length (eventsPart input)))))
+
+      -- Its refusal, and without one what it releases.
+      pub run-over :
+          (r .refusal ≡ ranOver (policyPart input) (eventsPart input) .refusal)
+          × (r .refusal ≡ 0 → take (length (eventsPart input)) after ≡ ranOver (policyPart input) (eventsPart input) .out)
+      run-over = (
+        ran-alike .refusal,
+        subst (λ (q : RunAnswer). q .refusal ≡ 0 → take (length (eventsPart input)) (q .out) ≡ ranOver (policyPart input) (eventsPart input) .out) ran-said
+            (run-front 1 _ _ _ (eventsPart input) released _ room (lent-length (length (eventsPart input)))),
+      )
 
       pub run-refused : (r .refusal ≡ 0 → ⊥) → enforcedText input (gives s) ≡ refusedLine (r .refusal)
       unfolding enforcedText

@@ -1,12 +1,12 @@
 -- What the slices lent to prepare and to the run hold makes no difference to what is printed.
 use mathlib.Core.Path.{_≡_, refl, sym, ap, _∙_}
 use mathlib.Core.Bool.{Bool, true, false, cond, true≢false}
-use mathlib.Core.List.{List, [], _∷_, _++_, map}
+use mathlib.Core.List.{List, [], _∷_, _++_, map, append-nil}
 use mathlib.Core.Option.{Option, none, some}
 use Prim.Native.Nat.{ℕ, zero, suc, _+_, _-_, _≤_}
 use native.Mathlib.Nat.{le-refl}
 use native.Mathlib.Omega.{arith}
-use lib.ListN.{length, take, replicate, length-map, length-replicate, replicate-append-replicate}
+use lib.ListN.{length, take, replicate, drop-of-length-le, length-map, length-replicate, replicate-append-replicate}
 use lib.Seq.{take-at, take-all}
 use borrow.Author.Tests.{le-leb}
 use Rattle.streams.specs.Answer.{_orElse_, unless}
@@ -77,6 +77,26 @@ module _ (reading : ℕ) (file marks : List ℕ) (s : Place) (events a b : List 
             refusal = refl;
             lines = λ z. let n = f (moving (r .stuck) z) in released-lines events bytes _ n ∙ sym (released-lines events bytes _ n);
           }
+
+  -- The events released stand in front, and are the whole of a slice that is as long as the events.
+  pub run-front : length events ≤ length a → length b ≡ length events → runOf reading file marks s events a .refusal ≡ 0 →
+      take (length events) (runOf reading file marks s events a .out) ≡ runOf reading file marks s events b .out
+  unfolding runOf runRefusal
+  run-front h e =
+      let t = placeIn (policyOf reading file) s in
+      let r = ran (policyOf reading file) marks t (map eventOf events) in
+      rw (le-leb _ _ h, le-leb (length events) (length b) (omega arith))
+      (go (marksRefusal reading file marks orElse stateRefusal reading file marks s orElse unless (all (eventGood reading file) events) 15) r
+      (λ k. length-map (r .released) byteOf ∙ ran-all (policyOf reading file) marks t (map eventOf events) k ∙ length-map events eventOf))
+    where
+      go : (n : ℕ) (r : Ran) → (r .stuck ≡ false → length (map byteOf (r .released)) ≡ length events) → runFrom s a n r .refusal ≡ 0 →
+          take (length events) (runFrom s a n r .out) ≡ runFrom s b n r .out
+      go (suc n) r f z = absurd (omega arith)
+      go zero r f z =
+          let bytes = map byteOf (r .released) in
+          let k = f (moving (r .stuck) z) in
+          let l : length b ≤ length (r .released) = omega (arith, length-map (r .released) byteOf) in
+          take-at bytes _ _ k ∙ sym (ap (λ (rest : List ℕ). bytes ++ rest) (drop-of-length-le b l) ∙ append-nil bytes)
 
 -- "The start state is location 0 with every clock 0", whatever the clocks are.
 pub start-is : (p : Policy) → length (p .ceilings) ≤ 4 → stateOf (start p) ≡ asPlace startState

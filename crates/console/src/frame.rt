@@ -31,7 +31,7 @@ fn count_refusal(input: &[u8], at: usize, most: usize) -> u8
 }
 
 // Where the policy stands.
-pub(crate) fn policy_frame(input: &[u8]) -> Part
+pub fn policy_frame(input: &[u8]) -> Part
     ensures { λ r. ⌜ r ≡ policyFramed (now (input .entry)) ⌝ }
 {
     Part {
@@ -42,7 +42,7 @@ pub(crate) fn policy_frame(input: &[u8]) -> Part
 }
 
 // Where the events stand, after the policy.
-pub(crate) fn events_frame(input: &[u8]) -> Part
+pub fn events_frame(input: &[u8]) -> Part
     ensures { λ r. ⌜ r ≡ eventsFramed (now (input .entry)) ⌝ }
 {
     let at = 2 + pair_at(input, 0);

@@ -2,6 +2,9 @@
 mod frame;
 mod lines;
 mod reply;
-mod text;
 
+pub use frame::Part;
+pub use frame::events_frame;
+pub use frame::policy_frame;
+pub use lines::put_refused;
 pub use reply::respond;

@@ -1,13 +1,14 @@
 // The lines that are printed.
-use crate::text::put_bytes;
-use crate::text::put_decimal;
+use texts::put_bytes;
+use texts::put_decimal;
 ghost use mathlib.Core.Path.{_≡_};
 ghost use mathlib.Core.List.{_++_};
 ghost use Prim.Native.Nat.{_+_, _*_, _/_, _%_, _^_, _≤_, _<_};
 ghost use lib.ListN.{length};
-ghost use Rattle.console.specs.Text.{decimal, spaced, refusedLine, verdictLine, halves, eventLine, tickLines};
+ghost use Rattle.texts.specs.Text.{decimal};
+ghost use Rattle.console.specs.Text.{spaced, refusedLine, verdictLine, halves, eventLine, tickLines};
 ghost use Rattle.console.specs.Text.{letter as Text·letter};
-ghost use Rattle.console.specs.Wrote.{Wrote};
+ghost use Rattle.texts.specs.Wrote.{Wrote};
 
 // A label and a number.
 fn put_labelled(text: &mut [u8], at: usize, label: &[u8], n: usize) -> usize
@@ -28,7 +29,7 @@ fn put_spaced(text: &mut [u8], at: usize, n: usize) -> usize
 }
 
 // The one line of a refusal: at most 8 + 3 + 1 bytes.
-pub(crate) fn put_refused(text: &mut [u8], at: usize, n: u8) -> usize
+pub fn put_refused(text: &mut [u8], at: usize, n: u8) -> usize
     requires { ⌜ at + 12 ≤ length (now text) ⌝ }
     ensures { λ r. ⌜ Wrote (now (text .entry)) at (refusedLine n) r (now (text .exit)) ⌝ }
 {

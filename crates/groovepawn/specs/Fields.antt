@@ -45,7 +45,7 @@ pub summary-fields : (s : Summary) → Small s → SummaryFields s (summaryWord 
 summary-fields s h = record { none = omega arith; verdict = omega arith; states = omega arith; live = omega arith }
 
 -- An answer whose refusals are numbers of eight bits, and not 0, comes back from its word.
-answer-back : (a : Answer ℕ) (k : ℕ) → k < 256 → UpTo k a → answerIn (answerWord a) ≡ a
+pub answer-back : (a : Answer ℕ) (k : ℕ) → k < 256 → UpTo k a → answerIn (answerWord a) ≡ a
 answer-back (refused zero) k l h = absurd (omega arith)
 answer-back (refused (suc n)) k l h = let e : suc n % 256 ≡ suc n = omega arith in rw e
 answer-back (gives v) k l h = let f = answer-fields v in rw (f .0, f .1)

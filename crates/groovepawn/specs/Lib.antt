@@ -4,3 +4,4 @@ pub mod Numbers
 pub mod Bounds
 pub mod Stays
 pub mod Fields
+pub mod Waves

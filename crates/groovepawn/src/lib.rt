@@ -1,5 +1,7 @@
 // The entries for a controller in C: each answer is one number, and a state is five numbers, the location and then the four clock values.
 // What each call promises stands in specs/.
+mod viewer;
+
 use enforcer::Answer;
 use enforcer::Output;
 use enforcer::State;
@@ -12,6 +14,8 @@ use prepare::Prepared;
 use ticks::Conversion;
 use ticks::Milliseconds;
 use ticks::Rounding;
+pub use viewer::groovepawn_wave_read;
+pub use viewer::groovepawn_wave_write;
 ghost use mathlib.Core.Path.{_≡_};
 ghost use lib.ListN.{length};
 ghost use Rattle.enforcer.specs.Code.{asPlace};

@@ -34,6 +34,9 @@ pub use Rattle.enforcer.specs.Promises.{InputPromise, input-one, OutputPromise,
 pub use Rattle.join.specs.Promise.{JoinPromise, join-one}
 -- Milliseconds to ticks.
 pub use Rattle.ticks.specs.Conversion.{Converted, converted-one}
+-- The wave writer and the wave reader.
+pub use Rattle.waves.specs.Promise.{WritePromise, TakePromise}
+pub use Rattle.waves.specs.Laws.{write-one, take-one, written-reads, read-writes}
 -- The functions for a controller in C.
 pub use Rattle.groovepawn.specs.Calls.{
   PrepareCall,
@@ -49,9 +52,12 @@ pub use Rattle.groovepawn.specs.Calls.{
   join-one as c-join-one,
   ticks-one as c-ticks-one,
 }
+pub use Rattle.groovepawn.specs.Waves.{WaveWriteCall, WaveReadCall, wave-write-one, wave-read-one}
 -- The program `enforce`: `console::respond` writes the text `printed input`, and returns how many bytes it is.
 pub use Rattle.console.specs.Printed.{printed}
 pub use Rattle.console.specs.Reply.{Replied, replied-one}
+-- The program `wave`: `viewer::respond` writes the text `shown input` likewise.
+pub use Rattle.viewer.specs.Shown.{shown}
 use Rattle.prepare.specs.declared.Summary.{Summary}
 use Rattle.prepare.specs.declared.Prepared.{Prepared}
 use Rattle.prepare.specs.declared.Prepared.the-variants as Prepared

@@ -7,7 +7,7 @@ use mathlib.Core.Logic.{_↔_, ⊎-elim}
 use Prim.Native.Nat.{ℕ, zero, suc, _≤_}
 use native.Mathlib.Nat.{le-refl}
 use native.Mathlib.Omega.{arith}
-use lib.ListN.{length, getD, take, drop, length-append, length-replicate, drop-of-length-le}
+use lib.ListN.{length, getD, take, drop, length-append, drop-of-length-le}
 use lib.Seq.{take-at}
 use borrow.Author.Tests.{le-leb}
 use Rattle.streams.specs.Answer.{gives, _orElse_, unless, unless-le, else-le}
@@ -27,17 +27,14 @@ use Rattle.prepare.specs.Table.{marksOf}
 use Rattle.prepare.specs.Live.{marks-length}
 use Rattle.prepare.specs.Entry.{Summary, prepareOf}
 use Rattle.prepare.specs.Enforces.{Prepared, Ready, leads-start, leads-ready, never-stuck, ran-enforces}
-use Rattle.console.specs.Text.{verdictLine, refusedLine, decimal}
-use Rattle.console.specs.Decimal.{valueFrom, reads-back}
+use Rattle.texts.specs.Text.{decimal}
+use Rattle.console.specs.Text.{verdictLine, refusedLine}
+use Rattle.texts.specs.Decimal.{valueFrom, reads-back}
 use Rattle.console.specs.Frame.{countRefusal, policyFrameRefusal, policyPart, eventsFrameRefusal, eventsPart}
 use Rattle.console.specs.Printed.{unlessRefused, lent, ranOver, summaryLines, enforcedText, printed}
-use Rattle.console.specs.Reply.{Replied, replied-front}
+use Rattle.console.specs.Reply.{Replied, replied-front, lent-length}
 use Rattle.tender.specs.Granted.{well-formed, judged, given-passed, given-goes-on, state-ready, ready-state, run-ready}
 use Rattle.tender.specs.Demand2.{ReleasedFor, releases, as-many}
-
-lent-length : (n : ℕ) → length (lent n) ≡ n
-unfolding lent
-lent-length n = length-replicate n 0
 
 -- Two refusals that print the same are the same.
 refused-one : (n m : ℕ) → refusedLine n ≡ refusedLine m → n ≡ m

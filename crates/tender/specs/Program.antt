@@ -16,7 +16,8 @@ use Rattle.resting.specs.Table.{roundsBy, roundBy, tab}
 use Rattle.policy.specs.Rules as Rules
 use Rattle.resting.specs.Keeps.{keeps, leadsTo, stays, someEvent}
 use Rattle.prepare.specs.Entry.{prepareOf}
-use Rattle.console.specs.Text.{ascii, digits, decimal, verdictLine, refusedLine, tickLine, tickLines}
+use Rattle.texts.specs.Text.{ascii, digits, decimal}
+use Rattle.console.specs.Text.{verdictLine, refusedLine, tickLine, tickLines}
 use Rattle.console.specs.Frame.{countRefusal}
 use Rattle.console.specs.Printed.{lent, enforcedText, printed}
 use Rattle.tender.specs.Samples.{T}

@@ -136,3 +136,39 @@ pub(crate) fn ticks(cases: &[u8], at: Cursor) -> Outcome {
         next,
     }
 }
+
+pub(crate) fn wave_write(
+    cases: &[u8],
+    at: Cursor,
+    file: &[u8],
+    events: &[u8],
+    text: &mut [u8],
+) -> Outcome {
+    let got = groovepawn::groovepawn_wave_write(file, events, text);
+    let answer = at.long(cases);
+    let next = answer.next;
+    let bytes = next.same_string(cases, text);
+    let next = bytes.next;
+    Outcome {
+        differs: first_of(got == answer.value, bytes.same, true),
+        next,
+    }
+}
+
+pub(crate) fn wave_read(
+    cases: &[u8],
+    at: Cursor,
+    file: &[u8],
+    text: &[u8],
+    events: &mut [u8],
+) -> Outcome {
+    let got = groovepawn::groovepawn_wave_read(file, text, events);
+    let answer = at.long(cases);
+    let next = answer.next;
+    let bytes = next.same_string(cases, events);
+    let next = bytes.next;
+    Outcome {
+        differs: first_of(got == answer.value, bytes.same, true),
+        next,
+    }
+}

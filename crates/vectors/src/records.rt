@@ -108,11 +108,45 @@ fn join_record(cases: &[u8], at: Cursor) -> Outcome {
     )
 }
 
+// A record of a wave: a policy, what is read and what is written.
+fn wave_record(cases: &[u8], kind: Kind, at: Cursor) -> Outcome {
+    let mut file = [0u8; 8192];
+    let mut given = [0u8; 65600];
+    let mut lent = [0u8; 65600];
+    let taken = at.string(cases, &mut file);
+    let file_length = taken.count;
+    let next = taken.next;
+    let taken = next.string(cases, &mut given);
+    let given_length = taken.count;
+    let next = taken.next;
+    let taken = next.string(cases, &mut lent);
+    let room = taken.count;
+    let next = taken.next;
+    match kind {
+        Kind::WaveWrite => calls::wave_write(
+            cases,
+            next,
+            &file[..file_length],
+            &given[..given_length],
+            &mut lent[..room],
+        ),
+        _ => calls::wave_read(
+            cases,
+            next,
+            &file[..file_length],
+            &given[..given_length],
+            &mut lent[..room],
+        ),
+    }
+}
+
 // The body of a record.
 fn body(cases: &[u8], kind: Kind, at: Cursor) -> Outcome {
     match kind {
         Kind::Join => join_record(cases, at),
         Kind::Ticks => calls::ticks(cases, at),
+        Kind::WaveWrite => wave_record(cases, kind, at),
+        Kind::WaveRead => wave_record(cases, kind, at),
         Kind::Unknown => Outcome {
             differs: Differs::Nothing,
             next: at.lose(),

@@ -10,6 +10,8 @@ pub enum Kind {
     Run,
     Join,
     Ticks,
+    WaveWrite,
+    WaveRead,
     Unknown,
 }
 
@@ -22,6 +24,8 @@ impl Kind {
             4 => Kind::Run,
             5 => Kind::Join,
             6 => Kind::Ticks,
+            7 => Kind::WaveWrite,
+            8 => Kind::WaveRead,
             _ => Kind::Unknown,
         }
     }
@@ -34,6 +38,8 @@ impl Kind {
             Kind::Run => print(b"run"),
             Kind::Join => print(b"join"),
             Kind::Ticks => print(b"ticks"),
+            Kind::WaveWrite => print(b"wave_write"),
+            Kind::WaveRead => print(b"wave_read"),
             Kind::Unknown => print(b"unknown"),
         }
     }
@@ -47,6 +53,8 @@ struct Counts {
     run: u64,
     join: u64,
     ticks: u64,
+    wave_write: u64,
+    wave_read: u64,
 }
 
 impl Counts {
@@ -58,6 +66,8 @@ impl Counts {
             Kind::Run => self.run = one_more(self.run),
             Kind::Join => self.join = one_more(self.join),
             Kind::Ticks => self.ticks = one_more(self.ticks),
+            Kind::WaveWrite => self.wave_write = one_more(self.wave_write),
+            Kind::WaveRead => self.wave_read = one_more(self.wave_read),
             Kind::Unknown => {}
         }
         self
@@ -70,6 +80,8 @@ impl Counts {
         print_count(b"run ", self.run);
         print_count(b"join ", self.join);
         print_count(b"ticks ", self.ticks);
+        print_count(b"wave_write ", self.wave_write);
+        print_count(b"wave_read ", self.wave_read);
     }
 }
 
@@ -115,6 +127,8 @@ impl Tally {
                 run: 0,
                 join: 0,
                 ticks: 0,
+                wave_write: 0,
+                wave_read: 0,
             },
             different: 0,
             first: First::None,

@@ -1,9 +1,9 @@
 -- `console::lines::put_refused` meets its contract: at most three digits.
 use native.Mathlib.Omega.{arith}
 use borrow.Author.Needs.{needs}
-use Rattle.console.specs.Wrote.{wrote-then}
+use Rattle.texts.specs.Wrote.{wrote-then}
 use Rattle.console.specs.Text.{refusedLine}
-use Rattle.console.specs.Decimal.{decimal-short}
+use Rattle.texts.specs.Decimal.{decimal-short}
 use Rattle.console.proofs.lines.put_refused.Statement.{statement}
 use Rattle.console.proofs.lines.put_refused.Tie as tie
 

@@ -2,8 +2,8 @@
 use native.Mathlib.Omega.{arith}
 use lib.ListN.{length-append}
 use borrow.Author.Needs.{needs}
-use Rattle.console.specs.Wrote.{wrote-then}
-use Rattle.console.specs.Text.{ascii, decimal}
+use Rattle.texts.specs.Wrote.{wrote-then}
+use Rattle.texts.specs.Text.{ascii, decimal}
 use Rattle.console.proofs.lines.put_spaced.Statement.{statement}
 use Rattle.console.proofs.lines.put_spaced.Tie as tie
 

@@ -3,9 +3,10 @@ use Prim.Native.Nat.{_≤_}
 use native.Mathlib.Omega.{arith}
 use lib.ListN.{length}
 use borrow.Author.Needs.{needs}
-use Rattle.console.specs.Wrote.{wrote-then}
-use Rattle.console.specs.Text.{decimal, verdictLine}
-use Rattle.console.specs.Decimal.{decimal-short}
+use Rattle.texts.specs.Wrote.{wrote-then}
+use Rattle.texts.specs.Text.{decimal}
+use Rattle.console.specs.Text.{verdictLine}
+use Rattle.texts.specs.Decimal.{decimal-short}
 use Rattle.console.proofs.lines.put_verdict.Statement.{statement}
 use Rattle.console.proofs.lines.put_verdict.Tie as tie
 

@@ -13,7 +13,7 @@ use Rattle.enforcer.specs.declared.state.State.{State}
 use Rattle.prepare.specs.Promise.{summarySaid}
 use Rattle.console.specs.Frame.{policyEnd, eventsStart, eventsEnd, eventsPart, eventsFrameRefusal}
 use Rattle.console.specs.Framed.{part-between, events-fit}
-use Rattle.console.specs.Wrote.{wrote-then}
+use Rattle.texts.specs.Wrote.{wrote-then}
 use Rattle.console.specs.Reply.{replied, events-refused, run-refused, run-released}
 use Rattle.console.specs.declared.frame.Part.{Part}
 use Rattle.console.proofs.reply.reply_events.Statement.{statement}

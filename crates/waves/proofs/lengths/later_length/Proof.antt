@@ -1,0 +1,84 @@
+-- `waves::lengths::later_length` meets its contract. The invariant: the lines of the events before i are counted.
+use mathlib.Core.Path.{_≡_, ap}
+use Prim.Native.Nat.{_+_, _*_, _-_, _≤_}
+use native.Mathlib.Omega.{arith}
+use lib.ListN.{length, getD, drop}
+use denote.Ref.{now}
+use borrow.Author.Needs.{needs}
+use Rattle.waves.specs.Wave.{laterLines}
+use Rattle.waves.specs.Lengths.{later-length-turn, later-end}
+use Rattle.waves.proofs.lengths.later_length.Statement.{statement}
+use Rattle.waves.proofs.lengths.later_length.Tie as tie
+
+abbrev Inv-loop : tie.InvT-loop
+Inv-loop inputs outputs events total₀ before₀ i₀ total before i =
+    (1 ≤ i) × (i ≤ length events) × (total ≤ 16411 * i)
+    × (total + length (laterLines inputs outputs i before (drop i events)) ≡ length (laterLines inputs outputs 1 (getD events 0 0) (drop 1 events)))
+
+abbrev μ-loop : tie.MeasureT-loop
+μ-loop inputs outputs events total₀ before₀ i₀ total before i = length events - i
+
+shared-slice-read-before : tie.Need-shared-slice-read-before Inv-loop μ-loop
+shared-slice-read-before c = search needs
+
+loop-holds : tie.Need-loop-holds Inv-loop μ-loop
+loop-holds c = search needs
+
+shared-slice-read-event : tie.Need-shared-slice-read-event Inv-loop μ-loop
+shared-slice-read-event c = search needs
+
+change-length-requires : tie.Need-change-length-requires Inv-loop μ-loop
+change-length-requires c κs = search needs
+
+add-total : tie.Need-add-total Inv-loop μ-loop
+add-total c = search needs
+
+add-i : tie.Need-add-i Inv-loop μ-loop
+add-i c = search needs
+
+loop-less : tie.Need-loop-less Inv-loop μ-loop
+loop-less c = search needs
+
+loop-again : tie.Need-loop-again Inv-loop μ-loop
+loop-again c =
+    let l = c .before .before .before in
+    let s = l .before .before .before .before .before in
+    let x = now (s .args .inputs) in
+    let y = now (s .args .outputs) in
+    let z = now (s .args .events) in
+    let i = l .loop .i in
+    (omega arith, omega arith, omega arith, omega (arith, later-length-turn x y z i (l .loop .before) (omega arith)))
+
+time-length-requires : tie.Need-time-length-requires Inv-loop μ-loop
+time-length-requires c κs = search needs
+
+add-result : tie.Need-add-result Inv-loop μ-loop
+add-result c = search needs
+
+returns : tie.Need-returns Inv-loop μ-loop
+returns c =
+    let l = c .before .before in
+    let s = l .before .before .before .before .before in
+    let x = now (s .args .inputs) in
+    let y = now (s .args .outputs) in
+    let z = now (s .args .events) in
+    let i = l .loop .i in
+    (omega (arith, ap length (later-end x y z i (l .loop .before) (omega arith))), omega arith)
+
+pub later-length-spec : {M : Type 1} → statement M
+later-length-spec =
+    tie.close
+    (tie.spec
+    Inv-loop
+    μ-loop
+    shared-slice-read-before
+    loop-holds
+    shared-slice-read-event
+    change-length-requires
+    add-total
+    add-i
+    loop-less
+    loop-again
+    time-length-requires
+    add-result
+    returns)

@@ -1,0 +1,16 @@
+pub mod Wave
+pub mod Times
+pub mod Values
+pub mod Events
+pub mod Entry
+pub mod Steps
+pub mod Checked
+pub mod Streams
+pub mod Under
+pub mod Lengths
+pub mod Reached
+pub mod Read
+pub mod Next
+pub mod Found
+pub mod Promise
+pub mod Laws
