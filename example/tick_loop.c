@@ -1,6 +1,6 @@
 /*
  * A controller's loop over the policy "after R, C at latest on the fourth tick", under reading 1. The controller never gives C by itself.
- * Then the same ticks in one call, under each reading.
+ * Then the same ticks in one call, under each reading; and once more tick by tick, with an index that is built once.
  */
 #include <stdio.h>
 
@@ -59,6 +59,32 @@ static int run_under(uint8_t reading)
     return 0;
 }
 
+/* Takes the marks as they were last prepared, under this reading. */
+static int loop_with_index(uint8_t reading)
+{
+    uint16_t index[128];
+    uint16_t state[5] = {0, 0, 0, 0, 0};
+
+    uint32_t built = groovepawn_index(policy, sizeof policy, index, 128);
+    if (GROOVEPAWN_REFUSAL(built) != 0) {
+        printf("refused %u\n", (unsigned)GROOVEPAWN_REFUSAL(built));
+        return 1;
+    }
+    printf("reading %u, by an index:", (unsigned)reading);
+    for (size_t tick = 0; tick < sizeof sensor; tick++) {
+        uint32_t input = groovepawn_input_indexed(reading, policy, sizeof policy, index, 128, marks, sizeof marks, state, 5, sensor[tick]);
+        uint8_t x = (uint8_t)GROOVEPAWN_VALUE(input);
+        uint32_t output = groovepawn_output_indexed(reading, policy, sizeof policy, index, 128, marks, sizeof marks, state, 5, x, controller(x));
+        if (GROOVEPAWN_REFUSAL(input) != 0 || GROOVEPAWN_REFUSAL(output) != 0) {
+            printf(" refused %u, %u\n", (unsigned)GROOVEPAWN_REFUSAL(input), (unsigned)GROOVEPAWN_REFUSAL(output));
+            return 1;
+        }
+        printf(" %02X", (unsigned)(x | GROOVEPAWN_VALUE(output) << 4));
+    }
+    printf("\n");
+    return 0;
+}
+
 int main(void)
 {
     uint16_t state[5] = {0, 0, 0, 0, 0};
@@ -88,5 +114,5 @@ int main(void)
         printf("tick %u: input %u passed as %u, output %u put out as %u, event %02X, then location %u and clock %u\n", (unsigned)(tick + 1),
                (unsigned)sensor[tick], (unsigned)x, (unsigned)wanted, (unsigned)y, (unsigned)(x | y << 4), (unsigned)state[0], (unsigned)state[1]);
     }
-    return run_under(1) != 0 || run_under(2) != 0;
+    return run_under(1) != 0 || run_under(2) != 0 || loop_with_index(2) != 0;
 }

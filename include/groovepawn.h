@@ -16,6 +16,7 @@
  *   x, y    an input, an output: bit 0 is the first signal of its section of the file
  *   event   one byte: input x in the low four bits, output y in the high four
  *   text    a wave: a Value Change Dump (IEEE 1364) of a stream. 497,013 bytes are always enough
+ *   index   128 numbers: for each of 64 locations the number of its first rule, counted from 0, and how many rules it has
  *
  * Readings. Contracts read a deadline in two ways, and the caller names one, by the number 1 or 2, as the first argument:
  *
@@ -51,9 +52,10 @@
  *   19  the tick count is above 1,000
  *   21  a text is not one that groovepawn_wave_write makes, or holds a time above 16,384
  *   22  the reading is neither 1 nor 2
+ *   28  the index is not that of the file, or not 128 numbers
  *   29  a stream to be written as a wave has over 16,384 events
  *
- * Where several hold, the first in this order is given: 22, 1 to 9 as they come in the file, 10, 11, 14, 16, 15, 17. A join asks 1 to 9 of its first
+ * Where several hold, the first in this order is given: 22, 1 to 9 as they come in the file, 28, 10, 11, 14, 16, 15, 17. A join asks 1 to 9 of its first
  * file, then of its second, then 12, 13, 14. A conversion asks 18, then 19. After 1 to 9 the writer of waves asks 29, 15, 14, their reader 21, 14.
  * With the marks of groovepawn_prepare under the same reading and a live state, groovepawn_input and groovepawn_run never give 17.
  *
@@ -137,6 +139,23 @@ uint64_t groovepawn_wave_write(const uint8_t *file, size_t file_len, const uint8
  * other bytes stay. 16,384 bytes are always enough. With a refusal events stays as given.
  */
 uint64_t groovepawn_wave_read(const uint8_t *file, size_t file_len, const uint8_t *text, size_t text_len, uint8_t *events, size_t events_len);
+
+/*
+ * The index of a policy, to be built once and kept beside it: index[2 * l] is the number of the first rule of location l, which is always the count of
+ * rules with a lower source, and index[2 * l + 1] is how many rules l has. Past the locations both are 0. It takes no reading: a file has one index.
+ * Refusals 1 to 9, 14 (fewer than 128 numbers). Returns the refusal. The first 128 numbers are written, and those past them stay.
+ */
+uint32_t groovepawn_index(const uint8_t *file, size_t file_len, uint16_t *index, size_t index_len);
+
+/*
+ * The halves of a tick with an index, so that the rules of the location need not be looked for: the same answers as groovepawn_input and
+ * groovepawn_output give for the same arguments. An index that is not that of the file is refused by 28 and never followed.
+ * Refusals 22, 1 to 9, 28, 10, 16, 15, 17.
+ */
+uint32_t groovepawn_input_indexed(uint8_t reading, const uint8_t *file, size_t file_len, const uint16_t *index, size_t index_len,
+                                  const uint8_t *marks, size_t marks_len, const uint16_t *state, size_t state_len, uint8_t x);
+uint32_t groovepawn_output_indexed(uint8_t reading, const uint8_t *file, size_t file_len, const uint16_t *index, size_t index_len,
+                                   const uint8_t *marks, size_t marks_len, uint16_t *state, size_t state_len, uint8_t x, uint8_t y);
 
 #ifdef __cplusplus
 }

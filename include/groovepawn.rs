@@ -79,4 +79,38 @@ extern "C" {
         events: *mut u8,
         events_len: usize,
     ) -> u64;
+
+    pub fn groovepawn_index(
+        file: *const u8,
+        file_len: usize,
+        index: *mut u16,
+        index_len: usize,
+    ) -> u32;
+
+    pub fn groovepawn_input_indexed(
+        reading: u8,
+        file: *const u8,
+        file_len: usize,
+        index: *const u16,
+        index_len: usize,
+        marks: *const u8,
+        marks_len: usize,
+        state: *const u16,
+        state_len: usize,
+        x: u8,
+    ) -> u32;
+
+    pub fn groovepawn_output_indexed(
+        reading: u8,
+        file: *const u8,
+        file_len: usize,
+        index: *const u16,
+        index_len: usize,
+        marks: *const u8,
+        marks_len: usize,
+        state: *mut u16,
+        state_len: usize,
+        x: u8,
+        y: u8,
+    ) -> u32;
 }

@@ -19,6 +19,8 @@ mod engine;
 mod events;
 #[path = "../../independent/src/graph.rs"]
 mod graph;
+#[path = "../../independent/src/index.rs"]
+mod index;
 #[path = "../../independent/src/join.rs"]
 mod join;
 #[path = "../../independent/src/laws.rs"]
@@ -133,8 +135,38 @@ impl Engine for PlainSide {
         Plain.wave_read(file, text, events)
     }
 
-    /// The conversion is not measured, so the plain program has none.
+    // What follows is not measured, so the plain program has none of it.
+
     fn ticks(&mut self, milliseconds: u32, tick_length: u32, up: u8) -> u64 {
         Model.ticks(milliseconds, tick_length, up)
+    }
+
+    fn index(&mut self, file: &[u8], index: &mut [u16]) -> u64 {
+        Model.index(file, index)
+    }
+
+    fn input_indexed(
+        &mut self,
+        reading: u8,
+        file: &[u8],
+        index: &[u16],
+        marks: &[u8],
+        state: &[u16],
+        x: u8,
+    ) -> u64 {
+        Model.input_indexed(reading, file, index, marks, state, x)
+    }
+
+    fn output_indexed(
+        &mut self,
+        reading: u8,
+        file: &[u8],
+        index: &[u16],
+        marks: &[u8],
+        state: &mut [u16],
+        x: u8,
+        y: u8,
+    ) -> u64 {
+        Model.output_indexed(reading, file, index, marks, state, x, y)
     }
 }

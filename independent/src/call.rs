@@ -53,10 +53,31 @@ pub enum Call {
         text: Vec<u8>,
         events: Vec<u8>,
     },
+    Index {
+        file: Vec<u8>,
+        index: Vec<u16>,
+    },
+    InputIndexed {
+        reading: u8,
+        file: Vec<u8>,
+        marks: Vec<u8>,
+        state: Vec<u16>,
+        index: Vec<u16>,
+        x: u8,
+    },
+    OutputIndexed {
+        reading: u8,
+        file: Vec<u8>,
+        marks: Vec<u8>,
+        state: Vec<u16>,
+        index: Vec<u16>,
+        x: u8,
+        y: u8,
+    },
 }
 
 /// The functions, in the order of `Call::kind`.
-pub const FUNCTIONS: [&str; 8] = [
+pub const FUNCTIONS: [&str; 11] = [
     "prepare",
     "input",
     "output",
@@ -65,16 +86,31 @@ pub const FUNCTIONS: [&str; 8] = [
     "ticks",
     "wave_write",
     "wave_read",
+    "index",
+    "input_indexed",
+    "output_indexed",
 ];
 
+/// One thing that a function is given.
+pub enum Given<'a> {
+    Byte(u8),
+    Word(u32),
+    /// A policy, or the slice for one.
+    Policy(&'a [u8]),
+    /// Marks, events, the text of a wave, or a slice for them.
+    Bytes(&'a [u8]),
+    /// A state, or what else is lent as numbers of 16 bits.
+    Numbers(&'a [u16]),
+}
+
 /// An answer and the later contents of what was lent for writing.
-#[derive(Clone, Debug, PartialEq, Eq)]
+#[derive(Clone, Debug, Default, PartialEq, Eq)]
 pub struct Outcome {
     pub answer: u64,
     /// The marks of prepare, the released events of run, the file of join, the
     /// text of the wave writer, the events of its reader; otherwise empty.
     pub bytes: Vec<u8>,
-    /// The state of output and run; otherwise empty.
+    /// The state of output and run, the index; otherwise empty.
     pub state: Vec<u16>,
     /// A byte not lent for writing was changed.
     pub strayed: bool,
@@ -92,16 +128,134 @@ impl Call {
             Call::Ticks { .. } => 5,
             Call::WaveWrite { .. } => 6,
             Call::WaveRead { .. } => 7,
+            Call::Index { .. } => 8,
+            Call::InputIndexed { .. } => 9,
+            Call::OutputIndexed { .. } => 10,
         }
     }
 
-    /// The reading that the caller names; joins, conversions and waves take none.
+    /// All that the function is given, by name, in the order of a stored case.
+    pub fn given(&self) -> Vec<(&'static str, Given<'_>)> {
+        use Given::*;
+        match self {
+            Call::Prepare {
+                reading,
+                file,
+                marks,
+            } => vec![
+                ("reading", Byte(*reading)),
+                ("file", Policy(file)),
+                ("marks before", Bytes(marks)),
+            ],
+            Call::Input {
+                reading,
+                file,
+                marks,
+                state,
+                x,
+            } => vec![
+                ("reading", Byte(*reading)),
+                ("file", Policy(file)),
+                ("marks", Bytes(marks)),
+                ("state", Numbers(state)),
+                ("x", Byte(*x)),
+            ],
+            Call::Output {
+                reading,
+                file,
+                marks,
+                state,
+                x,
+                y,
+            } => vec![
+                ("reading", Byte(*reading)),
+                ("file", Policy(file)),
+                ("marks", Bytes(marks)),
+                ("state before", Numbers(state)),
+                ("x", Byte(*x)),
+                ("y", Byte(*y)),
+            ],
+            Call::Run {
+                reading,
+                file,
+                marks,
+                state,
+                events,
+                released,
+            } => vec![
+                ("reading", Byte(*reading)),
+                ("file", Policy(file)),
+                ("marks", Bytes(marks)),
+                ("state before", Numbers(state)),
+                ("events", Bytes(events)),
+                ("released before", Bytes(released)),
+            ],
+            Call::Join { a, b, out } => vec![
+                ("a", Policy(a)),
+                ("b", Policy(b)),
+                ("out before", Policy(out)),
+            ],
+            Call::Ticks {
+                milliseconds,
+                tick_length,
+                up,
+            } => vec![
+                ("milliseconds", Word(*milliseconds)),
+                ("tick length", Word(*tick_length)),
+                ("up", Byte(*up)),
+            ],
+            Call::WaveWrite { file, events, text } => vec![
+                ("file", Policy(file)),
+                ("events", Bytes(events)),
+                ("text before", Bytes(text)),
+            ],
+            Call::WaveRead { file, text, events } => vec![
+                ("file", Policy(file)),
+                ("text", Bytes(text)),
+                ("events before", Bytes(events)),
+            ],
+            Call::Index { file, index } => {
+                vec![("file", Policy(file)), ("index before", Numbers(index))]
+            }
+            Call::InputIndexed {
+                reading,
+                file,
+                marks,
+                state,
+                index,
+                x,
+            } => vec![
+                ("reading", Byte(*reading)),
+                ("file", Policy(file)),
+                ("marks", Bytes(marks)),
+                ("state", Numbers(state)),
+                ("index", Numbers(index)),
+                ("x", Byte(*x)),
+            ],
+            Call::OutputIndexed {
+                reading,
+                file,
+                marks,
+                state,
+                index,
+                x,
+                y,
+            } => vec![
+                ("reading", Byte(*reading)),
+                ("file", Policy(file)),
+                ("marks", Bytes(marks)),
+                ("state before", Numbers(state)),
+                ("index", Numbers(index)),
+                ("x", Byte(*x)),
+                ("y", Byte(*y)),
+            ],
+        }
+    }
+
+    /// The reading that the caller names, if the function takes one.
     pub fn reading(&self) -> Option<u8> {
-        match *self {
-            Call::Prepare { reading, .. }
-            | Call::Input { reading, .. }
-            | Call::Output { reading, .. }
-            | Call::Run { reading, .. } => Some(reading),
+        match self.given()[0] {
+            ("reading", Given::Byte(reading)) => Some(reading),
             _ => None,
         }
     }
@@ -112,8 +266,32 @@ impl Call {
             Call::Prepare { reading, .. }
             | Call::Input { reading, .. }
             | Call::Output { reading, .. }
-            | Call::Run { reading, .. } => *reading = other,
-            _ => {}
+            | Call::Run { reading, .. }
+            | Call::InputIndexed { reading, .. }
+            | Call::OutputIndexed { reading, .. } => *reading = other,
+            Call::Join { .. }
+            | Call::Ticks { .. }
+            | Call::WaveWrite { .. }
+            | Call::WaveRead { .. }
+            | Call::Index { .. } => {}
+        }
+        self
+    }
+
+    /// The same call about another file.
+    pub fn with_file(mut self, other: Vec<u8>) -> Call {
+        match &mut self {
+            Call::Prepare { file, .. }
+            | Call::Input { file, .. }
+            | Call::Output { file, .. }
+            | Call::Run { file, .. }
+            | Call::WaveWrite { file, .. }
+            | Call::WaveRead { file, .. }
+            | Call::Index { file, .. }
+            | Call::InputIndexed { file, .. }
+            | Call::OutputIndexed { file, .. } => *file = other,
+            Call::Join { a, .. } => *a = other,
+            Call::Ticks { .. } => {}
         }
         self
     }
@@ -153,6 +331,24 @@ impl Call {
             } => engine.ticks(*milliseconds, *tick_length, *up),
             Call::WaveWrite { file, events, .. } => engine.wave_write(file, events, &mut bytes),
             Call::WaveRead { file, text, .. } => engine.wave_read(file, text, &mut bytes),
+            Call::Index { file, .. } => engine.index(file, &mut lent_state),
+            Call::InputIndexed {
+                reading,
+                file,
+                marks,
+                state,
+                index,
+                x,
+            } => engine.input_indexed(*reading, file, index, marks, state, *x),
+            Call::OutputIndexed {
+                reading,
+                file,
+                marks,
+                index,
+                x,
+                y,
+                ..
+            } => engine.output_indexed(*reading, file, index, marks, &mut lent_state, *x, *y),
         };
         Outcome {
             answer,
@@ -174,10 +370,13 @@ impl Call {
         }
     }
 
-    /// The state lent for writing, as it is before.
+    /// The state or the index lent for writing, as it is before.
     pub fn lent_state(&self) -> &[u16] {
         match self {
-            Call::Output { state, .. } | Call::Run { state, .. } => state,
+            Call::Output { state, .. }
+            | Call::Run { state, .. }
+            | Call::OutputIndexed { state, .. } => state,
+            Call::Index { index, .. } => index,
             _ => &[],
         }
     }
@@ -186,74 +385,20 @@ impl Call {
 impl fmt::Display for Call {
     fn fmt(&self, out: &mut fmt::Formatter) -> fmt::Result {
         writeln!(out, "function {}", FUNCTIONS[self.kind()])?;
-        match self {
-            Call::Prepare {
-                reading,
-                file,
-                marks,
-            } => {
-                writeln!(out, "reading {reading}\nfile {}", hex(file))?;
-                writeln!(out, "marks before {}", hex(marks))
-            }
-            Call::Input {
-                reading,
-                file,
-                marks,
-                state,
-                x,
-            } => {
-                writeln!(out, "reading {reading}\nfile {}", hex(file))?;
-                writeln!(out, "marks {}", hex(marks))?;
-                writeln!(out, "state {state:?}\nx {x}")
-            }
-            Call::Output {
-                reading,
-                file,
-                marks,
-                state,
-                x,
-                y,
-            } => {
-                writeln!(out, "reading {reading}\nfile {}", hex(file))?;
-                writeln!(out, "marks {}", hex(marks))?;
-                writeln!(out, "state before {state:?}\nx {x}\ny {y}")
-            }
-            Call::Run {
-                reading,
-                file,
-                marks,
-                state,
-                events,
-                released,
-            } => {
-                writeln!(out, "reading {reading}\nfile {}", hex(file))?;
-                writeln!(out, "marks {}", hex(marks))?;
-                writeln!(out, "state before {state:?}")?;
-                writeln!(out, "events {}", hex(events))?;
-                writeln!(out, "released before {}", hex(released))
-            }
-            Call::Join { a, b, out: lent } => {
-                writeln!(out, "a {}\nb {}", hex(a), hex(b))?;
-                writeln!(out, "out before {}", hex(lent))
-            }
-            Call::Ticks {
-                milliseconds,
-                tick_length,
-                up,
-            } => {
-                writeln!(out, "milliseconds {milliseconds}")?;
-                writeln!(out, "tick length {tick_length}\nup {up}")
-            }
-            Call::WaveWrite { file, events, text } => {
-                writeln!(out, "file {}\nevents {}", hex(file), hex(events))?;
-                writeln!(out, "text before {}", hex(text))
-            }
-            Call::WaveRead { file, text, events } => {
-                writeln!(out, "file {}\ntext {}", hex(file), hex(text))?;
-                writeln!(out, "in letters {:?}", String::from_utf8_lossy(text))?;
-                writeln!(out, "events before {}", hex(events))
+        for (name, given) in self.given() {
+            match given {
+                Given::Byte(byte) => writeln!(out, "{name} {byte}")?,
+                Given::Word(word) => writeln!(out, "{name} {word}")?,
+                Given::Policy(bytes) | Given::Bytes(bytes) => {
+                    writeln!(out, "{name} {}", hex(bytes))?
+                }
+                Given::Numbers(numbers) => writeln!(out, "{name} {numbers:?}")?,
             }
         }
+        if let Call::WaveRead { text, .. } = self {
+            writeln!(out, "text in letters {:?}", String::from_utf8_lossy(text))?;
+        }
+        Ok(())
     }
 }
 

@@ -4,6 +4,7 @@
 
 use crate::call::Call;
 use crate::damage;
+use crate::index::{self, INDEX_LENGTH};
 use crate::join;
 use crate::moment::STATE_LENGTH;
 use crate::policies::{self, Family, Size};
@@ -55,6 +56,10 @@ fn around_policy(random: &mut Random) -> Vec<Call> {
         made.push(output_call(random, &subject));
         made.push(run_call(random, &subject));
     }
+    made.push(index_call(random, &subject));
+    for _ in 0..calls.min(2) {
+        made.push(indexed_call(random, &subject));
+    }
     made
 }
 
@@ -102,29 +107,16 @@ fn around_damage(random: &mut Random) -> Vec<Call> {
             file: file.clone(),
             marks,
         });
-        made.push(with_file(input_call(random, &subject), file.clone()));
-        made.push(with_file(output_call(random, &subject), file.clone()));
-        made.push(with_file(run_call(random, &subject), file.clone()));
+        made.push(input_call(random, &subject).with_file(file.clone()));
+        made.push(output_call(random, &subject).with_file(file.clone()));
+        made.push(run_call(random, &subject).with_file(file.clone()));
         let wave = Wave::new(random, subject.policy.clone());
-        made.push(with_file(wave.write_call(random), file.clone()));
-        made.push(with_file(wave.read_call(random), file));
+        made.push(wave.write_call(random).with_file(file.clone()));
+        made.push(wave.read_call(random).with_file(file.clone()));
+        made.push(index_call(random, &subject).with_file(file.clone()));
+        made.push(indexed_call(random, &subject).with_file(file));
     }
     made
-}
-
-/// The same call about another file.
-fn with_file(mut call: Call, other: Vec<u8>) -> Call {
-    match &mut call {
-        Call::Prepare { file, .. }
-        | Call::Input { file, .. }
-        | Call::Output { file, .. }
-        | Call::Run { file, .. }
-        | Call::WaveWrite { file, .. }
-        | Call::WaveRead { file, .. } => *file = other,
-        Call::Join { a, .. } => *a = other,
-        Call::Ticks { .. } => {}
-    }
-    call
 }
 
 /// A short file cut off at every place.
@@ -410,6 +402,104 @@ fn around_wave(random: &mut Random) -> Vec<Call> {
     made
 }
 
+fn index_call(random: &mut Random, subject: &Subject) -> Call {
+    let length = match random.below(10) {
+        0..=6 => INDEX_LENGTH,
+        7 => INDEX_LENGTH + random.between(1, 8),
+        8 => INDEX_LENGTH - 1,
+        _ => random.between(0, INDEX_LENGTH),
+    };
+    Call::Index {
+        file: subject.file.clone(),
+        index: some_numbers(random, length),
+    }
+}
+
+/// A half with an index, which is mostly that of the file.
+fn indexed_call(random: &mut Random, subject: &Subject) -> Call {
+    let index = some_index(random, &subject.policy);
+    let half = match random.percent(50) {
+        true => input_call(random, subject),
+        false => output_call(random, subject),
+    };
+    match half {
+        Call::Input {
+            reading,
+            file,
+            marks,
+            state,
+            x,
+        } => Call::InputIndexed {
+            reading,
+            file,
+            marks,
+            state,
+            index,
+            x,
+        },
+        Call::Output {
+            reading,
+            file,
+            marks,
+            state,
+            x,
+            y,
+        } => Call::OutputIndexed {
+            reading,
+            file,
+            marks,
+            state,
+            index,
+            x,
+            y,
+        },
+        other => other,
+    }
+}
+
+/// Mostly the index of the policy; else wrong in one number, or in its length.
+fn some_index(random: &mut Random, policy: &Policy) -> Vec<u16> {
+    let mut index = index::index_of(policy).to_vec();
+    let used = 2 * policy.locations();
+    match random.below(100) {
+        0..=69 => {}
+        // One number of a location, mostly one more or one less.
+        70..=79 => {
+            let place = random.between(0, used - 1);
+            index[place] = match random.below(3) {
+                0 => index[place].wrapping_add(1),
+                1 => index[place].wrapping_sub(1),
+                _ => random.next() as u16,
+            };
+        }
+        // One number past the locations, or the last one.
+        80..=84 => {
+            let place = random.between(used.min(INDEX_LENGTH - 1), INDEX_LENGTH - 1);
+            index[place] = index[place].wrapping_add(random.between(1, 300) as u16);
+        }
+        85..=87 => index.truncate(INDEX_LENGTH - 1),
+        88..=90 => index.push(0),
+        91..=93 => index.truncate(random.between(0, used)),
+        94..=96 => index = vec![0; INDEX_LENGTH],
+        _ => {
+            // As if the first rule of a location without rules were 0.
+            let empty = |place: &usize| index[place + 1] == 0 && index[*place] != 0;
+            if let Some(place) = (0..used).step_by(2).find(empty) {
+                index[place] = 0;
+            }
+        }
+    }
+    index
+}
+
+/// What a slice of numbers holds before a call.
+fn some_numbers(random: &mut Random, length: usize) -> Vec<u16> {
+    match random.percent(50) {
+        true => vec![0xEEEE; length],
+        false => (0..length).map(|_| random.next() as u16).collect(),
+    }
+}
+
 fn around_ticks(random: &mut Random) -> Vec<Call> {
     (0..8).map(|_| ticks_call(random)).collect()
 }
@@ -450,6 +540,24 @@ fn near(random: &mut Random, number: u32) -> u32 {
     }
 }
 
+/// Every refusal that a function can give, and 0 for none.
+#[cfg(test)]
+pub fn refusals_of(function: &str) -> Vec<usize> {
+    let own: &[usize] = match function {
+        "ticks" => return vec![0, 18, 19],
+        "prepare" => &[10, 11, 22],
+        "input" | "output" => &[10, 15, 16, 17, 22],
+        "run" => &[10, 14, 15, 16, 17, 22],
+        "join" => &[12, 13, 14],
+        "wave_write" => &[14, 15, 29],
+        "wave_read" => &[14, 21],
+        "index" => &[14],
+        "input_indexed" | "output_indexed" => &[10, 15, 16, 17, 22, 28],
+        _ => panic!("{function} is none"),
+    };
+    (0..=9).chain(own.iter().copied()).collect()
+}
+
 #[cfg(test)]
 mod tests {
     use super::*;
@@ -475,22 +583,14 @@ mod tests {
                 seen[call.kind()][usize::from(refusal)] += 1;
             }
         }
-        let file = [1, 2, 3, 4, 5, 6, 7, 8, 9];
-        let own: [&[usize]; FUNCTIONS.len()] = [
-            &[10, 11, 22],
-            &[10, 15, 16, 17, 22],
-            &[10, 15, 16, 17, 22],
-            &[10, 14, 15, 16, 17, 22],
-            &[12, 13, 14],
-            &[18, 19],
-            &[14, 15, 29],
-            &[14, 21],
-        ];
-        for (kind, own) in own.iter().enumerate() {
-            let files: &[usize] = if kind == 5 { &[] } else { &file };
+        for (kind, function) in FUNCTIONS.iter().enumerate() {
+            let possible = refusals_of(function);
             for (number, &count) in seen[kind].iter().enumerate() {
-                let possible = number == 0 || files.contains(&number) || own.contains(&number);
-                assert_eq!(count > 0, possible, "{} {number}: {count}", FUNCTIONS[kind]);
+                assert_eq!(
+                    count > 0,
+                    possible.contains(&number),
+                    "{function} {number}: {count}"
+                );
             }
         }
     }

@@ -156,6 +156,7 @@ fn compare_laws(
 #[cfg(test)]
 mod tests {
     use super::*;
+    use crate::index;
     use crate::moment::STATE_LENGTH;
     use crate::parse;
     use crate::policy::Policy;
@@ -213,9 +214,15 @@ mod tests {
         WaveEventsOnRefusal,
         WavePastTheEvents,
         Stray,
+        EmptyLocationFirstIsNone,
+        IndexPastTheLocations,
+        AnyLengthOfIndex,
+        IndexNotLookedAt,
+        OwnEntryOnly,
+        MarksBeforeIndex,
     }
 
-    const FAULTS: [Fault; 42] = [
+    const FAULTS: [Fault; 48] = [
         Fault::RefuseAlways,
         Fault::ForwardEverything,
         Fault::SmallestAmongEquals,
@@ -258,6 +265,12 @@ mod tests {
         Fault::WaveEventsOnRefusal,
         Fault::WavePastTheEvents,
         Fault::Stray,
+        Fault::EmptyLocationFirstIsNone,
+        Fault::IndexPastTheLocations,
+        Fault::AnyLengthOfIndex,
+        Fault::IndexNotLookedAt,
+        Fault::OwnEntryOnly,
+        Fault::MarksBeforeIndex,
     ];
 
     impl Spoilt {
@@ -304,6 +317,35 @@ mod tests {
             match self.has(Fault::AnyMarkIsLive) {
                 true => marks.iter().map(|&mark| mark.min(1)).collect(),
                 false => marks.to_vec(),
+            }
+        }
+
+        /// The index as a spoilt reader sees it: where it would take a wrong
+        /// one, it sees the right one.
+        fn seen_index(&self, file: &[u8], lent: &[u16], marks: &[u8], state: &[u16]) -> Vec<u16> {
+            let Ok(policy) = parse::check(file) else {
+                return lent.to_vec();
+            };
+            let right = index::index_of(&policy).to_vec();
+            let used = 2 * policy.locations();
+            let own = state
+                .first()
+                .map_or(0, |&location| 2 * usize::from(location));
+            let taken = match self.fault {
+                Fault::IndexNotLookedAt => lent.len() == right.len(),
+                Fault::AnyLengthOfIndex => lent.starts_with(&right[..used]),
+                Fault::IndexPastTheLocations => {
+                    lent.len() == right.len() && lent[..used] == right[..used]
+                }
+                Fault::OwnEntryOnly => {
+                    lent.len() == right.len() && lent.get(own..own + 2) == right.get(own..own + 2)
+                }
+                Fault::MarksBeforeIndex => (marks.len() as u64) < policy.states(),
+                _ => false,
+            };
+            match taken {
+                true => right,
+                false => lent.to_vec(),
             }
         }
 
@@ -529,6 +571,42 @@ mod tests {
                 events[count] = 0;
             }
             answer
+        }
+        fn index(&mut self, file: &[u8], index: &mut [u16]) -> u64 {
+            let answer = Model.index(file, index);
+            if self.has(Fault::EmptyLocationFirstIsNone) && answer == 0 {
+                for entry in index.chunks_mut(2).filter(|entry| entry[1..] == [0]) {
+                    entry[0] = 0;
+                }
+            }
+            answer
+        }
+
+        fn input_indexed(
+            &mut self,
+            reading: u8,
+            file: &[u8],
+            index: &[u16],
+            marks: &[u8],
+            state: &[u16],
+            x: u8,
+        ) -> u64 {
+            let index = self.seen_index(file, index, marks, state);
+            Model.input_indexed(reading, file, &index, marks, state, x)
+        }
+
+        fn output_indexed(
+            &mut self,
+            reading: u8,
+            file: &[u8],
+            index: &[u16],
+            marks: &[u8],
+            state: &mut [u16],
+            x: u8,
+            y: u8,
+        ) -> u64 {
+            let index = self.seen_index(file, index, marks, state);
+            Model.output_indexed(reading, file, &index, marks, state, x, y)
         }
 
         fn strayed(&mut self) -> bool {

@@ -1,7 +1,8 @@
-//! The eight functions under comparison, with their answers packed into one
+//! The functions under comparison, with their answers packed into one
 //! number, and the model as one maker of such answers.
 
 use crate::enforce;
+use crate::index;
 use crate::join;
 use crate::refusal::Refusal;
 use crate::ticks::{self, Rounding};
@@ -49,6 +50,33 @@ pub trait Engine {
 
     /// refusal | events << 8
     fn wave_read(&mut self, file: &[u8], text: &[u8], events: &mut [u8]) -> u64;
+
+    /// refusal
+    fn index(&mut self, file: &[u8], index: &mut [u16]) -> u64;
+
+    /// refusal | x' << 8
+    fn input_indexed(
+        &mut self,
+        reading: u8,
+        file: &[u8],
+        index: &[u16],
+        marks: &[u8],
+        state: &[u16],
+        x: u8,
+    ) -> u64;
+
+    /// refusal | y' << 8
+    #[allow(clippy::too_many_arguments)]
+    fn output_indexed(
+        &mut self,
+        reading: u8,
+        file: &[u8],
+        index: &[u16],
+        marks: &[u8],
+        state: &mut [u16],
+        x: u8,
+        y: u8,
+    ) -> u64;
 
     /// Whether, since this was last asked, a byte was changed that was not
     /// lent for writing.
@@ -130,6 +158,39 @@ impl Engine for Model {
     fn wave_read(&mut self, file: &[u8], text: &[u8], events: &mut [u8]) -> u64 {
         packed(waves::read(file, text, events).map(|count| count as u64))
     }
+    fn index(&mut self, file: &[u8], lent: &mut [u16]) -> u64 {
+        done(index::index(file, lent))
+    }
+
+    fn input_indexed(
+        &mut self,
+        reading: u8,
+        file: &[u8],
+        lent: &[u16],
+        marks: &[u8],
+        state: &[u16],
+        x: u8,
+    ) -> u64 {
+        packed(index::input_half(reading, file, lent, marks, state, x))
+    }
+
+    fn output_indexed(
+        &mut self,
+        reading: u8,
+        file: &[u8],
+        lent: &[u16],
+        marks: &[u8],
+        state: &mut [u16],
+        x: u8,
+        y: u8,
+    ) -> u64 {
+        packed(index::output_half(reading, file, lent, marks, state, x, y))
+    }
+}
+
+/// Of a function that finds nothing.
+fn done(result: Result<(), Refusal>) -> u64 {
+    packed(result.map(|()| 0u8))
 }
 
 fn packed<T: Into<u64>>(result: Result<T, Refusal>) -> u64 {

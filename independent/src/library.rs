@@ -223,6 +223,79 @@ impl Engine for Library {
         self.expect(e.give_back(events));
         answer
     }
+    fn index(&mut self, file: &[u8], index: &mut [u16]) -> u64 {
+        let (mut f, mut i) = (bytes(file), numbers(index));
+        let answer = unsafe { groovepawn_index(f.pointer(), f.length, i.pointer(), i.length) };
+        self.expect(f.is_still(file));
+        self.expect(i.give_back(index));
+        u64::from(answer)
+    }
+
+    fn input_indexed(
+        &mut self,
+        reading: u8,
+        file: &[u8],
+        index: &[u16],
+        marks: &[u8],
+        state: &[u16],
+        x: u8,
+    ) -> u64 {
+        let (mut f, mut i) = (bytes(file), numbers(index));
+        let (mut m, mut s) = (bytes(marks), numbers(state));
+        let answer = unsafe {
+            groovepawn_input_indexed(
+                reading,
+                f.pointer(),
+                f.length,
+                i.pointer(),
+                i.length,
+                m.pointer(),
+                m.length,
+                s.pointer(),
+                s.length,
+                x,
+            )
+        };
+        self.expect(f.is_still(file));
+        self.expect(i.is_still(index));
+        self.expect(m.is_still(marks));
+        self.expect(s.is_still(state));
+        u64::from(answer)
+    }
+
+    fn output_indexed(
+        &mut self,
+        reading: u8,
+        file: &[u8],
+        index: &[u16],
+        marks: &[u8],
+        state: &mut [u16],
+        x: u8,
+        y: u8,
+    ) -> u64 {
+        let (mut f, mut i) = (bytes(file), numbers(index));
+        let (mut m, mut s) = (bytes(marks), numbers(state));
+        let answer = unsafe {
+            groovepawn_output_indexed(
+                reading,
+                f.pointer(),
+                f.length,
+                i.pointer(),
+                i.length,
+                m.pointer(),
+                m.length,
+                s.pointer(),
+                s.length,
+                x,
+                y,
+            )
+        };
+        self.expect(f.is_still(file));
+        self.expect(i.is_still(index));
+        self.expect(m.is_still(marks));
+        self.expect(s.give_back(state));
+        u64::from(answer)
+    }
 
     fn strayed(&mut self) -> bool {
         std::mem::take(&mut self.strayed)

@@ -11,6 +11,7 @@ mod graph;
 #[cfg(feature = "library")]
 #[path = "../../include/groovepawn.rs"]
 mod groovepawn;
+mod index;
 mod join;
 mod laws;
 #[cfg(feature = "library")]

@@ -24,6 +24,7 @@ pub enum Refusal {
     TooManyTicks = 19,
     NotThisForm = 21,
     UnknownReading = 22,
+    WrongIndex = 28,
     TooManyEvents = 29,
 }
 

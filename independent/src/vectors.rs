@@ -1,7 +1,7 @@
 //! Calls and their outcomes as a file that a program without a heap can read
 //! from beginning to end. The README describes the format.
 
-use crate::call::{Call, Outcome, FUNCTIONS};
+use crate::call::{Call, Given, Outcome, FUNCTIONS};
 use crate::cases;
 use crate::engine::{refusal_in, Engine, Model};
 use crate::refusal::LAST_REFUSAL;
@@ -17,6 +17,8 @@ const LONGEST_FILE: usize = 295_000;
 const LONGEST_POLICY: usize = 8_192;
 /// The longest that any other string, unpacked, may be.
 const LONGEST_STRING: usize = 65_600;
+/// The most numbers of 16 bits that stand together.
+const LONGEST_NUMBERS: usize = 136;
 
 /// Those written by hand, then `count` random ones as far as they fit.
 pub fn vectors(count: usize, seed: u64) -> Vec<u8> {
@@ -71,26 +73,12 @@ pub fn chosen(seed: u64) -> impl Iterator<Item = (Call, Outcome)> {
 
 /// Whether a reader with the buffers the README names can hold the call.
 fn strings_fit(call: &Call) -> bool {
-    let (policies, others): (Vec<&Vec<u8>>, Vec<&Vec<u8>>) = match call {
-        Call::Prepare { file, marks, .. }
-        | Call::Input { file, marks, .. }
-        | Call::Output { file, marks, .. } => (vec![file], vec![marks]),
-        Call::Run {
-            file,
-            marks,
-            events,
-            released,
-            ..
-        } => (vec![file], vec![marks, events, released]),
-        Call::Join { a, b, out } => (vec![a, b, out], vec![]),
-        Call::Ticks { .. } => (vec![], vec![]),
-        Call::WaveWrite { file, events, text } | Call::WaveRead { file, text, events } => {
-            (vec![file], vec![events, text])
-        }
-    };
-    let fit =
-        |strings: Vec<&Vec<u8>>, longest| strings.iter().all(|string| string.len() <= longest);
-    fit(policies, LONGEST_POLICY) && fit(others, LONGEST_STRING)
+    call.given().iter().all(|(_, given)| match given {
+        Given::Policy(bytes) => bytes.len() <= LONGEST_POLICY,
+        Given::Bytes(bytes) => bytes.len() <= LONGEST_STRING,
+        Given::Numbers(numbers) => numbers.len() <= LONGEST_NUMBERS,
+        Given::Byte(_) | Given::Word(_) => true,
+    })
 }
 
 /// One record: the kind, the length of the body, the body.
@@ -104,81 +92,12 @@ pub fn record(call: &Call, outcome: &Outcome) -> Vec<u8> {
 
 fn body(call: &Call, outcome: &Outcome) -> Vec<u8> {
     let mut body = Vec::new();
-    match call {
-        Call::Prepare {
-            reading,
-            file,
-            marks,
-        } => {
-            body.push(*reading);
-            put_string(&mut body, file);
-            put_string(&mut body, marks);
-        }
-        Call::Input {
-            reading,
-            file,
-            marks,
-            state,
-            x,
-        } => {
-            body.push(*reading);
-            put_string(&mut body, file);
-            put_string(&mut body, marks);
-            put_state(&mut body, state);
-            body.push(*x);
-        }
-        Call::Output {
-            reading,
-            file,
-            marks,
-            state,
-            x,
-            y,
-        } => {
-            body.push(*reading);
-            put_string(&mut body, file);
-            put_string(&mut body, marks);
-            put_state(&mut body, state);
-            body.extend([*x, *y]);
-        }
-        Call::Run {
-            reading,
-            file,
-            marks,
-            state,
-            events,
-            released,
-        } => {
-            body.push(*reading);
-            put_string(&mut body, file);
-            put_string(&mut body, marks);
-            put_state(&mut body, state);
-            put_string(&mut body, events);
-            put_string(&mut body, released);
-        }
-        Call::Join { a, b, out } => {
-            put_string(&mut body, a);
-            put_string(&mut body, b);
-            put_string(&mut body, out);
-        }
-        Call::Ticks {
-            milliseconds,
-            tick_length,
-            up,
-        } => {
-            put_number(&mut body, *milliseconds as usize);
-            put_number(&mut body, *tick_length as usize);
-            body.push(*up);
-        }
-        Call::WaveWrite { file, events, text } => {
-            put_string(&mut body, file);
-            put_string(&mut body, events);
-            put_string(&mut body, text);
-        }
-        Call::WaveRead { file, text, events } => {
-            put_string(&mut body, file);
-            put_string(&mut body, text);
-            put_string(&mut body, events);
+    for (_, given) in call.given() {
+        match given {
+            Given::Byte(byte) => body.push(byte),
+            Given::Word(word) => put_number(&mut body, word as usize),
+            Given::Policy(bytes) | Given::Bytes(bytes) => put_string(&mut body, bytes),
+            Given::Numbers(numbers) => put_numbers(&mut body, numbers),
         }
     }
     body.extend(outcome.answer.to_be_bytes());
@@ -186,7 +105,7 @@ fn body(call: &Call, outcome: &Outcome) -> Vec<u8> {
         put_string(&mut body, &outcome.bytes);
     }
     if writes_state(call.kind()) {
-        put_state(&mut body, &outcome.state);
+        put_numbers(&mut body, &outcome.state);
     }
     body
 }
@@ -196,18 +115,18 @@ pub fn writes_bytes(kind: usize) -> bool {
     [0, 3, 4, 6, 7].contains(&kind)
 }
 
-/// Output and run.
+/// Output, run, index and the output half with an index.
 pub fn writes_state(kind: usize) -> bool {
-    [2, 3].contains(&kind)
+    [2, 3, 8, 10].contains(&kind)
 }
 
 fn put_number(out: &mut Vec<u8>, number: usize) {
     out.extend((number as u32).to_be_bytes());
 }
 
-fn put_state(out: &mut Vec<u8>, state: &[u16]) {
-    out.push(state.len() as u8);
-    for number in state {
+fn put_numbers(out: &mut Vec<u8>, numbers: &[u16]) {
+    out.push(numbers.len() as u8);
+    for number in numbers {
         out.extend(number.to_be_bytes());
     }
 }
@@ -287,7 +206,7 @@ impl<'a> Reader<'a> {
         }
     }
 
-    fn state(&mut self) -> Result<Vec<u16>, String> {
+    fn numbers(&mut self) -> Result<Vec<u16>, String> {
         let length = self.byte()?;
         (0..length).map(|_| Ok(self.number(2)? as u16)).collect()
     }
@@ -303,14 +222,14 @@ impl<'a> Reader<'a> {
                 reading: self.byte()?,
                 file: self.string()?,
                 marks: self.string()?,
-                state: self.state()?,
+                state: self.numbers()?,
                 x: self.byte()?,
             },
             3 => Call::Output {
                 reading: self.byte()?,
                 file: self.string()?,
                 marks: self.string()?,
-                state: self.state()?,
+                state: self.numbers()?,
                 x: self.byte()?,
                 y: self.byte()?,
             },
@@ -318,7 +237,7 @@ impl<'a> Reader<'a> {
                 reading: self.byte()?,
                 file: self.string()?,
                 marks: self.string()?,
-                state: self.state()?,
+                state: self.numbers()?,
                 events: self.string()?,
                 released: self.string()?,
             },
@@ -342,6 +261,27 @@ impl<'a> Reader<'a> {
                 text: self.string()?,
                 events: self.string()?,
             },
+            9 => Call::Index {
+                file: self.string()?,
+                index: self.numbers()?,
+            },
+            10 => Call::InputIndexed {
+                reading: self.byte()?,
+                file: self.string()?,
+                marks: self.string()?,
+                state: self.numbers()?,
+                index: self.numbers()?,
+                x: self.byte()?,
+            },
+            11 => Call::OutputIndexed {
+                reading: self.byte()?,
+                file: self.string()?,
+                marks: self.string()?,
+                state: self.numbers()?,
+                index: self.numbers()?,
+                x: self.byte()?,
+                y: self.byte()?,
+            },
             _ => return Err(BROKEN.to_string()),
         })
     }
@@ -353,14 +293,14 @@ impl<'a> Reader<'a> {
             false => vec![],
         };
         let state = match writes_state(kind) {
-            true => self.state()?,
+            true => self.numbers()?,
             false => vec![],
         };
         Ok(Outcome {
             answer,
             bytes,
             state,
-            strayed: false,
+            ..Outcome::default()
         })
     }
 
@@ -442,6 +382,20 @@ mod tests {
         assert_eq!(replay(&file, &mut Model), Ok(written + 500));
         let records = read(&file).expect("just written");
         assert!(records.iter().all(|(call, _)| strings_fit(call)));
+    }
+
+    /// With the count and the seed of the file that is stored.
+    #[test]
+    fn every_refusal_of_every_function_is_stored() {
+        let mut seen = [[false; LAST_REFUSAL + 1]; FUNCTIONS.len()];
+        for (call, outcome) in read(&vectors(700, 5)).expect("just written") {
+            seen[call.kind()][usize::from(refusal_in(outcome.answer))] = true;
+        }
+        for (function, seen) in FUNCTIONS.iter().zip(seen) {
+            for number in cases::refusals_of(function) {
+                assert!(seen[number], "{function} {number}");
+            }
+        }
     }
 
     #[test]

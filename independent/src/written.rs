@@ -3,12 +3,14 @@
 
 mod files;
 mod halves;
+mod indexes;
 mod joins;
 mod leaving;
 mod readings;
 mod runs;
 mod times;
 mod waves;
+mod wrong_files;
 
 use crate::call::{from_hex, Call, Outcome};
 use crate::moment::STATE_LENGTH;
@@ -36,6 +38,8 @@ pub fn all() -> Vec<Written> {
         joins::all(),
         leaving::all(),
         readings::all(),
+        indexes::all(),
+        wrong_files::all(),
         times::all(),
         waves::all(),
     ]
@@ -52,7 +56,7 @@ fn written(name: &str, call: Call, answer: u64, bytes: Vec<u8>, state: Vec<u16>)
             answer,
             bytes,
             state,
-            strayed: false,
+            ..Outcome::default()
         },
     }
 }
@@ -84,15 +88,15 @@ mod tests {
             seen[written.call.kind()][usize::from(refusal)] = true;
         }
         // The others are not given by any function.
-        for number in (0..=19).chain([21, 22, 29]) {
+        for number in (0..=19).chain([21, 22, 28, 29]) {
             assert!(seen.iter().any(|function| function[number]), "{number}");
         }
         // Those that take a reading.
-        for function in &seen[..4] {
-            assert!(function[22]);
+        for kind in [0, 1, 2, 3, 9, 10] {
+            assert!(seen[kind][22]);
         }
         // Those a half or a run can give beside the nine of a file.
-        for kind in [1, 2, 3] {
+        for kind in [1, 2, 3, 9, 10] {
             assert!([10, 15, 16, 17]
                 .iter()
                 .all(|&number: &usize| seen[kind][number]));

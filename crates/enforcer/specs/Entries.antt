@@ -73,6 +73,13 @@ module _ (reading : ℕ) (file marks : List ℕ) where
   unfoldable pub marksRefusal : ℕ
   marksRefusal = refusalUnder reading file orElse unless (leb (states (policyOf reading file)) (length marks)) 10
 
+  -- The halves past 16, from a place of the policy: 15 and 17 alone are left to ask. A refusal hands back the state that was given.
+  abbrev pub inputPast : Place → ℕ → Answer ℕ
+  inputPast t x = chosen (unless (xGood reading file x) 15) (inputChoice (policyOf reading file) marks t x)
+
+  abbrev pub outputPast : Place → Place → ℕ → ℕ → OutputAnswer
+  outputPast given t x y = outputFrom given (chosen (unless (xGood reading file x && yGood reading file y) 15) (outputTick (policyOf reading file) marks t x y))
+
   module _ (s : Place) where
     -- 16: "a state has a location or clock value out of range, an unused clock not 0, or a mark other than 1".
     unfoldable pub stateRefusal : ℕ

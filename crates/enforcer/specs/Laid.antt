@@ -25,10 +25,11 @@ use Rattle.policy.specs.Layout.{layoutOf, checkedUnder, under-says}
 use Rattle.policy.specs.declared.Layout.{Layout}
 use Rattle.policy.specs.declared.Checked.{Checked}
 use Rattle.policy.specs.declared.own.Own.{Own}
+use Rattle.index.specs.Sections.{Sections, sections-filled, sections-rules}
 use Rattle.enforcer.specs.State.{placeIn, stateOf, isMarked}
 use Rattle.enforcer.specs.Tick.{arrives, reaches}
 use Rattle.enforcer.specs.Code.{eventXY, asPlace, place, stateFrom, stateAt, seenBy, bare, stepBy, stepFrom}
-use Rattle.enforcer.specs.Ready.{Laid, HereOf}
+use Rattle.enforcer.specs.Ready.{Laid, HereOf, Standing}
 use Rattle.enforcer.specs.declared.state.State.{State}
 use Rattle.enforcer.specs.declared.reach.Here.{Here}
 use Rattle.enforcer.specs.declared.next.Step.{Step}
@@ -110,9 +111,18 @@ pub placeIn-stateOf : (p : Policy) {t : Place} → Inside p t → placeIn p (sta
 placeIn-stateOf p {t} i =
     ap (λ (vs : List ℕ). record { location = t .location; clocks = vs }) (take-at (t .clocks) _ (length (p .ceilings)) (i .clocks))
 
+-- The location of a state in range is one of the layout's.
+pub standing-location : {f : List ℕ} {l : Layout} {marks : List ℕ} {s : State} → Standing f l marks s → s .location < l .locations
+unfolding policyOf
+standing-location k = rw (k .laid .locations) (k .inside .location)
+
 module _ {f : List ℕ} {l : Layout} (k : Laid f l) where
   framed : Framed f
   framed = frame f (k .passes)
+
+  -- What an index is built and looked up by.
+  pub laid-sections : Sections f l
+  laid-sections = record { passes = k .passes; clocks = k .clocks; locations = k .locations; rules = k .rules; start = k .start; end = k .end }
 
   -- The policy is as the check leaves it, and the numbers of the layout are within their limits.
   pub laid-well : WellFormed (policyOf (l .reading) f)
@@ -123,7 +133,7 @@ module _ {f : List ℕ} {l : Layout} (k : Laid f l) where
 
   -- The rules fill their section.
   pub laid-section : l .«rules_start» + l .rules * ruleSize (l .clocks) ≡ l .«rules_end»
-  laid-section = rw (k .start, k .rules, k .clocks, k .end) (omega (arith, framed))
+  laid-section = sections-filled laid-sections
 
   -- Of inputs and outputs there are as many values as the code counts, at most 16.
   pub laid-inputs : (2 ^ l .inputs ≡ inputValues (policyOf (l .reading) f)) × (2 ^ l .inputs ≤ 16)
@@ -156,9 +166,7 @@ module _ {f : List ℕ} {l : Layout} (k : Laid f l) where
 
   -- The rule section, as the part of the file between its ends, reads as the rules.
   pub laid-rules : rulesFrom (l .clocks) (part f (l .«rules_start») (l .«rules_end» - l .«rules_start»)) 0 (l .rules) ≡ rulesOf f
-  laid-rules =
-      let n : l .«rules_end» - l .«rules_start» ≡ ruleCount f * ruleSize (clockCount f) = omega (arith, framed, k) in
-      rw (n, k .start, k .clocks, k .rules)
+  laid-rules = sections-rules laid-sections
 
   -- So do the bytes from its start on.
   laid-from : rulesOf f ≡ rulesFrom (l .clocks) f (l .«rules_start») (l .rules)

@@ -45,16 +45,18 @@ answer-one (Answer.Refused m) (Answer.Refused n) e = cc
 abbrev stateSaid : Place → State
 stateSaid s = record { location = s .location; clocks = s .clocks }
 
+pub both-one : (r q : Output) → outputSaid r ≡ outputSaid q → r ≡ q
+both-one r q e =
+    let a = answer-one (r .answer) (q .answer) (ap (λ (z : OutputAnswer). z .answer) e) in
+    let s = ap (λ (z : OutputAnswer). stateSaid (z .state)) e in
+    λ i. record { answer = a i; state = s i }
+
 -- Each promise is met by one answer only, and that of the run by one slice.
 pub input-one : {reading : ℕ} {file marks : List ℕ} {s : State} {x : ℕ} {r q : Answer} → InputPromise reading file marks s x r → InputPromise reading file marks s x q → r ≡ q
 input-one {r} {q} h g = answer-one r q (h .said ∙ sym (g .said))
 
 pub output-one : {reading : ℕ} {file marks : List ℕ} {s : State} {x y : ℕ} {r q : Output} → OutputPromise reading file marks s x y r → OutputPromise reading file marks s x y q → r ≡ q
-output-one {r} {q} h g =
-    let e = h .said ∙ sym (g .said) in
-    let a = answer-one (r .answer) (q .answer) (ap (λ (z : OutputAnswer). z .answer) e) in
-    let s = ap (λ (z : OutputAnswer). stateSaid (z .state)) e in
-    λ i. record { answer = a i; state = s i }
+output-one {r} {q} h g = both-one r q (h .said ∙ sym (g .said))
 
 pub run-one : {reading : ℕ} {file marks : List ℕ} {s : State} {events before after also : List ℕ} {r q : Ran} →
     RunPromise reading file marks s events before r after → RunPromise reading file marks s events before q also → (r ≡ q) × (after ≡ also)

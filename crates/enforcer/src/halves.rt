@@ -1,24 +1,27 @@
 // The input half, and the output half by value.
 use crate::choose::choose_input;
-use crate::reach::here_of;
+use crate::reach::here_by;
+use crate::reach::own_of;
 use crate::reach::values;
 use crate::state::State;
 use crate::tick::output_tick;
 use choice::Choice;
 use policy::Checked;
 use policy::Layout;
+use policy::Own;
 ghost use mathlib.Core.Path.{_≡_};
 ghost use Prim.Native.Nat.{_≤_};
 ghost use lib.Dec.{leb};
 ghost use lib.ListN.{length};
 ghost use Rattle.streams.specs.Answer.{_orElse_, unless};
 ghost use Rattle.policy.specs.Number.{states};
-ghost use Rattle.policy.specs.File.{policyOf};
+ghost use Rattle.policy.specs.File.{policyOf, rulesOf};
+ghost use Rattle.policy.specs.Own.{ownOf};
 ghost use Rattle.enforcer.specs.State.{stateGood};
-ghost use Rattle.enforcer.specs.Entries.{stateRefusal};
-ghost use Rattle.enforcer.specs.Code.{asPlace};
-ghost use Rattle.enforcer.specs.Ready.{Laid};
-ghost use Rattle.enforcer.specs.Promises.{InputPromise, OutputPromise};
+ghost use Rattle.enforcer.specs.Entries.{stateRefusal, inputPast, outputPast};
+ghost use Rattle.enforcer.specs.Code.{asPlace, place};
+ghost use Rattle.enforcer.specs.Ready.{Laid, Standing};
+ghost use Rattle.enforcer.specs.Promises.{InputPromise, OutputPromise, answerSaid, outputSaid};
 
 pub enum Answer {
     Value(u8),
@@ -66,7 +69,7 @@ fn state_good(file: &[u8], layout: Layout, state: State) -> bool
 }
 
 // 16 where the state is not in range or not marked, else 0.
-pub(crate) fn state_refusal(file: &[u8], layout: Layout, marks: &[u8], state: State) -> u8
+pub fn state_refusal(file: &[u8], layout: Layout, marks: &[u8], state: State) -> u8
     requires { ⌜ Laid (now file) layout × (states (policyOf (layout .reading) (now file)) ≤ length (now marks)) ⌝ }
     ensures { λ r. ⌜ r ≡ stateRefusal (layout .reading) (now (file .entry)) (now (marks .entry)) (asPlace state) ⌝ }
 {
@@ -91,13 +94,53 @@ pub fn input_half(reading: u8, file: &[u8], marks: &[u8], state: State, x: u8) -
     if r != 0 {
         return Answer::Refused(r);
     }
+    let own = own_of(file, layout, state);
+    input_by(file, layout, own, marks, state, x)
+}
+
+// The input half past 16, by the rules of the state's location.
+pub fn input_by(file: &[u8], layout: Layout, own: Own, marks: &[u8], state: State, x: u8) -> Answer
+    requires { ⌜ Standing (now file) layout (now marks) state × (own ≡ ownOf (layout .clocks) (state .location) (rulesOf (now file))) ⌝ }
+    ensures { λ r. ⌜ answerSaid r ≡ inputPast (layout .reading) (now (file .entry)) (now (marks .entry)) (place (layout .clocks) state) x ⌝ }
+{
     if values(layout.inputs) <= x as usize {
         return Answer::Refused(15);
     }
-    let here = here_of(file, layout, state);
+    let here = here_by(file, layout, own, state);
     match choose_input(file, layout, here, marks, state, x) {
         Choice::Value(z) => Answer::Value(z),
         Choice::Nothing => Answer::Refused(17),
+    }
+}
+
+// The output half past 16, by the rules of the state's location.
+pub fn output_by(
+    file: &[u8],
+    layout: Layout,
+    own: Own,
+    marks: &[u8],
+    state: State,
+    x: u8,
+    y: u8,
+) -> Output
+    requires { ⌜ Standing (now file) layout (now marks) state × (own ≡ ownOf (layout .clocks) (state .location) (rulesOf (now file))) ⌝ }
+    ensures { λ r. ⌜ outputSaid r ≡ outputPast (layout .reading) (now (file .entry)) (now (marks .entry)) (asPlace state) (place (layout .clocks) state) x y ⌝ }
+{
+    if values(layout.inputs) <= x as usize {
+        return refused(state, 15);
+    }
+    if values(layout.outputs) <= y as usize {
+        return refused(state, 15);
+    }
+    let here = here_by(file, layout, own, state);
+    let t = output_tick(file, layout, here, marks, state, x, y);
+    if !t.released {
+        return refused(state, 17);
+    }
+    let next = t.state;
+    Output {
+        answer: Answer::Value(t.y),
+        state: next,
     }
 }
 
@@ -116,22 +159,8 @@ impl State {
         if r != 0 {
             return refused(self, r);
         }
-        if values(layout.inputs) <= x as usize {
-            return refused(self, 15);
-        }
-        if values(layout.outputs) <= y as usize {
-            return refused(self, 15);
-        }
-        let here = here_of(file, layout, self);
-        let t = output_tick(file, layout, here, marks, self, x, y);
-        if !t.released {
-            return refused(self, 17);
-        }
-        let next = t.state;
-        Output {
-            answer: Answer::Value(t.y),
-            state: next,
-        }
+        let own = own_of(file, layout, self);
+        output_by(file, layout, own, marks, self, x, y)
     }
 }
 

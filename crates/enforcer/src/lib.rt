@@ -12,8 +12,11 @@ mod tick;
 
 pub use halves::Answer;
 pub use halves::Output;
+pub use halves::input_by;
 pub use halves::input_half;
 pub use halves::marks_refusal;
+pub use halves::output_by;
+pub use halves::state_refusal;
 pub use lent::output_half;
 pub use pass::To;
 pub use pass::goes_on;

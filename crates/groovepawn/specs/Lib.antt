@@ -5,3 +5,4 @@ pub mod Bounds
 pub mod Stays
 pub mod Fields
 pub mod Waves
+pub mod Indexed

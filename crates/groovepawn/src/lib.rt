@@ -9,6 +9,10 @@ use enforcer::input_half;
 use enforcer::marks_refusal;
 use enforcer::output_half;
 use enforcer::run;
+use index::build;
+use indexed::early_refusal;
+use indexed::input_indexed;
+use indexed::output_indexed;
 use join::Joined;
 use prepare::Prepared;
 use ticks::Conversion;
@@ -21,6 +25,7 @@ ghost use lib.ListN.{length};
 ghost use Rattle.enforcer.specs.Code.{asPlace};
 ghost use Rattle.enforcer.specs.Promises.{answerSaid, OutputPromise};
 ghost use Rattle.groovepawn.specs.Words.{answerWord, stateIn, stateWords, oddRefusal};
+ghost use Rattle.groovepawn.specs.Indexed.{oddIndexed, IndexCall, InputIndexedCall, OutputIndexedCall};
 ghost use Rattle.groovepawn.specs.Calls.{PrepareCall, InputCall, OutputCall, RunCall, JoinCall, TicksCall};
 
 // How many numbers a state is.
@@ -151,6 +156,70 @@ pub extern "C" fn groovepawn_run(
     let after = ran.state;
     put_state(state, after);
     ran.refusal as u64 + ran.count as u64 % 72057594037927936 * 256
+}
+
+// What is refused where the state is not five numbers.
+fn odd_indexed(reading: u8, file: &[u8], index: &[u16], marks: &[u8]) -> u8
+    ensures { λ r. ⌜ r ≡ oddIndexed reading (now (file .entry)) (now (index .entry)) (now (marks .entry)) ⌝ }
+{
+    let r = early_refusal(
+        reading,
+        file,
+        policy::check_under(reading, file),
+        index,
+        marks,
+    );
+    if r != 0 {
+        return r;
+    }
+    16
+}
+
+#[no_mangle]
+pub extern "C" fn groovepawn_index(file: &[u8], index: &mut [u16]) -> u32
+    ensures { λ r. ⌜ IndexCall (now (file .entry)) (now (index .entry)) r (now (index .exit)) ⌝ }
+{
+    build(file, index) as u32
+}
+
+#[no_mangle]
+pub extern "C" fn groovepawn_input_indexed(
+    reading: u8,
+    file: &[u8],
+    index: &[u16],
+    marks: &[u8],
+    state: &[u16],
+    x: u8,
+) -> u32
+    ensures { λ r. ⌜ InputIndexedCall reading (now (file .entry)) (now (index .entry)) (now (marks .entry)) (now (state .entry)) x r ⌝ }
+{
+    if state.len() != NUMBERS {
+        return odd_indexed(reading, file, index, marks) as u32;
+    }
+    answer_word(input_indexed(reading, file, index, marks, state_of(state), x))
+}
+
+#[no_mangle]
+pub extern "C" fn groovepawn_output_indexed(
+    reading: u8,
+    file: &[u8],
+    index: &[u16],
+    marks: &[u8],
+    state: &mut [u16],
+    x: u8,
+    y: u8,
+) -> u32
+    ensures { λ r. ⌜ OutputIndexedCall reading (now (file .entry)) (now (index .entry)) (now (marks .entry)) (now (state .entry)) x y r (now (state .exit)) ⌝ }
+{
+    if state.len() != NUMBERS {
+        return odd_indexed(reading, file, index, marks) as u32;
+    }
+    let given = state_of(state);
+    let output = output_indexed(reading, file, index, marks, given, x, y);
+    let next = output.state;
+    put_state(state, next);
+    let answer = output.answer;
+    answer_word(answer)
 }
 
 #[no_mangle]

@@ -31,7 +31,7 @@ fn rules_below(rules: &[u8], count: usize, clocks: usize, location: usize) -> us
 }
 
 // How many of the rules from `at` on have the location for their source, before one that has not.
-fn rules_level(rules: &[u8], at: usize, count: usize, clocks: usize, location: usize) -> usize
+pub fn rules_level(rules: &[u8], at: usize, count: usize, clocks: usize, location: usize) -> usize
     requires { ⌜ (at < 2 ^ 16) × (count ≤ 256) × (clocks ≤ 4) × (at + count * ruleSize clocks ≤ length (now rules)) ⌝ }
     ensures { λ r. ⌜ r ≡ level location (rulesFrom clocks (now (rules .entry)) at count) ⌝ }
 {

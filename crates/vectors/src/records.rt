@@ -35,6 +35,38 @@ fn run_record(
     )
 }
 
+// The rest of a record of the input half with an index.
+fn indexed_input_record(
+    cases: &[u8],
+    at: Cursor,
+    reading: u8,
+    file: &[u8],
+    marks: &[u8],
+    state: &[u16],
+) -> Outcome {
+    let mut index = [0u16; 136];
+    let taken = at.state(cases, &mut index);
+    let entries = taken.count;
+    let next = taken.next;
+    calls::input_indexed(cases, next, reading, file, &index[..entries], marks, state)
+}
+
+// The rest of a record of the output half with an index.
+fn indexed_output_record(
+    cases: &[u8],
+    at: Cursor,
+    reading: u8,
+    file: &[u8],
+    marks: &[u8],
+    state: &mut [u16],
+) -> Outcome {
+    let mut index = [0u16; 136];
+    let taken = at.state(cases, &mut index);
+    let entries = taken.count;
+    let next = taken.next;
+    calls::output_indexed(cases, next, reading, file, &index[..entries], marks, state)
+}
+
 // The rest of a record that has a state.
 fn state_record(
     cases: &[u8],
@@ -51,6 +83,12 @@ fn state_record(
     match kind {
         Kind::Input => calls::input(cases, next, reading, file, marks, &state[..numbers]),
         Kind::Output => calls::output(cases, next, reading, file, marks, &mut state[..numbers]),
+        Kind::InputIndexed => {
+            indexed_input_record(cases, next, reading, file, marks, &state[..numbers])
+        }
+        Kind::OutputIndexed => {
+            indexed_output_record(cases, next, reading, file, marks, &mut state[..numbers])
+        }
         _ => run_record(cases, next, reading, file, marks, &mut state[..numbers]),
     }
 }
@@ -140,6 +178,18 @@ fn wave_record(cases: &[u8], kind: Kind, at: Cursor) -> Outcome {
     }
 }
 
+fn index_record(cases: &[u8], at: Cursor) -> Outcome {
+    let mut file = [0u8; 8192];
+    let mut index = [0u16; 136];
+    let taken = at.string(cases, &mut file);
+    let file_length = taken.count;
+    let next = taken.next;
+    let taken = next.state(cases, &mut index);
+    let entries = taken.count;
+    let next = taken.next;
+    calls::index(cases, next, &file[..file_length], &mut index[..entries])
+}
+
 // The body of a record.
 fn body(cases: &[u8], kind: Kind, at: Cursor) -> Outcome {
     match kind {
@@ -147,6 +197,7 @@ fn body(cases: &[u8], kind: Kind, at: Cursor) -> Outcome {
         Kind::Ticks => calls::ticks(cases, at),
         Kind::WaveWrite => wave_record(cases, kind, at),
         Kind::WaveRead => wave_record(cases, kind, at),
+        Kind::Index => index_record(cases, at),
         Kind::Unknown => Outcome {
             differs: Differs::Nothing,
             next: at.lose(),

@@ -1,4 +1,4 @@
-// States: how many numbers, then the numbers.
+// States, and what else is stored as numbers of 16 bits: how many, then the numbers.
 use crate::numbers::Compared;
 use crate::numbers::Cursor;
 use crate::numbers::Taken;

@@ -12,6 +12,9 @@ pub enum Kind {
     Ticks,
     WaveWrite,
     WaveRead,
+    Index,
+    InputIndexed,
+    OutputIndexed,
     Unknown,
 }
 
@@ -26,6 +29,9 @@ impl Kind {
             6 => Kind::Ticks,
             7 => Kind::WaveWrite,
             8 => Kind::WaveRead,
+            9 => Kind::Index,
+            10 => Kind::InputIndexed,
+            11 => Kind::OutputIndexed,
             _ => Kind::Unknown,
         }
     }
@@ -40,6 +46,9 @@ impl Kind {
             Kind::Ticks => print(b"ticks"),
             Kind::WaveWrite => print(b"wave_write"),
             Kind::WaveRead => print(b"wave_read"),
+            Kind::Index => print(b"index"),
+            Kind::InputIndexed => print(b"input_indexed"),
+            Kind::OutputIndexed => print(b"output_indexed"),
             Kind::Unknown => print(b"unknown"),
         }
     }
@@ -55,6 +64,9 @@ struct Counts {
     ticks: u64,
     wave_write: u64,
     wave_read: u64,
+    index: u64,
+    input_indexed: u64,
+    output_indexed: u64,
 }
 
 impl Counts {
@@ -68,6 +80,9 @@ impl Counts {
             Kind::Ticks => self.ticks = one_more(self.ticks),
             Kind::WaveWrite => self.wave_write = one_more(self.wave_write),
             Kind::WaveRead => self.wave_read = one_more(self.wave_read),
+            Kind::Index => self.index = one_more(self.index),
+            Kind::InputIndexed => self.input_indexed = one_more(self.input_indexed),
+            Kind::OutputIndexed => self.output_indexed = one_more(self.output_indexed),
             Kind::Unknown => {}
         }
         self
@@ -82,6 +97,9 @@ impl Counts {
         print_count(b"ticks ", self.ticks);
         print_count(b"wave_write ", self.wave_write);
         print_count(b"wave_read ", self.wave_read);
+        print_count(b"index ", self.index);
+        print_count(b"input_indexed ", self.input_indexed);
+        print_count(b"output_indexed ", self.output_indexed);
     }
 }
 
@@ -129,6 +147,9 @@ impl Tally {
                 ticks: 0,
                 wave_write: 0,
                 wave_read: 0,
+                index: 0,
+                input_indexed: 0,
+                output_indexed: 0,
             },
             different: 0,
             first: First::None,

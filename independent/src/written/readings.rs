@@ -240,7 +240,7 @@ fn unknown() -> Vec<Written> {
                 answer: 22,
                 bytes: asked.call.lent_bytes().to_vec(),
                 state: asked.call.lent_state().to_vec(),
-                strayed: false,
+                ..Outcome::default()
             };
             under(number, Written { expected, ..asked })
         }

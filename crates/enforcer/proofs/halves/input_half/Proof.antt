@@ -1,22 +1,12 @@
--- `enforcer::halves::input_half` meets its contract: each refusal in its order, and then the chosen input.
+-- `enforcer::halves::input_half` meets its contract: each refusal up to 16 in its order, and then what is left past it.
 use mathlib.Core.Path.{_≡_, sym, _∙_}
-use Prim.Native.Nat.{_<_, _≤_}
-use native.Mathlib.Omega.{arith}
-use lib.ListN.{length}
 use borrow.Author.Needs.{needs}
-use borrow.Author.Tests.{lt-ltb, le-ltb}
 use denote.Ref.{now}
-use Rattle.streams.specs.Answer.{unless}
-use Rattle.policy.specs.Rules.{inputValues}
-use Rattle.policy.specs.Number.{states}
-use Rattle.policy.specs.File.{policyOf}
 use Rattle.policy.specs.declared.Layout.{Layout}
-use Rattle.enforcer.specs.Tick.{inputChoice}
-use Rattle.enforcer.specs.Entries.{chosen, xGood, marksRefusal, stateRefusal, inputRefusal, inputOf}
+use Rattle.enforcer.specs.Entries.{marksRefusal, stateRefusal, inputRefusal, inputOf, inputPast}
 use Rattle.enforcer.specs.Code.{asPlace, place}
-use Rattle.enforcer.specs.Ready.{Laid, Standing}
-use Rattle.choice.specs.Said.{choiceSaid}
-use Rattle.enforcer.specs.Laid.{laid-limits, laid-inputs, laid-place}
+use Rattle.enforcer.specs.Ready.{Standing}
+use Rattle.enforcer.specs.Laid.{laid-place}
 use Rattle.enforcer.specs.States.{chosen-first, Granted, marks-by, granted-laid, granted-standing}
 use Rattle.enforcer.proofs.halves.input_half.Statement.{statement}
 use Rattle.enforcer.proofs.halves.input_half.Tie as tie
@@ -68,59 +58,25 @@ standing : (c : tie.Else2) →
     Standing (now (a .file)) (s .check-under .result .layout) (now (a .marks)) (a .state)
 standing c = let l = laid (c .before .before .before) in granted-standing (l .laid) (l .enough) (granted c)
 
-values-requires : tie.Need-values-requires
-values-requires c κs = omega (arith, laid-limits (laid (c .before .before .before) .laid))
-
 -- What is left to ask past 16: whether x is within the inputs' values, and which input is chosen.
 left : (c : tie.Else2) →
     let s = c .before .before .before .before .before in
     let a = s .before .before .before .args in
     inputOf (a .reading) (now (a .file)) (now (a .marks)) (asPlace (a .state)) (a .x)
-    ≡ chosen (unless (xGood (s .check-under .result .layout .reading) (now (a .file)) (a .x)) 15)
-    (inputChoice (policyOf (s .check-under .result .layout .reading) (now (a .file))) (now (a .marks)) (place (s .check-under .result .layout .clocks) (a .state)) (a .x))
+    ≡ inputPast (s .check-under .result .layout .reading) (now (a .file)) (now (a .marks)) (place (s .check-under .result .layout .clocks) (a .state)) (a .x)
 unfolding inputOf inputRefusal
 left c =
     let e = c .before .before .before in
     rw (passed e, ← laid e .named, granted c, laid-place (laid e .laid) (e .before .before .before .before .before .args .state))
 
--- The values that x may have are the policy's, and past 15 x is one of them.
-inputs : (c : tie.After-values) →
-    c .values .result ≡ inputValues (policyOf (laidOut (c .before .before .before .before) .reading) (now (c .before .before .before .before .before .before .before .before .before .args .file)))
-inputs c = c .values .ensures ∙ laid-inputs (laid (c .before .before .before .before) .laid) .0
+own-of-requires : tie.Need-own-of-requires
+own-of-requires c κs = standing c .laid
 
-fits : (c : tie.Else3) →
-    let a = c .before .before .before .before .before .before .before .before .before .before .args in a .x < inputValues (policyOf (laidOut (c .before .before .before .before .before) .reading) (now (a .file)))
-fits c = rw (inputs (c .before)) at (c .if3 .left)
+input-by-requires : tie.Need-input-by-requires
+input-by-requires c κs = (standing (c .before), c .own-of .ensures)
 
 returns-3 : tie.Need-returns-3
-returns-3 c =
-    let v = c .before in record { said = sym (left (v .before) ∙ rw (← inputs v, le-ltb _ _ (c .if3 .taken))) }
-
-here-of-requires : tie.Need-here-of-requires
-here-of-requires c κs = standing (c .before .before) .laid
-
-choose-input-requires : tie.Need-choose-input-requires
-choose-input-requires c κs =
-    let e = c .before in (record { standing = standing (e .before .before); here = c .here-of .ensures }, fits e)
-
-enum-known-z : tie.Need-enum-known-z
-enum-known-z c = search needs
-
-enum-told : tie.Need-enum-told
-enum-told c = search needs
-
--- And the chooser says the rest.
-given : (c : tie.After-choose-input) →
-    let s = c .before .before .before .before .before .before .before .before .before in
-    let a = s .before .before .before .args in
-    inputOf (a .reading) (now (a .file)) (now (a .marks)) (asPlace (a .state)) (a .x) ≡ chosen 0 (choiceSaid (c .choose-input .result))
-given c = let e = c .before .before in left (e .before .before) ∙ rw (lt-ltb _ _ (fits e), ← c .choose-input .ensures)
-
-returns-4 : tie.Need-returns-4
-returns-4 c = record { said = sym (given (c .before .before .before) ∙ rw (c .before .z .given .1)) }
-
-returns-5 : tie.Need-returns-5
-returns-5 c = record { said = sym (given (c .before .before) ∙ rw (c .enum-told .given .1)) }
+returns-3 c = record { said = c .input-by .ensures ∙ sym (left (c .before .before)) }
 
 pub input-half-spec : {M : Type 1} → statement M
 input-half-spec =
@@ -131,11 +87,6 @@ input-half-spec =
     returns
     state-refusal-requires
     returns-2
-    values-requires
-    returns-3
-    here-of-requires
-    choose-input-requires
-    enum-known-z
-    enum-told
-    returns-4
-    returns-5)
+    own-of-requires
+    input-by-requires
+    returns-3)

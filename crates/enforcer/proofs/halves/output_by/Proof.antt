@@ -1,0 +1,114 @@
+-- `enforcer::halves::output_by` meets its contract: 15, and then the tick.
+use mathlib.Core.Path.{_≡_, refl, sym, ap, _∙_}
+use mathlib.Core.Bool.{cond}
+use mathlib.Core.Option.{Option, none, some}
+use Prim.Native.Nat.{_<_}
+use native.Mathlib.Omega.{arith}
+use borrow.Author.Needs.{needs}
+use borrow.Author.Tests.{lt-ltb, le-ltb, not-true, not-false}
+use denote.Ref.{now}
+use Rattle.policy.specs.Rules.{inputValues, outputValues}
+use Rattle.policy.specs.File.{policyOf}
+use Rattle.enforcer.specs.Tick.{Tick, outputTick}
+use Rattle.enforcer.specs.Entries.{OutputAnswer, chosen, outputFrom, outputPast}
+use Rattle.enforcer.specs.Code.{asPlace, place}
+use Rattle.enforcer.specs.Chosen.{tickFrom}
+use Rattle.enforcer.specs.Laid.{laid-limits, laid-inputs, laid-outputs}
+use Rattle.enforcer.specs.Promises.{outputSaid}
+use Rattle.enforcer.specs.declared.state.State.{State}
+use Rattle.enforcer.specs.declared.tick.Ticked.{Ticked}
+use Rattle.enforcer.specs.declared.halves.Answer.the-variants.{Value, Refused}
+use Rattle.enforcer.proofs.halves.output_by.Statement.{statement}
+use Rattle.enforcer.proofs.halves.output_by.Tie as tie
+
+-- The answer of the half by that of its tick.
+abbrev tickSaid : State → Ticked → OutputAnswer
+tickSaid s r =
+    cond (r .released) (outputSaid (record { answer = Value (r .y); state = r .state })) (outputSaid (record { answer = Refused 17; state = s }))
+
+tick-says : (s : State) (d : Option Tick) → outputFrom (asPlace s) (chosen 0 d) ≡ tickSaid s (tickFrom s d)
+tick-says s none = refl
+tick-says s (some t) = refl
+
+values-requires : tie.Need-values-requires
+values-requires c κs = omega (arith, laid-limits (c .before .before .pre .0 .laid))
+
+-- The values that x and y may have are the policy's, and past 15 they are among them.
+inputs : (c : tie.After-values) → let a = c .before .before .before .args in c .values .result ≡ inputValues (policyOf (a .layout .reading) (now (a .file)))
+inputs c = c .values .ensures ∙ laid-inputs (c .before .before .before .pre .0 .laid) .0
+
+refused-requires : tie.Need-refused-requires
+refused-requires c κs = search needs
+
+returns : tie.Need-returns
+returns c = ap outputSaid (c .refused .ensures) ∙ sym (rw (← inputs (c .before .before), le-ltb _ _ (c .before .if1 .taken)))
+
+values-requires-2 : tie.Need-values-requires-2
+values-requires-2 c κs = omega (arith, laid-limits (c .before .before .before .before .pre .0 .laid))
+
+outputs : (c : tie.After-values2) → let a = c .before .before .before .before .before .args in c .values2 .result ≡ outputValues (policyOf (a .layout .reading) (now (a .file)))
+outputs c = c .values2 .ensures ∙ laid-outputs (c .before .before .before .before .before .pre .0 .laid) .0
+
+x-fits : (c : tie.Else1) → let a = c .before .before .before .before .args in a .x < inputValues (policyOf (a .layout .reading) (now (a .file)))
+x-fits c = rw (inputs (c .before)) at (c .if1 .left)
+
+refused-requires-2 : tie.Need-refused-requires-2
+refused-requires-2 c κs = search needs
+
+returns-2 : tie.Need-returns-2
+returns-2 c =
+    let v = c .before .before in
+    ap outputSaid (c .refused2 .ensures) ∙ sym (rw (lt-ltb _ _ (x-fits (v .before)), ← outputs v, le-ltb _ _ (c .before .if2 .taken)))
+
+y-fits : (c : tie.Else2) → let a = c .before .before .before .before .before .before .args in a .y < outputValues (policyOf (a .layout .reading) (now (a .file)))
+y-fits c = rw (outputs (c .before)) at (c .if2 .left)
+
+here-by-requires : tie.Need-here-by-requires
+here-by-requires c κs = let s = c .before .before .before .before .before .before in (s .pre .0 .laid, s .pre .1)
+
+output-tick-requires : tie.Need-output-tick-requires
+output-tick-requires c κs =
+    let e = c .before in
+    (record { standing = e .before .before .before .before .before .before .pre .0; here = c .here-by .ensures }, y-fits e)
+
+-- The tick says the rest.
+abbrev asked : tie.After-output-tick → Option Tick
+asked c =
+    let a = c .before .before .before .before .before .before .before .before .args in
+    outputTick (policyOf (a .layout .reading) (now (a .file))) (now (a .marks)) (place (a .layout .clocks) (a .state)) (a .x) (a .y)
+
+given : (c : tie.After-output-tick) →
+    let a = c .before .before .before .before .before .before .before .before .args in
+    outputPast (a .layout .reading) (now (a .file)) (now (a .marks)) (asPlace (a .state)) (place (a .layout .clocks) (a .state)) (a .x) (a .y)
+    ≡ tickSaid (a .state) (c .output-tick .result)
+given c =
+    let e = c .before .before in
+    rw (lt-ltb _ _ (x-fits (e .before .before)), lt-ltb _ _ (y-fits e), c .output-tick .ensures) (tick-says (c .before .before .before .before .before .before .before .before .args .state) (asked c))
+
+refused-requires-3 : tie.Need-refused-requires-3
+refused-requires-3 c κs = search needs
+
+returns-3 : tie.Need-returns-3
+returns-3 c =
+    let t = c .before .before .before in
+    ap outputSaid (c .refused3 .ensures) ∙ sym (given t ∙ rw (not-true (t .output-tick .result .released) (c .before .if3 .taken)))
+
+returns-4 : tie.Need-returns-4
+returns-4 c =
+    let t = c .before .before .before in sym (given t ∙ rw (not-false (t .output-tick .result .released) (c .before .if3 .left)))
+
+pub output-by-spec : {M : Type 1} → statement M
+output-by-spec =
+    tie.close
+    (tie.spec
+    values-requires
+    refused-requires
+    returns
+    values-requires-2
+    refused-requires-2
+    returns-2
+    here-by-requires
+    output-tick-requires
+    refused-requires-3
+    returns-3
+    returns-4)

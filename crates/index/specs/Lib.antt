@@ -1,0 +1,4 @@
+pub mod Index
+pub mod Names
+pub mod Sections
+pub mod Entry

@@ -1,0 +1,90 @@
+-- What the functions' proofs cite: what is refused up to 10, test by test, and what is left past 16.
+use mathlib.Core.Path.{_≡_, refl, sym, ap, _∙_}
+use mathlib.Core.Bool.{Bool, true, false}
+use mathlib.Core.List.{List}
+use Prim.Native.Nat.{ℕ, zero, suc}
+use native.Mathlib.Omega.{arith}
+use lib.Dec.{leb}
+use lib.ListN.{length}
+use Rattle.streams.specs.Answer.{Answer, refused, _orElse_, unless, first-refused}
+use Rattle.policy.specs.File.{policyOf}
+use Rattle.policy.specs.Check.{refusalUnder}
+use Rattle.policy.specs.Layout.{checkedUnder, under-says}
+use Rattle.policy.specs.Number.{states}
+use Rattle.policy.specs.declared.Layout.{Layout}
+use Rattle.policy.specs.declared.Checked.{Checked}
+use Rattle.index.specs.Index.{indexOf, isIndex}
+use Rattle.index.specs.Sections.{Sections}
+use Rattle.enforcer.specs.Ready.{Laid, Standing}
+use Rattle.enforcer.specs.Entries.{OutputAnswer, marksRefusal, stateRefusal, inputOf, inputRefusal, inputPast, outputOf, outputRefusal, outputFrom, outputPast}
+use Rattle.enforcer.specs.Code.{asPlace, place}
+use Rattle.enforcer.specs.Laid.{laid-of, laid-place, laid-sections}
+use Rattle.enforcer.specs.States.{chosen-first, Granted, marks-by, granted-laid, granted-standing}
+use Rattle.enforcer.specs.declared.state.State.{State}
+use Rattle.indexed.specs.Entries.{indexRefusal, earlyRefusal, inputIndexedOf, outputIndexedOf}
+use Rattle.indexed.specs.Same.{input-same, output-same, early-granted}
+
+-- What the check answered, and what it makes sure of.
+module _ (reading : ℕ) (file : List ℕ) {r : Checked} (e : r ≡ checkedUnder reading file) where
+  number : r .refusal ≡ refusalUnder reading file
+  number = ap (λ (c : Checked). c .refusal) e ∙ under-says reading file .0
+
+  pub early-check : (index marks : List ℕ) → (r .refusal ≡ 0 → ⊥) → r .refusal ≡ earlyRefusal reading file index marks
+  unfolding earlyRefusal indexRefusal
+  early-check index marks h =
+      rw (← number) (sym (ap (λ (n : ℕ). n orElse marksRefusal reading file marks) (first-refused (r .refusal) _ h) ∙ first-refused (r .refusal) _ h))
+
+  pub early-sections : r .refusal ≡ 0 → Sections file (r .layout)
+  early-sections z = laid-sections (laid-of reading file r e z .0)
+
+  pub early-wrong : (index marks : List ℕ) → r .refusal ≡ 0 → isIndex file index ≡ false → 28 ≡ earlyRefusal reading file index marks
+  unfolding earlyRefusal indexRefusal
+  early-wrong index marks z w = let n = sym number ∙ z in rw (n, w)
+
+  pub early-marks : (index marks : List ℕ) → r .refusal ≡ 0 → isIndex file index ≡ true → {n : ℕ} →
+      n ≡ (r .refusal orElse unless (leb (r .layout .states) (length marks)) 10) → n ≡ earlyRefusal reading file index marks
+  unfolding earlyRefusal indexRefusal
+  early-marks index marks z w m = let n = sym number ∙ z in (m ∙ marks-by reading file marks e) ∙ sym (rw (n, w))
+
+  -- Past 10: the index is the file's, its layout, and a mark for each state.
+  module _ (index marks : List ℕ) (none : earlyRefusal reading file index marks ≡ 0) where
+    pub early-index : index ≡ indexOf file
+    early-index = early-granted reading file index marks none .0
+
+    pub early-laid : Granted reading file marks (r .layout)
+    early-laid = granted-laid marks e (early-granted reading file index marks none .1)
+
+    module _ (s : State) where
+      -- 16 is what is refused then.
+      pub input-state : (x : ℕ) {n : ℕ} → n ≡ stateRefusal (r .layout .reading) file marks (asPlace s) → (n ≡ 0 → ⊥) →
+          inputIndexedOf reading file index marks (asPlace s) x ≡ refused n
+      unfolding inputOf inputRefusal
+      input-state x q h =
+          input-same reading file index marks (asPlace s) early-index x
+          ∙ rw (early-granted reading file index marks none .1, ← early-laid .named) (chosen-first _ _ _ q h)
+
+      pub output-state : (x y : ℕ) {n : ℕ} → n ≡ stateRefusal (r .layout .reading) file marks (asPlace s) → (n ≡ 0 → ⊥) →
+          outputIndexedOf reading file index marks (asPlace s) x y ≡ record { answer = refused n; state = asPlace s }
+      unfolding outputOf outputRefusal
+      output-state x y q h =
+          output-same reading file index marks (asPlace s) early-index x y
+          ∙ rw (early-granted reading file index marks none .1, ← early-laid .named) (ap (outputFrom (asPlace s)) (chosen-first _ _ _ q h))
+
+      module _ (good : stateRefusal (r .layout .reading) file marks (asPlace s) ≡ 0) where
+        pub early-standing : Standing file (r .layout) marks s
+        early-standing = granted-standing (early-laid .laid) (early-laid .enough) good
+
+        -- Past 16 only 15 and 17 are left.
+        pub input-left : (x : ℕ) → inputIndexedOf reading file index marks (asPlace s) x ≡ inputPast (r .layout .reading) file marks (place (r .layout .clocks) s) x
+        unfolding inputOf inputRefusal
+        input-left x =
+            input-same reading file index marks (asPlace s) early-index x
+            ∙ rw (early-granted reading file index marks none .1, ← early-laid .named, good, laid-place (early-laid .laid) s)
+
+        pub output-left : (x y : ℕ) →
+            outputIndexedOf reading file index marks (asPlace s) x y
+            ≡ outputPast (r .layout .reading) file marks (asPlace s) (place (r .layout .clocks) s) x y
+        unfolding outputOf outputRefusal
+        output-left x y =
+            output-same reading file index marks (asPlace s) early-index x y
+            ∙ rw (early-granted reading file index marks none .1, ← early-laid .named, good, laid-place (early-laid .laid) s)

@@ -1,0 +1,123 @@
+//! A wrong file given to every function that takes one: refused by the number
+//! of what is wrong in it, and nothing is written.
+
+use super::*;
+use crate::samples::*;
+
+pub fn all() -> Vec<Written> {
+    let mut all = Vec::new();
+    for (number, file) in WRONG_FILES {
+        for call in calls() {
+            all.push(refused(number, call.with_file(from_hex(file))));
+        }
+        all.push(refused(
+            number,
+            Call::Join {
+                a: from_hex(S),
+                b: from_hex(file),
+                out: vec![FILLER; 40],
+            },
+        ));
+    }
+    all
+}
+
+/// One for each number.
+const WRONG_FILES: [(u64, &str); 9] = [
+    (1, "01"),
+    (2, "05 41 42 43 44 45 00 00 01 00 00 00"),
+    (3, "01 61 00 00 01 00 00 00"),
+    (4, "00 00 01 00 00 01 00 00 00"),
+    (5, "00 00 00 01 02 00 00"),
+    (6, "00 00 00 01 00 00 01 00 00 00 00 00 00 01"),
+    (
+        7,
+        "00 00 01 00 01 01 00 00 01 00 00 00 00 00 00 00 00 01 00 00",
+    ),
+    (8, "00 00 00 01 00 00 00 00"),
+    (9, "00 00 02 00 FF 01 00 01 00 00 00"),
+];
+
+/// One call of each function that takes a file, which would not be refused
+/// about T.
+fn calls() -> Vec<Call> {
+    let (reading, file, marks, state) = (FIRST_READING, from_hex(T), vec![1, 0], START.to_vec());
+    let mut index = vec![0, 2, 2];
+    index.resize(128, 0);
+    vec![
+        Call::Prepare {
+            reading,
+            file: file.clone(),
+            marks: vec![FILLER; 2],
+        },
+        Call::Input {
+            reading,
+            file: file.clone(),
+            marks: marks.clone(),
+            state: state.clone(),
+            x: 1,
+        },
+        Call::Output {
+            reading,
+            file: file.clone(),
+            marks: marks.clone(),
+            state: state.clone(),
+            x: 0,
+            y: 1,
+        },
+        Call::Run {
+            reading,
+            file: file.clone(),
+            marks: marks.clone(),
+            state: state.clone(),
+            events: vec![1, 17],
+            released: vec![FILLER; 2],
+        },
+        Call::Join {
+            a: file.clone(),
+            b: file.clone(),
+            out: vec![FILLER; 60],
+        },
+        Call::Index {
+            file: file.clone(),
+            index: vec![0xEEEE; 128],
+        },
+        Call::InputIndexed {
+            reading,
+            file: file.clone(),
+            marks: marks.clone(),
+            state: state.clone(),
+            index: index.clone(),
+            x: 1,
+        },
+        Call::OutputIndexed {
+            reading,
+            file: file.clone(),
+            marks: marks.clone(),
+            state: state.clone(),
+            index: index.clone(),
+            x: 0,
+            y: 1,
+        },
+    ]
+}
+
+fn refused(number: u64, call: Call) -> Written {
+    let name = format!("{number}: a wrong file");
+    let (bytes, state) = (call.lent_bytes().to_vec(), call.lent_state().to_vec());
+    written(&name, call, number, bytes, state)
+}
+
+#[cfg(test)]
+mod tests {
+    use super::*;
+    use crate::engine::{refusal_in, Model};
+
+    /// Of T itself nothing is refused, so that it is the file alone.
+    #[test]
+    fn the_calls_are_proper() {
+        for call in calls() {
+            assert_eq!(refusal_in(call.make(&mut Model).answer), 0, "{call}");
+        }
+    }
+}

@@ -1,0 +1,109 @@
+/*
+ * Reads how much stack each function of the library uses: each is called on a stack of its own that was painted before, and the bytes no longer
+ * painted are counted, less those of a call that does nothing.
+ *
+ *     rt staticlib groovepawn
+ *     cc -O2 -Iinclude tools/stack.c target/staticlib/libgroovepawn.a -o stack -pthread && ./stack
+ */
+#include "groovepawn.h"
+#include <pthread.h>
+#include <stdint.h>
+#include <stdio.h>
+#include <string.h>
+
+enum { STACK = 1 << 20, PAINT = 0xA5, RULES = 256, STATES = 65536, EVENTS = 16384, TEXT = 497013 };
+
+static _Alignas(4096) uint8_t stack[STACK];
+static uint8_t file[5974], joined[5974], marks[STATES], quiet[EVENTS], restless[EVENTS], events[EVENTS], released[EVENTS], text[TEXT];
+static size_t length, text_length;
+static uint16_t state[5], index_of_file[128];
+static uint8_t reading;
+
+/* 256 rules at location 0 that hold and each take one event, over 4 clocks; those to location 1, which has no rules, lead nowhere. */
+static void nested(void) {
+    static const uint8_t head[] = {4, 'A', 'B', 'C', 'D', 4, 'E', 'F', 'G', 'H', 4, 0, 3, 0, 3, 0, 3, 0, 3, 2, 0, 0, 1, 0};
+    memcpy(file, head, sizeof head);
+    length = sizeof head;
+    for (int event = 0; event < RULES; event++) {
+        uint8_t x = event >> 4, y = event & 15;
+        uint8_t rule[] = {0, 15 & ~x, 0, 15 & ~y, 0, 15, x == 0 || event == 128, 0, 0, 0, 2, 0, 0, 0, 2, 0, 0, 0, 2, 0, 0, 0, 2};
+        memcpy(file + length, rule, sizeof rule);
+        length += sizeof rule;
+    }
+}
+
+/* The same with bounds that fail last, but for the last rule, which takes the event 15, 15 alone. */
+static void barred(void) {
+    nested();
+    for (int i = 0; i < RULES; i++) {
+        uint8_t *rule = file + length - (RULES - i) * 23;
+        uint8_t last = i == RULES - 1 ? 15 : 0;
+        memset(rule + 1, last, 4);
+        rule[6] = 0;
+        for (int clock = 0; clock < 4; clock++) memcpy(rule + 7 + 4 * clock, (uint8_t[]){0, 0, 0xFF, 0xFF}, 4);
+        if (last == 0) rule[20] = 2;
+    }
+}
+
+/* All that the signals can do, for a join. */
+static const uint8_t any[] = {4, 'A', 'B', 'C', 'D', 4, 'E', 'F', 'G', 'H', 0, 1, 0, 0, 1, 0, 0, 0, 0, 0, 0, 0};
+
+static uint64_t answer;
+static void nothing(void) { answer = 0; }
+static void prepare(void) { answer = groovepawn_prepare(reading, file, length, marks, STATES); }
+static void input(void) { answer = groovepawn_input(reading, file, length, marks, STATES, state, 5, 0); }
+static void output(void) { answer = groovepawn_output(reading, file, length, marks, STATES, state, 5, 15, 0); }
+static void run(void) { answer = groovepawn_run(reading, file, length, marks, STATES, state, 5, quiet, EVENTS, released, EVENTS); }
+static void join(void) { answer = groovepawn_join(file, length, any, sizeof any, joined, sizeof joined); }
+static void ticks(void) { answer = groovepawn_ticks(12345, 100, 1); }
+static void wave_write(void) { text_length = (answer = groovepawn_wave_write(file, length, restless, EVENTS, text, TEXT)) >> 8; }
+static void wave_read(void) { answer = groovepawn_wave_read(file, length, text, text_length, events, EVENTS); }
+static void build(void) { answer = groovepawn_index(file, length, index_of_file, 128); }
+static void input_indexed(void) { answer = groovepawn_input_indexed(reading, file, length, index_of_file, 128, marks, STATES, state, 5, 0); }
+static void output_indexed(void) { answer = groovepawn_output_indexed(reading, file, length, index_of_file, 128, marks, STATES, state, 5, 15, 0); }
+
+static const struct { const char *name; void (*call)(void); } calls[] = {
+    {"groovepawn_prepare", prepare}, {"groovepawn_index", build},
+    {"groovepawn_input", input}, {"groovepawn_output", output}, {"groovepawn_run", run},
+    {"groovepawn_input_indexed", input_indexed}, {"groovepawn_output_indexed", output_indexed},
+    {"groovepawn_join", join}, {"groovepawn_ticks", ticks},
+    {"groovepawn_wave_write", wave_write}, {"groovepawn_wave_read", wave_read},
+};
+enum { CALLS = sizeof calls / sizeof *calls };
+
+static void *on_the_stack(void *call) {
+    (*(void (**)(void))call)();
+    return NULL;
+}
+
+static size_t used(void (*call)(void)) {
+    pthread_attr_t attributes;
+    pthread_t thread;
+    memset(stack, PAINT, STACK);
+    pthread_attr_init(&attributes);
+    pthread_attr_setstack(&attributes, stack, STACK);
+    pthread_create(&thread, &attributes, on_the_stack, &call);
+    pthread_join(thread, NULL);
+    size_t untouched = 0;
+    while (untouched < STACK && stack[untouched] == PAINT) untouched++;
+    return STACK - untouched;
+}
+
+int main(void) {
+    size_t most[CALLS] = {0};
+    size_t none = used(nothing);
+    for (int i = 0; i < EVENTS; i++) restless[i] = i % 2 ? 0xFF : 0;
+    for (int policy = 0; policy < 2; policy++) {
+        for (reading = 1; reading <= 2; reading++) {
+            (policy ? barred : nested)();
+            for (int i = 0; i < CALLS; i++) {
+                memset(state, 0, sizeof state);
+                size_t bytes = used(calls[i].call) - none;
+                if (most[i] < bytes) most[i] = bytes;
+                if (answer & 255) printf("%s refused %d\n", calls[i].name, (int)(answer & 255));
+            }
+        }
+    }
+    for (int i = 0; i < CALLS; i++) printf("%-28s %6zu bytes\n", calls[i].name, most[i]);
+    return 0;
+}
