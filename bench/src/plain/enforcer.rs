@@ -140,11 +140,13 @@ impl<'a> Enforcer<'a> {
         }
     }
 
-    /// Corrects tick by tick until the events end or nothing may stand.
+    /// Corrects tick by tick until the events end or nothing may stand. The
+    /// rules of each location are found before the first tick.
     fn release(&self, start: State, events: &[u8], released: &mut [u8]) -> (RunEnd, State) {
+        let rules = self.policy.rules.by_location();
         let mut state = start;
         for (count, (event, out)) in events.iter().zip(released).enumerate() {
-            let moment = self.at(state);
+            let moment = self.with(state, rules[usize::from(state.location())]);
             let Some((x, y, next)) = moment.correct(event & 15, event >> 4) else {
                 let end = RunEnd {
                     refusal: Some(Refusal::NothingReachesLive),

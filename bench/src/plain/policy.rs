@@ -91,6 +91,17 @@ impl<'a> Rules<'a> {
         }
     }
 
+    /// The rules of each location, found in one pass.
+    pub fn by_location(self) -> [Rules<'a>; MAX_LOCATIONS] {
+        let mut rest = self;
+        std::array::from_fn(|location| {
+            let own = rest.count_while(|source| usize::from(source) == location);
+            let (bytes, after) = rest.bytes.split_at(own * self.rule_length);
+            rest.bytes = after;
+            Rules { bytes, ..self }
+        })
+    }
+
     fn count_while(self, holds: impl Fn(u8) -> bool) -> usize {
         self.iter().take_while(|rule| holds(rule.source())).count()
     }

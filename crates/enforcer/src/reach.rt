@@ -59,7 +59,7 @@ fn seen_of(layout: Layout, state: State) -> State
     }
 }
 
-// The same where the location's rules are known.
+// What is worked out for a state whose location's rules are known.
 pub fn here_by(file: &[u8], layout: Layout, own: Own, state: State) -> Here
     requires { ⌜ Laid (now file) layout × (own ≡ ownOf (layout .clocks) (state .location) (rulesOf (now file))) ⌝ }
     ensures { λ r. ⌜ HereOf (now (file .entry)) layout state r ⌝ }
@@ -68,14 +68,6 @@ pub fn here_by(file: &[u8], layout: Layout, own: Own, state: State) -> Here
         own,
         seen: seen_of(layout, state),
     }
-}
-
-pub(crate) fn here_of(file: &[u8], layout: Layout, state: State) -> Here
-    requires { ⌜ Laid (now file) layout ⌝ }
-    ensures { λ r. ⌜ HereOf (now (file .entry)) layout state r ⌝ }
-{
-    let own = own_of(file, layout, state);
-    here_by(file, layout, own, state)
 }
 
 // The state after the event x, y, by the rules of its own location.

@@ -4,6 +4,9 @@ use crate::halves::state_refusal;
 use crate::reach::values;
 use crate::state::State;
 use crate::tick::tick;
+use index::NUMBERS;
+use index::fill;
+use index::own_at;
 use policy::Layout;
 ghost use mathlib.Core.Path.{_≡_};
 ghost use mathlib.Core.Bool.{true};
@@ -12,6 +15,7 @@ ghost use Prim.Native.Nat.{_≤_};
 ghost use lib.ListN.{length};
 ghost use Rattle.policy.specs.File.{policyOf};
 ghost use Rattle.policy.specs.Check.{all};
+ghost use Rattle.index.specs.Index.{indexOf};
 ghost use Rattle.enforcer.specs.Tick.{ran};
 ghost use Rattle.enforcer.specs.Entries.{eventOf, eventGood, runFrom};
 ghost use Rattle.enforcer.specs.Code.{asPlace, place, stateFrom};
@@ -46,10 +50,11 @@ fn events_good(file: &[u8], layout: Layout, events: &[u8]) -> bool
     true
 }
 
-// Releases one event for each one read, until nothing may stand.
+// Releases one event for each one read, until nothing may stand. The index has the rules of each location.
 fn release(
     file: &[u8],
     layout: Layout,
+    index: &[u16],
     marks: &[u8],
     start: State,
     events: &[u8],
@@ -57,13 +62,15 @@ fn release(
 ) -> Ran
     requires { ⌜ Standing (now file) layout (now marks) start × (stateFrom (place (layout .clocks) start) ≡ start) ⌝ }
     requires { ⌜ (length (now events) ≤ length (now out)) × (all (eventGood (layout .reading) (now file)) (now events) ≡ true) ⌝ }
+    requires { ⌜ now index ≡ indexOf (now file) ⌝ }
     ensures { λ r. ⌜ ranSaid r (now (out .exit)) ≡ runFrom (asPlace start) (now (out .entry)) 0 (ran (policyOf (layout .reading) (now (file .entry))) (now (marks .entry)) (place (layout .clocks) start) (map eventOf (now (events .entry)))) ⌝ }
 {
     let mut state = start;
     let mut i = 0;
     while i < events.len() {
         let event = events[i];
-        let t = tick(file, layout, marks, state, event % 16, event / 16);
+        let own = own_at(file, layout, index, state.location);
+        let t = tick(file, layout, own, marks, state, event % 16, event / 16);
         if !t.released {
             return Ran {
                 refusal: 17,
@@ -109,7 +116,9 @@ pub fn run(
     if !events_good(file, layout, events) {
         return refused(state, 15);
     }
-    release(file, layout, marks, state, events, out)
+    let mut index = [0; NUMBERS];
+    fill(file, layout, &mut index);
+    release(file, layout, &index, marks, state, events, out)
 }
 
 fn refused(state: State, refusal: u8) -> Ran

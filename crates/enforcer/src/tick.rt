@@ -3,16 +3,18 @@ use crate::choose::choose_input;
 use crate::choose::choose_output;
 use crate::reach::Here;
 use crate::reach::arrival;
-use crate::reach::here_of;
+use crate::reach::here_by;
 use crate::reach::step_of;
 use crate::state::State;
 use choice::Choice;
 use policy::Layout;
+use policy::Own;
 ghost use mathlib.Core.Path.{_≡_};
 ghost use mathlib.Core.Bool.{true};
 ghost use mathlib.Core.Option.{none};
 ghost use Prim.Native.Nat.{_<_};
-ghost use Rattle.policy.specs.File.{policyOf};
+ghost use Rattle.policy.specs.File.{policyOf, rulesOf};
+ghost use Rattle.policy.specs.Own.{ownOf};
 ghost use Rattle.policy.specs.Rules.{inputValues, outputValues};
 ghost use Rattle.enforcer.specs.Tick.{outputTick, tick};
 ghost use Rattle.enforcer.specs.Code.{place, eventXY};
@@ -76,11 +78,19 @@ fn stuck(state: State) -> Ticked
 }
 
 // Both halves.
-pub(crate) fn tick(file: &[u8], layout: Layout, marks: &[u8], state: State, x: u8, y: u8) -> Ticked
-    requires { ⌜ Standing (now file) layout (now marks) state × (x < inputValues (policyOf (layout .reading) (now file))) × (y < outputValues (policyOf (layout .reading) (now file))) ⌝ }
+pub(crate) fn tick(
+    file: &[u8],
+    layout: Layout,
+    own: Own,
+    marks: &[u8],
+    state: State,
+    x: u8,
+    y: u8,
+) -> Ticked
+    requires { ⌜ Standing (now file) layout (now marks) state × (own ≡ ownOf (layout .clocks) (state .location) (rulesOf (now file))) × (x < inputValues (policyOf (layout .reading) (now file))) × (y < outputValues (policyOf (layout .reading) (now file))) ⌝ }
     ensures { λ r. ⌜ r ≡ tickFrom state (tick (policyOf (layout .reading) (now (file .entry))) (now (marks .entry)) (place (layout .clocks) state) (eventXY x y)) ⌝ }
 {
-    let here = here_of(file, layout, state);
+    let here = here_by(file, layout, own, state);
     let read = arrival(file, layout, here, marks, state, x, y);
     if read.permitted {
         return released(x, y, read.state);

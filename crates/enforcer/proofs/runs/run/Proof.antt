@@ -1,5 +1,6 @@
 -- `enforcer::runs::run` meets its contract: at each return the refusals before it are none.
 use mathlib.Core.Path.{_≡_, sym, _∙_}
+use mathlib.Core.List.{append-nil}
 use Prim.Native.Nat.{_≤_}
 use native.Mathlib.Omega.{arith}
 use lib.ListN.{length}
@@ -14,7 +15,7 @@ use Rattle.policy.specs.declared.Layout.{Layout}
 use Rattle.enforcer.specs.Entries.{eventGood, marksRefusal, stateRefusal, runRefusal, runOf}
 use Rattle.enforcer.specs.Code.{asPlace}
 use Rattle.enforcer.specs.Ready.{Laid}
-use Rattle.enforcer.specs.Laid.{laid-place}
+use Rattle.enforcer.specs.Laid.{laid-place, laid-sections}
 use Rattle.enforcer.specs.States.{state-granted, Granted, marks-by, granted-laid, granted-standing}
 use Rattle.enforcer.proofs.RunLaws.{good-back, run-past, run-refused}
 use Rattle.enforcer.proofs.runs.run.Statement.{statement}
@@ -107,15 +108,25 @@ returns-4 c =
     let e = sym (g .events-good .ensures) ∙ not-true _ (c .before .if4 .taken) in
     run-refused (c .refused4 .ensures) (λ z. omega arith) (rw (past (g .before), e))
 
+slice-aggregate-fill : tie.Need-slice-aggregate-fill
+slice-aggregate-fill c = search needs
+
+fill-requires : tie.Need-fill-requires
+fill-requires c κs = (laid-sections (laid (c .before .before .before .before .before .before .before) .laid), omega arith)
+
+slice-aggregate-release : tie.Need-slice-aggregate-release
+slice-aggregate-release c = search needs
+
 release-requires : tie.Need-release-requires
 release-requires c κs =
-    let g = c .before .before in
+    let i = c .before .before .before .before in
+    let g = i .before .before in
     let l = g .before .before .before .before in
     let s = start (l .before) in
     let k = laid (l .before) in
     let z = none3 (g .before) in (
       (granted-standing (k .laid) (k .enough) z, good-back (k .laid) _ (clocks s) (state-granted _ _ _ _ .0 z .0)),
-      (l .if2 .left, sym (g .events-good .ensures) ∙ not-false _ (c .before .if4 .left)),
+      ((l .if2 .left, sym (g .events-good .ensures) ∙ not-false _ (i .before .if4 .left)), c .before .before .before .fill .ensures ∙ append-nil _),
     )
 
 same-length : tie.Need-same-length
@@ -125,8 +136,9 @@ returns-5 : tie.Need-returns-5
 unfolding runOf
 returns-5 c =
     let r = c .before .before in
-    let g = r .before .before .before in
-    let e = sym (g .events-good .ensures) ∙ not-false _ (r .before .before .if4 .left) in
+    let i = r .before .before .before .before .before in
+    let g = i .before .before in
+    let e = sym (g .events-good .ensures) ∙ not-false _ (i .before .if4 .left) in
     record { said = let l = laid (g .before .before .before .before .before) in rw (past (g .before), e, ← l .named, ← laid-place (l .laid) _) (r .release .ensures) }
 
 pub run-spec : {M : Type 1} → statement M
@@ -145,6 +157,9 @@ run-spec =
     events-good-requires
     refused-requires-4
     returns-4
+    slice-aggregate-fill
+    fill-requires
+    slice-aggregate-release
     release-requires
     same-length
     returns-5)

@@ -8,8 +8,8 @@ use Rattle.enforcer.specs.Arrived.{tick-as-read}
 use Rattle.enforcer.proofs.tick.tick.Statement.{statement}
 use Rattle.enforcer.proofs.tick.tick.Tie as tie
 
-here-of-requires : tie.Need-here-of-requires
-here-of-requires c κs = search needs
+here-by-requires : tie.Need-here-by-requires
+here-by-requires c κs = let s = c .before .before in (s .pre .0 .laid, s .pre .1)
 
 arrival-requires : tie.Need-arrival-requires
 arrival-requires c κs = search needs
@@ -21,7 +21,7 @@ returns : tie.Need-returns
 returns c =
     let b = c .before .before in
     let s = b .before .before .before .before in
-    c .released .ensures ∙ tick-as-read _ _ _ _ _ _ (b .arrival .ensures) (c .before .if1 .taken) (s .pre .2) (s .pre .1)
+    c .released .ensures ∙ tick-as-read _ _ _ _ _ _ (b .arrival .ensures) (c .before .if1 .taken) (s .pre .3) (s .pre .2)
 
 choose-input-requires : tie.Need-choose-input-requires
 choose-input-requires c κs = search needs
@@ -54,7 +54,7 @@ pub tick-spec : {M : Type 1} → statement M
 tick-spec =
     tie.close
     (tie.spec
-    here-of-requires
+    here-by-requires
     arrival-requires
     released-requires
     returns
