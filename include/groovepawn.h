@@ -16,6 +16,7 @@
  *   x, y    an input, an output: bit 0 is the first signal of its section of the file
  *   event   one byte: input x in the low four bits, output y in the high four
  *   text    a wave: a Value Change Dump (IEEE 1364) of a stream. 497,013 bytes are always enough
+ *   states  a list of bays: five numbers for each of 1 to 8 bays, one bay after the other
  *   index   128 numbers: for each of 64 locations the number of its first rule, counted from 0, and how many rules it has
  *
  * Readings. Contracts read a deadline in two ways, and the caller names one, by the number 1 or 2, as the first argument:
@@ -52,10 +53,12 @@
  *   19  the tick count is above 1,000
  *   21  a text is not one that groovepawn_wave_write makes, or holds a time above 16,384
  *   22  the reading is neither 1 nor 2
+ *   24  the list has no such bay
+ *   25  a list of bays is not five numbers for each of 1 to 8 bays
  *   28  the index is not that of the file, or not 128 numbers
  *   29  a stream to be written as a wave has over 16,384 events
  *
- * Where several hold, the first in this order is given: 22, 1 to 9 as they come in the file, 28, 10, 11, 14, 16, 15, 17. A join asks 1 to 9 of its first
+ * Where several hold, the first in this order is given: 22, 1 to 9 as they come in the file, 28, 10, 24, 11, 14, 16, 15, 17. A join asks 1 to 9 of its first
  * file, then of its second, then 12, 13, 14. A conversion asks 18, then 19. After 1 to 9 the writer of waves asks 29, 15, 14, their reader 21, 14.
  * With the marks of groovepawn_prepare under the same reading and a live state, groovepawn_input and groovepawn_run never give 17.
  *
@@ -156,6 +159,22 @@ uint32_t groovepawn_input_indexed(uint8_t reading, const uint8_t *file, size_t f
                                   const uint8_t *marks, size_t marks_len, const uint16_t *state, size_t state_len, uint8_t x);
 uint32_t groovepawn_output_indexed(uint8_t reading, const uint8_t *file, size_t file_len, const uint16_t *index, size_t index_len,
                                    const uint8_t *marks, size_t marks_len, uint16_t *state, size_t state_len, uint8_t x, uint8_t y);
+
+/*
+ * Makes a list of bays that share one policy and one set of marks, and starts every bay afresh: all numbers become 0.
+ * Refusal 25 for a length that is not five numbers for each of 1 to 8 bays; it leaves the numbers as given. Returns the refusal.
+ */
+uint32_t groovepawn_bays_new(uint16_t *states, size_t states_len);
+
+/*
+ * The halves of a tick of one bay, counted from 0: what groovepawn_input and groovepawn_output do with the five numbers of that bay. The numbers of
+ * the other bays are neither looked at nor changed. The policy, the marks and the reading stay the same while the list lives.
+ * Refusals 22, 1 to 10, 24 (the bay is not below the count, or what is lent is no list), 16, 15, 17.
+ */
+uint32_t groovepawn_bay_input(uint8_t reading, const uint8_t *file, size_t file_len, const uint8_t *marks, size_t marks_len,
+                              const uint16_t *states, size_t states_len, uint32_t bay, uint8_t x);
+uint32_t groovepawn_bay_output(uint8_t reading, const uint8_t *file, size_t file_len, const uint8_t *marks, size_t marks_len,
+                               uint16_t *states, size_t states_len, uint32_t bay, uint8_t x, uint8_t y);
 
 #ifdef __cplusplus
 }

@@ -113,4 +113,31 @@ extern "C" {
         x: u8,
         y: u8,
     ) -> u32;
+
+    pub fn groovepawn_bays_new(states: *mut u16, states_len: usize) -> u32;
+
+    pub fn groovepawn_bay_input(
+        reading: u8,
+        file: *const u8,
+        file_len: usize,
+        marks: *const u8,
+        marks_len: usize,
+        states: *const u16,
+        states_len: usize,
+        bay: u32,
+        x: u8,
+    ) -> u32;
+
+    pub fn groovepawn_bay_output(
+        reading: u8,
+        file: *const u8,
+        file_len: usize,
+        marks: *const u8,
+        marks_len: usize,
+        states: *mut u16,
+        states_len: usize,
+        bay: u32,
+        x: u8,
+        y: u8,
+    ) -> u32;
 }

@@ -16,7 +16,7 @@ enum { STACK = 1 << 20, PAINT = 0xA5, RULES = 256, STATES = 65536, EVENTS = 1638
 static _Alignas(4096) uint8_t stack[STACK];
 static uint8_t file[5974], joined[5974], marks[STATES], quiet[EVENTS], restless[EVENTS], events[EVENTS], released[EVENTS], text[TEXT];
 static size_t length, text_length;
-static uint16_t state[5], index_of_file[128];
+static uint16_t state[5], index_of_file[128], bays[40];
 static uint8_t reading;
 
 /* 256 rules at location 0 that hold and each take one event, over 4 clocks; those to location 1, which has no rules, lead nowhere. */
@@ -62,10 +62,15 @@ static void build(void) { answer = groovepawn_index(file, length, index_of_file,
 static void input_indexed(void) { answer = groovepawn_input_indexed(reading, file, length, index_of_file, 128, marks, STATES, state, 5, 0); }
 static void output_indexed(void) { answer = groovepawn_output_indexed(reading, file, length, index_of_file, 128, marks, STATES, state, 5, 15, 0); }
 
+static void bays_new(void) { answer = groovepawn_bays_new(bays, 40); }
+static void bay_input(void) { answer = groovepawn_bay_input(reading, file, length, marks, STATES, bays, 40, 7, 0); }
+static void bay_output(void) { answer = groovepawn_bay_output(reading, file, length, marks, STATES, bays, 40, 7, 15, 0); }
+
 static const struct { const char *name; void (*call)(void); } calls[] = {
     {"groovepawn_prepare", prepare}, {"groovepawn_index", build},
     {"groovepawn_input", input}, {"groovepawn_output", output}, {"groovepawn_run", run},
     {"groovepawn_input_indexed", input_indexed}, {"groovepawn_output_indexed", output_indexed},
+    {"groovepawn_bays_new", bays_new}, {"groovepawn_bay_input", bay_input}, {"groovepawn_bay_output", bay_output},
     {"groovepawn_join", join}, {"groovepawn_ticks", ticks},
     {"groovepawn_wave_write", wave_write}, {"groovepawn_wave_read", wave_read},
 };

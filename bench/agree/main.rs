@@ -2,6 +2,8 @@
 //! on the laws of joins and runs.
 
 // The model and its random cases, as they stand. Not all of it is used here.
+#[path = "../../independent/src/bays.rs"]
+mod bays;
 #[path = "../../independent/src/call.rs"]
 #[allow(dead_code)]
 mod call;
@@ -168,5 +170,34 @@ impl Engine for PlainSide {
         y: u8,
     ) -> u64 {
         Model.output_indexed(reading, file, index, marks, state, x, y)
+    }
+
+    fn bays_new(&mut self, states: &mut [u16]) -> u64 {
+        Model.bays_new(states)
+    }
+
+    fn bay_input(
+        &mut self,
+        reading: u8,
+        file: &[u8],
+        marks: &[u8],
+        states: &[u16],
+        bay: u32,
+        x: u8,
+    ) -> u64 {
+        Model.bay_input(reading, file, marks, states, bay, x)
+    }
+
+    fn bay_output(
+        &mut self,
+        reading: u8,
+        file: &[u8],
+        marks: &[u8],
+        states: &mut [u16],
+        bay: u32,
+        x: u8,
+        y: u8,
+    ) -> u64 {
+        Model.bay_output(reading, file, marks, states, bay, x, y)
     }
 }

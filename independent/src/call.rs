@@ -74,10 +74,30 @@ pub enum Call {
         x: u8,
         y: u8,
     },
+    BaysNew {
+        states: Vec<u16>,
+    },
+    BayInput {
+        reading: u8,
+        file: Vec<u8>,
+        marks: Vec<u8>,
+        states: Vec<u16>,
+        bay: u32,
+        x: u8,
+    },
+    BayOutput {
+        reading: u8,
+        file: Vec<u8>,
+        marks: Vec<u8>,
+        states: Vec<u16>,
+        bay: u32,
+        x: u8,
+        y: u8,
+    },
 }
 
 /// The functions, in the order of `Call::kind`.
-pub const FUNCTIONS: [&str; 11] = [
+pub const FUNCTIONS: [&str; 14] = [
     "prepare",
     "input",
     "output",
@@ -89,6 +109,9 @@ pub const FUNCTIONS: [&str; 11] = [
     "index",
     "input_indexed",
     "output_indexed",
+    "bays_new",
+    "bay_input",
+    "bay_output",
 ];
 
 /// One thing that a function is given.
@@ -110,7 +133,8 @@ pub struct Outcome {
     /// The marks of prepare, the released events of run, the file of join, the
     /// text of the wave writer, the events of its reader; otherwise empty.
     pub bytes: Vec<u8>,
-    /// The state of output and run, the index; otherwise empty.
+    /// The state of output and run, the index, the states of the bays;
+    /// otherwise empty.
     pub state: Vec<u16>,
     /// A byte not lent for writing was changed.
     pub strayed: bool,
@@ -131,6 +155,9 @@ impl Call {
             Call::Index { .. } => 8,
             Call::InputIndexed { .. } => 9,
             Call::OutputIndexed { .. } => 10,
+            Call::BaysNew { .. } => 11,
+            Call::BayInput { .. } => 12,
+            Call::BayOutput { .. } => 13,
         }
     }
 
@@ -249,6 +276,39 @@ impl Call {
                 ("x", Byte(*x)),
                 ("y", Byte(*y)),
             ],
+            Call::BaysNew { states } => vec![("states before", Numbers(states))],
+            Call::BayInput {
+                reading,
+                file,
+                marks,
+                states,
+                bay,
+                x,
+            } => vec![
+                ("reading", Byte(*reading)),
+                ("file", Policy(file)),
+                ("marks", Bytes(marks)),
+                ("states", Numbers(states)),
+                ("bay", Word(*bay)),
+                ("x", Byte(*x)),
+            ],
+            Call::BayOutput {
+                reading,
+                file,
+                marks,
+                states,
+                bay,
+                x,
+                y,
+            } => vec![
+                ("reading", Byte(*reading)),
+                ("file", Policy(file)),
+                ("marks", Bytes(marks)),
+                ("states before", Numbers(states)),
+                ("bay", Word(*bay)),
+                ("x", Byte(*x)),
+                ("y", Byte(*y)),
+            ],
         }
     }
 
@@ -268,12 +328,15 @@ impl Call {
             | Call::Output { reading, .. }
             | Call::Run { reading, .. }
             | Call::InputIndexed { reading, .. }
-            | Call::OutputIndexed { reading, .. } => *reading = other,
+            | Call::OutputIndexed { reading, .. }
+            | Call::BayInput { reading, .. }
+            | Call::BayOutput { reading, .. } => *reading = other,
             Call::Join { .. }
             | Call::Ticks { .. }
             | Call::WaveWrite { .. }
             | Call::WaveRead { .. }
-            | Call::Index { .. } => {}
+            | Call::Index { .. }
+            | Call::BaysNew { .. } => {}
         }
         self
     }
@@ -289,9 +352,11 @@ impl Call {
             | Call::WaveRead { file, .. }
             | Call::Index { file, .. }
             | Call::InputIndexed { file, .. }
-            | Call::OutputIndexed { file, .. } => *file = other,
+            | Call::OutputIndexed { file, .. }
+            | Call::BayInput { file, .. }
+            | Call::BayOutput { file, .. } => *file = other,
             Call::Join { a, .. } => *a = other,
-            Call::Ticks { .. } => {}
+            Call::Ticks { .. } | Call::BaysNew { .. } => {}
         }
         self
     }
@@ -349,6 +414,24 @@ impl Call {
                 y,
                 ..
             } => engine.output_indexed(*reading, file, index, marks, &mut lent_state, *x, *y),
+            Call::BaysNew { .. } => engine.bays_new(&mut lent_state),
+            Call::BayInput {
+                reading,
+                file,
+                marks,
+                states,
+                bay,
+                x,
+            } => engine.bay_input(*reading, file, marks, states, *bay, *x),
+            Call::BayOutput {
+                reading,
+                file,
+                marks,
+                bay,
+                x,
+                y,
+                ..
+            } => engine.bay_output(*reading, file, marks, &mut lent_state, *bay, *x, *y),
         };
         Outcome {
             answer,
@@ -370,13 +453,14 @@ impl Call {
         }
     }
 
-    /// The state or the index lent for writing, as it is before.
+    /// The state, the index or the list lent for writing, as it is before.
     pub fn lent_state(&self) -> &[u16] {
         match self {
             Call::Output { state, .. }
             | Call::Run { state, .. }
             | Call::OutputIndexed { state, .. } => state,
             Call::Index { index, .. } => index,
+            Call::BaysNew { states } | Call::BayOutput { states, .. } => states,
             _ => &[],
         }
     }

@@ -2,6 +2,7 @@
 //! a pair to be joined, some times to be converted, or a stream to be written
 //! as a wave and read back.
 
+use crate::bays::MOST_BAYS;
 use crate::call::Call;
 use crate::damage;
 use crate::index::{self, INDEX_LENGTH};
@@ -59,7 +60,9 @@ fn around_policy(random: &mut Random) -> Vec<Call> {
     made.push(index_call(random, &subject));
     for _ in 0..calls.min(2) {
         made.push(indexed_call(random, &subject));
+        made.push(bay_call(random, &subject));
     }
+    made.push(bays_new_call(random));
     made
 }
 
@@ -114,7 +117,8 @@ fn around_damage(random: &mut Random) -> Vec<Call> {
         made.push(wave.write_call(random).with_file(file.clone()));
         made.push(wave.read_call(random).with_file(file.clone()));
         made.push(index_call(random, &subject).with_file(file.clone()));
-        made.push(indexed_call(random, &subject).with_file(file));
+        made.push(indexed_call(random, &subject).with_file(file.clone()));
+        made.push(bay_call(random, &subject).with_file(file));
     }
     made
 }
@@ -457,6 +461,82 @@ fn indexed_call(random: &mut Random, subject: &Subject) -> Call {
     }
 }
 
+fn bays_new_call(random: &mut Random) -> Call {
+    let length = match random.below(10) {
+        0..=5 => STATE_LENGTH * random.between(1, MOST_BAYS),
+        6 => STATE_LENGTH * random.pick(&[0, MOST_BAYS + 1]),
+        _ => random.between(0, STATE_LENGTH * (MOST_BAYS + 1)),
+    };
+    Call::BaysNew {
+        states: some_numbers(random, length),
+    }
+}
+
+/// A half of one bay. The states of the others are anything at all.
+fn bay_call(random: &mut Random, subject: &Subject) -> Call {
+    let half = match random.percent(50) {
+        true => input_call(random, subject),
+        false => output_call(random, subject),
+    };
+    let bays = random.between(1, MOST_BAYS);
+    let own = random.between(0, bays - 1);
+    let mut list = |state: Vec<u16>| {
+        let mut states = some_numbers(random, bays * STATE_LENGTH);
+        // A state of another length makes a list of another length.
+        states.splice(own * STATE_LENGTH..(own + 1) * STATE_LENGTH, state);
+        let bay = match random.below(20) {
+            0 => bays,
+            1 => bays + random.between(1, 300),
+            2 => own + (1 << random.between(8, 31)),
+            3 => random.between(0, bays - 1),
+            _ => own,
+        };
+        if random.percent(4) {
+            states.truncate(random.between(0, states.len()));
+        }
+        (states, bay as u32)
+    };
+    match half {
+        Call::Input {
+            reading,
+            file,
+            marks,
+            state,
+            x,
+        } => {
+            let (states, bay) = list(state);
+            Call::BayInput {
+                reading,
+                file,
+                marks,
+                states,
+                bay,
+                x,
+            }
+        }
+        Call::Output {
+            reading,
+            file,
+            marks,
+            state,
+            x,
+            y,
+        } => {
+            let (states, bay) = list(state);
+            Call::BayOutput {
+                reading,
+                file,
+                marks,
+                states,
+                bay,
+                x,
+                y,
+            }
+        }
+        other => other,
+    }
+}
+
 /// Mostly the index of the policy; else wrong in one number, or in its length.
 fn some_index(random: &mut Random, policy: &Policy) -> Vec<u16> {
     let mut index = index::index_of(policy).to_vec();
@@ -553,6 +633,8 @@ pub fn refusals_of(function: &str) -> Vec<usize> {
         "wave_read" => &[14, 21],
         "index" => &[14],
         "input_indexed" | "output_indexed" => &[10, 15, 16, 17, 22, 28],
+        "bays_new" => return vec![0, 25],
+        "bay_input" | "bay_output" => &[10, 15, 16, 17, 22, 24],
         _ => panic!("{function} is none"),
     };
     (0..=9).chain(own.iter().copied()).collect()

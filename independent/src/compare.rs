@@ -1,5 +1,6 @@
 //! Sets an engine against the model, call by call and law by law.
 
+use crate::bays::{self, BayTally};
 use crate::call::{Call, FUNCTIONS};
 use crate::cases;
 use crate::engine::{found_in, refusal_in, Engine, Model};
@@ -26,6 +27,7 @@ pub struct Tally {
     /// Tables with verdict 0 and 1.
     pub verdicts: [u64; 2],
     pub laws: LawTally,
+    pub bays: BayTally,
 }
 
 impl Tally {
@@ -88,6 +90,11 @@ impl fmt::Display for Tally {
             });
             writeln!(out, "  {} {}", count.law, words.join(", "))?;
         }
+        writeln!(
+            out,
+            "lists of bays {}, their ticks {}, refused {}, edited {}",
+            self.bays.stations, self.bays.ticks, self.bays.refused, self.bays.edited
+        )?;
         Ok(())
     }
 }
@@ -119,6 +126,13 @@ pub fn compare(
             }
             compare_laws(engine, seed, number, &mut tally.laws)
                 .map_err(|difference| format!("seed {seed} laws {number}\n{difference}"))?;
+            let station = bays::station(seed, number);
+            bays::examine(engine, &station, &mut tally.bays).map_err(|breach| {
+                format!(
+                    "seed {seed} bays {number}\n{breach}\n{}",
+                    station.describe()
+                )
+            })?;
         }
         tally.groups += 1;
     }
@@ -220,9 +234,15 @@ mod tests {
         IndexNotLookedAt,
         OwnEntryOnly,
         MarksBeforeIndex,
+        NineBays,
+        BaysKeepTheirStates,
+        BayCutToOneByte,
+        BayIsTheCount,
+        BayBeforeMarks,
+        AllBaysMove,
     }
 
-    const FAULTS: [Fault; 48] = [
+    const FAULTS: [Fault; 54] = [
         Fault::RefuseAlways,
         Fault::ForwardEverything,
         Fault::SmallestAmongEquals,
@@ -271,6 +291,12 @@ mod tests {
         Fault::IndexNotLookedAt,
         Fault::OwnEntryOnly,
         Fault::MarksBeforeIndex,
+        Fault::NineBays,
+        Fault::BaysKeepTheirStates,
+        Fault::BayCutToOneByte,
+        Fault::BayIsTheCount,
+        Fault::BayBeforeMarks,
+        Fault::AllBaysMove,
     ];
 
     impl Spoilt {
@@ -607,6 +633,62 @@ mod tests {
         ) -> u64 {
             let index = self.seen_index(file, index, marks, state);
             Model.output_indexed(reading, file, &index, marks, state, x, y)
+        }
+
+        fn bays_new(&mut self, states: &mut [u16]) -> u64 {
+            if self.has(Fault::NineBays) && states.len() == 45 {
+                states.fill(0);
+                return 0;
+            }
+            let before = states.to_vec();
+            let answer = Model.bays_new(states);
+            if self.has(Fault::BaysKeepTheirStates) {
+                states.copy_from_slice(&before);
+            }
+            answer
+        }
+
+        fn bay_input(
+            &mut self,
+            reading: u8,
+            file: &[u8],
+            marks: &[u8],
+            states: &[u16],
+            bay: u32,
+            x: u8,
+        ) -> u64 {
+            let bays = (states.len() / STATE_LENGTH) as u32;
+            let early = self.has(Fault::BayBeforeMarks) && bay >= bays;
+            if early && Reading::named(reading).is_ok() && parse::check(file).is_ok() {
+                return 24;
+            }
+            let bay = match self.fault {
+                Fault::BayCutToOneByte => bay & 255,
+                Fault::BayIsTheCount if bay == bays && bays > 0 => bay - 1,
+                _ => bay,
+            };
+            Model.bay_input(reading, file, marks, states, bay, x)
+        }
+
+        fn bay_output(
+            &mut self,
+            reading: u8,
+            file: &[u8],
+            marks: &[u8],
+            states: &mut [u16],
+            bay: u32,
+            x: u8,
+            y: u8,
+        ) -> u64 {
+            let answer = Model.bay_output(reading, file, marks, states, bay, x, y);
+            if self.has(Fault::AllBaysMove) && refusal_in(answer) == 0 {
+                let own = bay as usize * STATE_LENGTH;
+                let state = states[own..own + STATE_LENGTH].to_vec();
+                states
+                    .chunks_mut(STATE_LENGTH)
+                    .for_each(|other| other.copy_from_slice(&state));
+            }
+            answer
         }
 
         fn strayed(&mut self) -> bool {

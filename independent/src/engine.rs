@@ -1,6 +1,7 @@
 //! The functions under comparison, with their answers packed into one
 //! number, and the model as one maker of such answers.
 
+use crate::bays;
 use crate::enforce;
 use crate::index;
 use crate::join;
@@ -74,6 +75,33 @@ pub trait Engine {
         index: &[u16],
         marks: &[u8],
         state: &mut [u16],
+        x: u8,
+        y: u8,
+    ) -> u64;
+
+    /// refusal
+    fn bays_new(&mut self, states: &mut [u16]) -> u64;
+
+    /// refusal | x' << 8
+    fn bay_input(
+        &mut self,
+        reading: u8,
+        file: &[u8],
+        marks: &[u8],
+        states: &[u16],
+        bay: u32,
+        x: u8,
+    ) -> u64;
+
+    /// refusal | y' << 8
+    #[allow(clippy::too_many_arguments)]
+    fn bay_output(
+        &mut self,
+        reading: u8,
+        file: &[u8],
+        marks: &[u8],
+        states: &mut [u16],
+        bay: u32,
         x: u8,
         y: u8,
     ) -> u64;
@@ -185,6 +213,35 @@ impl Engine for Model {
         y: u8,
     ) -> u64 {
         packed(index::output_half(reading, file, lent, marks, state, x, y))
+    }
+
+    fn bays_new(&mut self, states: &mut [u16]) -> u64 {
+        done(bays::new(states))
+    }
+
+    fn bay_input(
+        &mut self,
+        reading: u8,
+        file: &[u8],
+        marks: &[u8],
+        states: &[u16],
+        bay: u32,
+        x: u8,
+    ) -> u64 {
+        packed(bays::input_half(reading, file, marks, states, bay, x))
+    }
+
+    fn bay_output(
+        &mut self,
+        reading: u8,
+        file: &[u8],
+        marks: &[u8],
+        states: &mut [u16],
+        bay: u32,
+        x: u8,
+        y: u8,
+    ) -> u64 {
+        packed(bays::output_half(reading, file, marks, states, bay, x, y))
     }
 }
 

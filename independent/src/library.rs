@@ -297,6 +297,73 @@ impl Engine for Library {
         u64::from(answer)
     }
 
+    fn bays_new(&mut self, states: &mut [u16]) -> u64 {
+        let mut s = numbers(states);
+        let answer = unsafe { groovepawn_bays_new(s.pointer(), s.length) };
+        self.expect(s.give_back(states));
+        u64::from(answer)
+    }
+
+    fn bay_input(
+        &mut self,
+        reading: u8,
+        file: &[u8],
+        marks: &[u8],
+        states: &[u16],
+        bay: u32,
+        x: u8,
+    ) -> u64 {
+        let (mut f, mut m, mut s) = (bytes(file), bytes(marks), numbers(states));
+        let answer = unsafe {
+            groovepawn_bay_input(
+                reading,
+                f.pointer(),
+                f.length,
+                m.pointer(),
+                m.length,
+                s.pointer(),
+                s.length,
+                bay,
+                x,
+            )
+        };
+        self.expect(f.is_still(file));
+        self.expect(m.is_still(marks));
+        self.expect(s.is_still(states));
+        u64::from(answer)
+    }
+
+    fn bay_output(
+        &mut self,
+        reading: u8,
+        file: &[u8],
+        marks: &[u8],
+        states: &mut [u16],
+        bay: u32,
+        x: u8,
+        y: u8,
+    ) -> u64 {
+        let (mut f, mut m, mut s) = (bytes(file), bytes(marks), numbers(states));
+        let answer = unsafe {
+            groovepawn_bay_output(
+                reading,
+                f.pointer(),
+                f.length,
+                m.pointer(),
+                m.length,
+                s.pointer(),
+                s.length,
+                bay,
+                x,
+                y,
+            )
+        };
+        self.expect(f.is_still(file));
+        self.expect(m.is_still(marks));
+        self.expect(s.give_back(states));
+        u64::from(answer)
+    }
+
     fn strayed(&mut self) -> bool {
         std::mem::take(&mut self.strayed)
     }

@@ -24,6 +24,8 @@ pub enum Refusal {
     TooManyTicks = 19,
     NotThisForm = 21,
     UnknownReading = 22,
+    NoSuchBay = 24,
+    CountOfBays = 25,
     WrongIndex = 28,
     TooManyEvents = 29,
 }

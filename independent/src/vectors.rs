@@ -115,9 +115,10 @@ pub fn writes_bytes(kind: usize) -> bool {
     [0, 3, 4, 6, 7].contains(&kind)
 }
 
-/// Output, run, index and the output half with an index.
+/// Output, run, index, the output half with an index, and of the bays the list
+/// and the output half.
 pub fn writes_state(kind: usize) -> bool {
-    [2, 3, 8, 10].contains(&kind)
+    [2, 3, 8, 10, 11, 13].contains(&kind)
 }
 
 fn put_number(out: &mut Vec<u8>, number: usize) {
@@ -282,6 +283,26 @@ impl<'a> Reader<'a> {
                 x: self.byte()?,
                 y: self.byte()?,
             },
+            12 => Call::BaysNew {
+                states: self.numbers()?,
+            },
+            13 => Call::BayInput {
+                reading: self.byte()?,
+                file: self.string()?,
+                marks: self.string()?,
+                states: self.numbers()?,
+                bay: self.number(4)? as u32,
+                x: self.byte()?,
+            },
+            14 => Call::BayOutput {
+                reading: self.byte()?,
+                file: self.string()?,
+                marks: self.string()?,
+                states: self.numbers()?,
+                bay: self.number(4)? as u32,
+                x: self.byte()?,
+                y: self.byte()?,
+            },
             _ => return Err(BROKEN.to_string()),
         })
     }
@@ -388,7 +409,7 @@ mod tests {
     #[test]
     fn every_refusal_of_every_function_is_stored() {
         let mut seen = [[false; LAST_REFUSAL + 1]; FUNCTIONS.len()];
-        for (call, outcome) in read(&vectors(700, 5)).expect("just written") {
+        for (call, outcome) in read(&vectors(650, 5)).expect("just written") {
             seen[call.kind()][usize::from(refusal_in(outcome.answer))] = true;
         }
         for (function, seen) in FUNCTIONS.iter().zip(seen) {

@@ -1,6 +1,7 @@
 //! Calls whose outcomes were worked out from the paper by hand. Nothing here
 //! asks the model.
 
+mod bays;
 mod files;
 mod halves;
 mod indexes;
@@ -39,6 +40,7 @@ pub fn all() -> Vec<Written> {
         leaving::all(),
         readings::all(),
         indexes::all(),
+        bays::all(),
         wrong_files::all(),
         times::all(),
         waves::all(),
@@ -88,15 +90,15 @@ mod tests {
             seen[written.call.kind()][usize::from(refusal)] = true;
         }
         // The others are not given by any function.
-        for number in (0..=19).chain([21, 22, 28, 29]) {
+        for number in (0..=19).chain([21, 22, 24, 25, 28, 29]) {
             assert!(seen.iter().any(|function| function[number]), "{number}");
         }
         // Those that take a reading.
-        for kind in [0, 1, 2, 3, 9, 10] {
+        for kind in [0, 1, 2, 3, 9, 10, 12, 13] {
             assert!(seen[kind][22]);
         }
         // Those a half or a run can give beside the nine of a file.
-        for kind in [1, 2, 3, 9, 10] {
+        for kind in [1, 2, 3, 9, 10, 12, 13] {
             assert!([10, 15, 16, 17]
                 .iter()
                 .all(|&number: &usize| seen[kind][number]));

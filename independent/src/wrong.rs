@@ -148,6 +148,11 @@ mod tests {
             "input_indexed Answer",
             "output_indexed Answer",
             "output_indexed State",
+            "bays_new Answer",
+            "bays_new State",
+            "bay_input Answer",
+            "bay_output Answer",
+            "bay_output State",
         ];
         assert_eq!(named, expected);
     }

@@ -15,7 +15,8 @@ use Rattle.join.specs.Entry.{joinOf}
 use Rattle.join.specs.Promise.{join-up-to}
 use Rattle.ticks.specs.Conversion.{ticksOf}
 use Rattle.ticks.specs.Laws.{ticks-up-to}
-use Rattle.groovepawn.specs.Words.{answerWord, summaryWord, ranWord, stateIn, isState, oddRefusal, prepareWord, inputWord, outputWord, runWord, joinWord, isUp, ticksWord}
+use Rattle.bays.specs.Five.{stateIn}
+use Rattle.groovepawn.specs.Words.{answerWord, summaryWord, ranWord, isState, oddRefusal, prepareWord, inputWord, outputWord, runWord, joinWord, isUp, ticksWord}
 use Rattle.groovepawn.specs.Bounds.{Small, summary-small, odd-some, odd-le}
 
 -- The answer that a word holds: the refusal in the low eight bits, and without one what stands above it.

@@ -1,8 +1,8 @@
 pub mod Words
 pub mod Calls
-pub mod Numbers
 pub mod Bounds
 pub mod Stays
 pub mod Fields
 pub mod Waves
 pub mod Indexed
+pub mod Bays

@@ -1,15 +1,15 @@
 -- An answer as one number: the refusal's number in the low eight bits, 0 for none, and above it what is given, or 0 where something is refused.
 use mathlib.Core.Bool.{Bool, true, cond, not}
-use mathlib.Core.List.{List, [], _∷_}
+use mathlib.Core.List.{List}
 use Prim.Native.Nat.{ℕ, _+_, _*_, _%_, _^_}
 use lib.Dec.{eqb, leb}
-use lib.ListN.{length, getD}
+use lib.ListN.{length}
 use Rattle.streams.specs.Answer.{Answer, refused, gives, _orElse_, unless}
-use Rattle.policy.specs.Rules.{Place}
 use Rattle.enforcer.specs.Entries.{RunAnswer, marksRefusal, inputOf, outputOf, runOf}
 use Rattle.prepare.specs.Entry.{Summary, prepareOf}
 use Rattle.join.specs.Entry.{joinOf}
 use Rattle.ticks.specs.Conversion.{ticksOf}
+use Rattle.bays.specs.Five.{stateWords, stateIn}
 
 abbrev pub answerWord : Answer ℕ → ℕ
 answerWord (refused n) = n
@@ -23,13 +23,6 @@ summaryWord (gives s) = s .verdict * 256 + s .states * 65536 + s .live * 1099511
 -- "run adds the count released .., for every refusal". The 56 bits above the refusal hold it modulo 2 ^ 56.
 abbrev pub ranWord : RunAnswer → ℕ
 ranWord r = r .refusal + r .count % 2 ^ 56 * 256
-
--- "A state is a location and four clock values": five numbers, in this order.
-abbrev pub stateWords : Place → List ℕ
-stateWords s = s .location ∷ s .clocks
-
-abbrev pub stateIn : List ℕ → Place
-stateIn s = record { location = getD s 0 0; clocks = getD s 1 0 ∷ getD s 2 0 ∷ getD s 3 0 ∷ getD s 4 0 ∷ [] }
 
 abbrev pub isState : List ℕ → Bool
 isState s = eqb (length s) 5

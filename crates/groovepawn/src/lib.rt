@@ -1,7 +1,14 @@
 // The entries for a controller in C: each answer is one number, and a state is five numbers, the location and then the four clock values.
 // What each call promises stands in specs/.
+mod bay_calls;
 mod viewer;
 
+pub use bay_calls::groovepawn_bay_input;
+pub use bay_calls::groovepawn_bay_output;
+pub use bay_calls::groovepawn_bays_new;
+use bays::five::NUMBERS;
+use bays::five::put_state;
+use bays::five::state_of;
 use enforcer::Answer;
 use enforcer::Output;
 use enforcer::State;
@@ -21,39 +28,10 @@ use ticks::Rounding;
 pub use viewer::groovepawn_wave_read;
 pub use viewer::groovepawn_wave_write;
 ghost use mathlib.Core.Path.{_≡_};
-ghost use lib.ListN.{length};
-ghost use Rattle.enforcer.specs.Code.{asPlace};
 ghost use Rattle.enforcer.specs.Promises.{answerSaid, OutputPromise};
-ghost use Rattle.groovepawn.specs.Words.{answerWord, stateIn, stateWords, oddRefusal};
 ghost use Rattle.groovepawn.specs.Indexed.{oddIndexed, IndexCall, InputIndexedCall, OutputIndexedCall};
+ghost use Rattle.groovepawn.specs.Words.{answerWord, oddRefusal};
 ghost use Rattle.groovepawn.specs.Calls.{PrepareCall, InputCall, OutputCall, RunCall, JoinCall, TicksCall};
-
-// How many numbers a state is.
-const NUMBERS: usize = State::CLOCKS + 1;
-
-// The state in five numbers.
-fn state_of(state: &[u16]) -> State
-    requires { ⌜ length (now state) ≡ 5 ⌝ }
-    ensures { λ r. ⌜ asPlace r ≡ stateIn (now (state .entry)) ⌝ }
-{
-    State {
-        location: state[0],
-        clocks: [state[1], state[2], state[3], state[4]],
-    }
-}
-
-// The five numbers become those of the next state.
-fn put_state(state: &mut [u16], next: State)
-    requires { ⌜ length (now state) ≡ 5 ⌝ }
-    ensures { λ _. ⌜ now (state .exit) ≡ stateWords (asPlace next) ⌝ }
-{
-    let clocks = next.clocks;
-    state[0] = next.location;
-    state[1] = clocks[0];
-    state[2] = clocks[1];
-    state[3] = clocks[2];
-    state[4] = clocks[3];
-}
 
 // What is refused where the state is not five numbers.
 fn odd_refusal(reading: u8, file: &[u8], marks: &[u8], room: bool) -> u8
@@ -66,7 +44,7 @@ fn odd_refusal(reading: u8, file: &[u8], marks: &[u8], room: bool) -> u8
     if room { 16 } else { 14 }
 }
 
-fn answer_word(answer: Answer) -> u32
+pub(crate) fn answer_word(answer: Answer) -> u32
     ensures { λ r. ⌜ r ≡ answerWord (answerSaid answer) ⌝ }
 {
     match answer {

@@ -4,24 +4,17 @@ use mathlib.Core.Path.{_≡_, refl, sym, ap, ap₂, subst, _∙_}
 use mathlib.Core.Bool.{Bool, true, false, cond}
 use mathlib.Core.List.{List, [], _∷_, _++_, map}
 use mathlib.Core.Logic.{_↔_, _⊎_, inl, inr, ⊎-elim, Iff·trans}
-use mathlib.Core.Option.{Option, none, some, bind-eq-some-iff, Option·some-injective}
-use Prim.Native.Nat.{ℕ, zero, suc, _*_, _/_, _%_, _^_, _≤_, _<_}
+use Prim.Native.Nat.{ℕ, _*_, _/_, _%_, _^_, _≤_, _<_}
 use native.Mathlib.Omega.{arith}
-use lib.ListN.{length, getD, take, drop, length-append, length-replicate}
-use Rattle.streams.specs.Answer.{Answer, refused, gives, none-refused}
+use lib.ListN.{length, getD, take, drop}
+use Rattle.streams.specs.Answer.{Answer, refused, gives}
 use Rattle.streams.specs.Stream.{Event, Stream, _∩_, Hopeless}
 use Rattle.streams.specs.Laws.{_≋_}
-use Rattle.policy.specs.Rules.{Policy, Place, stopped, step, Permits}
-use Rattle.policy.specs.Number.{four, states}
+use Rattle.policy.specs.Rules.{Place, Permits}
+use Rattle.policy.specs.Number.{states}
 use Rattle.policy.specs.File.{policyOf}
 use Rattle.policy.specs.Check.{readingRefusal, refusalUnder, all}
-use Rattle.policy.specs.Sound.{Inside}
-use Rattle.policy.specs.Stays.{of-some, step-inside}
-use Rattle.policy.specs.Checked.{well-sound}
-use Rattle.enforcer.specs.State.{placeIn}
-use Rattle.enforcer.specs.States.{marks-granted}
-use Rattle.enforcer.specs.Tick.{Tick, outputChoice, moved, outputTick}
-use Rattle.enforcer.specs.Entries.{chosen, outputFrom, RunAnswer, byteOf, eventGood, marksRefusal, stateRefusal, inputOf, outputRefusal, outputOf, runOf}
+use Rattle.enforcer.specs.Entries.{RunAnswer, byteOf, eventGood, inputOf, outputOf, runOf}
 use Rattle.enforcer.specs.Code.{asPlace, startState}
 use Rattle.enforcer.specs.Promises.{RunPromise, ranSaid}
 use Rattle.enforcer.specs.declared.state.State.{State}
@@ -35,11 +28,12 @@ use Rattle.prepare.specs.declared.Prepared.the-variants as Prepared
 use Rattle.join.specs.Promise.{JoinPromise}
 use Rattle.join.specs.declared.Joined.the-variants as Code
 use Rattle.console.specs.Scratch.{start-is}
-use Rattle.groovepawn.specs.Words.{stateWords, stateIn, isState, outputState, runState, runOut}
+use Rattle.bays.specs.Five.{stateWords, stateIn, words-in}
+use Rattle.bays.specs.Halves.{four-long, output-four}
+use Rattle.groovepawn.specs.Words.{isState, outputState, runState, runOut}
 use Rattle.groovepawn.specs.Calls.{PrepareCall, InputCall, OutputCall, RunCall, JoinCall}
-use Rattle.groovepawn.specs.Numbers.{words-back}
 use Rattle.groovepawn.specs.Fields.{summaryIn, answerIn, answer-fields, prepare-fields, input-fields, output-fields, run-fields, join-fields}
-use Rattle.tender.specs.Granted.{well-formed, state-ready, given-passed}
+use Rattle.tender.specs.Granted.{well-formed, given-passed}
 use Rattle.tender.specs.Demand2.{ReleasedFor, Released, releases, fromStart, hopeless-exactly}
 use Rattle.tender.specs.Halves.{Ticks, ticks-none, ticks-more, TicksReleased, ticks-release}
 use Rattle.tender.specs.Demand3.{Joined, Alike, permits-exactly, permitsAll, order, grouping, repetition, unit-law}
@@ -91,17 +85,8 @@ c-start = refl
 abbrev pub runRead : ℕ → (state out : List ℕ) → RunAnswer
 runRead r state out = record { refusal = r % 256; count = r / 256; state = stateIn state; out = out }
 
--- Five numbers are the state that they were written from.
-words-in : (t : Place) → length (t .clocks) ≡ 4 → stateIn (stateWords t) ≡ t
-words-in t e =
-    let five : length (stateWords t) ≡ 5 = omega arith in
-    ap (λ (l : List ℕ). record { location = getD l 0 0; clocks = drop 1 l }) (words-back (stateWords t) five)
-
-four-long : (vs : List ℕ) → length vs ≤ 4 → length (four vs) ≡ 4
-four-long vs h = simp (length-append, length-replicate) (omega arith)
-
 -- A summary, as the code's own type has it.
-abbrev codeSummary : Summary → Given
+abbrev pub codeSummary : Summary → Given
 codeSummary s = record { verdict = s .verdict; states = s .states; live = s .live }
 
 -- What the word of prepare holds is what prepare answers.
@@ -162,29 +147,6 @@ value-said : (v : ℕ) (t : Bool) (a : Answer ℕ) (n : ℕ) → answerIn (v * 2
 value-said v true a n e = let f = answer-fields v in (refl, rw (f .0, f .1) at e)
 value-said v false a n e = let f = answer-fields v in let h : gives v ≡ refused n = rw (f .0, f .1) at e in let z : _≡_ {A = ℕ} 0 1 = cc in absurd (omega arith)
 
--- Where the output half gives an output, the state that it hands back has four clock values.
-module _ (reading : ℕ) (file marks : List ℕ) (s : Place) (x y : ℕ) {z : ℕ} where
-  output-four : outputOf reading file marks s x y .answer ≡ gives z → length (outputOf reading file marks s x y .state .clocks) ≡ 4
-  unfolding outputOf outputRefusal outputTick moved
-  output-four = go (outputRefusal reading file marks s x y) refl (outputTick (policyOf reading file) marks (placeIn (policyOf reading file) s) x y) refl
-    where
-      p : Policy
-      p = policyOf reading file
-
-      go : (n : ℕ) → outputRefusal reading file marks s x y ≡ n → (o : Option Tick) → outputTick p marks (placeIn p s) x y ≡ o →
-          outputFrom s (chosen n o) .answer ≡ gives z → length (outputFrom s (chosen n o) .state .clocks) ≡ 4
-      go (suc n) e o q h = let f : _≡_ {A = ℕ} 0 1 = cc in absurd (omega arith)
-      go zero e none q h = let f : _≡_ {A = ℕ} 0 1 = cc in absurd (omega arith)
-      go zero e (some t) q h =
-          let a = none-refused (marksRefusal reading file marks) _ .0 e in
-          let ok = well-formed reading file (marks-granted reading file marks .0 (a .0) .0) in
-          let inside = state-ready reading file marks s (none-refused (stateRefusal reading file marks s) _ .0 (a .1) .0) .inside in
-          let m = bind-eq-some-iff (outputChoice p marks (placeIn p s) x y) _ .0 q in
-          let v = bind-eq-some-iff (step stopped p (placeIn p s) (record { x = x; y = m .0 })) _ .0 (m .2) in
-          let there : Inside p (v .0) = of-some (Inside p) (v .1) (step-inside p (well-sound p ok) (placeIn p s) inside (record { x = x; y = m .0 })) in
-          let same : v .0 ≡ t .place = ap (λ (u : Tick). u .place) (Option·some-injective _ t (v .2)) in
-          four-long (t .place .clocks) (rw (← same) (omega (arith, there .clocks, ok .clocks)))
-
 -- They are the halves of the code, and so all that specs/Halves.antt says of those holds of them.
 pub c-ticks : {reading : ℕ} {file marks state last : List ℕ} {es rs : Stream} → CTicks reading file marks state es rs last →
     Ticks reading file marks (cState state) es rs (cState last)
@@ -198,7 +160,7 @@ c-ticks {reading} {file} {marks} (c-more {state = state} {next = next} {e = e} {
     let out = outputOf reading file marks s (r .x) (e .y) in
     let output = value-said (r .y) (isState state) (out .answer) _ (ap answerIn (o .said) ∙ output-fields reading file marks state (r .x) (e .y)) in
     let moved : next ≡ stateWords (out .state) = o .next ∙ ap (λ (t : Bool). cond t (stateWords (out .state)) state) (output .0) in
-    let there : stateIn next ≡ out .state = ap stateIn moved ∙ words-in (out .state) (output-four reading file marks s (r .x) (e .y) (sym (output .1))) in
+    let there : stateIn next ≡ out .state = ap stateIn moved ∙ words-in (out .state) (output-four reading file marks s (r .x) (e .y) refl) in
     ticks-more (record { said = input .1 })
     (record { said = ap₂ (λ (a : Answer ℕ) (t : Place). record { answer = a; state = t }) (output .1) there }) (c-ticks h)
 

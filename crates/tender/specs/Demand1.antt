@@ -1,12 +1,14 @@
 -- Demand 1: each public entry takes anything and ends, for it has no `requires`; its promise fixes "the result fixed here" and the later contents of
 -- every slice and state lent to it; and "Any pair of results allowed by the statement is proved equal".
-use mathlib.Core.Path.{_≡_, refl, _∙_}
+use mathlib.Core.Path.{_≡_, refl, ap, _∙_}
+use mathlib.Core.Bool.{Bool, true, false}
 use mathlib.Core.List.{List}
 use mathlib.Core.Option.{bind}
 use Prim.Native.Nat.{ℕ, _≤_}
 use native.Mathlib.Omega.{arith}
+use lib.Dec.{ltb}
 use lib.ListN.{length}
-use borrow.Author.Tests.{ne-eqb}
+use borrow.Author.Tests.{ne-eqb, ltb-true, ltb-false}
 use Rattle.streams.specs.Answer.{Answer, refused, gives, unless, answer}
 use Rattle.streams.specs.Choose.{any}
 use Rattle.policy.specs.Rules.{Place, step, decides, fires, hold, within, tested, taken, advance}
@@ -15,7 +17,7 @@ use Rattle.policy.specs.File.{policyOf, outputsAt, clocksAt, locationsAt, rules
 use Rattle.policy.specs.Check.{readingRefusal, refusalUnder, under-none, refusalOf, inputsRefusal, outputsRefusal, clocksRefusal, locationsRefusal, rulesSectionRefusal, sectionRefusal, tagsGood, among, all, rulesRefusal, ruleRefusal, headGood, maskGood, boundsGood, boundGood}
 use Rattle.enforcer.specs.State.{isMarked}
 use Rattle.enforcer.specs.Tick.{mayStand, reaches}
-use Rattle.enforcer.specs.Entries.{marksRefusal, inputRefusal, inputOf, outputRefusal, outputOf, runRefusal, runOf}
+use Rattle.enforcer.specs.Entries.{OutputAnswer, marksRefusal, inputRefusal, inputOf, outputRefusal, outputOf, runRefusal, runOf}
 use Rattle.enforcer.specs.States.{marks-granted}
 use Rattle.resting.specs.Table.{roundsBy, roundBy, tab}
 use Rattle.policy.specs.Rules as Rules
@@ -24,12 +26,18 @@ use Rattle.prepare.specs.Table.{marksOf}
 use Rattle.prepare.specs.Entry.{summaryOf, prepareOf, preparedMarks}
 use Rattle.prepare.specs.Entry as Entry
 use Rattle.prepare.specs.Promise.{prepared-one, said-past}
+use Rattle.bays.specs.Bays.{bayCount, bayState}
+use Rattle.bays.specs.Entries.{BayAnswer, noBay, bayInputOf, bayOutputOf}
+use Rattle.bays.specs.There.{input-there, output-there, input-none, output-none}
+use Rattle.bays.specs.Halves.{refused-stays}
 -- The check of a file.
 pub use Rattle.policy.specs.Layout.{CheckPromise, check-one}
 -- Prepare.
 pub use Rattle.prepare.specs.Promise.{PreparePromise, prepare-one, prepare-live, prepare-dead}
 -- The input half, the output half by value and over a lent state, and the run.
 pub use Rattle.enforcer.specs.Promises.{InputPromise, input-one, OutputPromise, output-one, RunPromise, run-one}
+-- A new list of bays, and the two halves of a bay.
+pub use Rattle.bays.specs.Promises.{NewPromise, new-one, BayInputPromise, bay-input-one, BayOutputPromise, bay-output-one}
 -- The join.
 pub use Rattle.join.specs.Promise.{JoinPromise, join-one}
 -- Milliseconds to ticks.
@@ -53,6 +61,14 @@ pub use Rattle.groovepawn.specs.Calls.{
   ticks-one as c-ticks-one,
 }
 pub use Rattle.groovepawn.specs.Waves.{WaveWriteCall, WaveReadCall, wave-write-one, wave-read-one}
+pub use Rattle.groovepawn.specs.Bays.{
+  NewCall,
+  BayInputCall,
+  BayOutputCall,
+  new-one as c-new-one,
+  bay-input-one as c-bay-input-one,
+  bay-output-one as c-bay-output-one,
+}
 -- The program `enforce`: `console::respond` writes the text `printed input`, and returns how many bytes it is.
 pub use Rattle.console.specs.Printed.{printed}
 pub use Rattle.console.specs.Reply.{Replied, replied-one}
@@ -87,6 +103,31 @@ module _ (reading : ℕ) (not-one : ¬ (reading ≡ 1)) (not-two : ¬ (reading �
     pub run-22 : (events out : List ℕ) → runOf reading file marks s events out ≡ record { refusal = 22; count = 0; state = s; out = out }
     unfolding runOf runRefusal
     run-22 events out = rw first-22
+
+  -- So do the halves of a bay, whatever the list and the bay are.
+  module _ (states : List ℕ) (bay : ℕ) where
+    none-22 : noBay reading file marks ≡ 22
+    unfolding noBay
+    none-22 = rw first-22
+
+    pub bay-input-22 : (x : ℕ) → bayInputOf reading file marks states bay x ≡ refused 22
+    bay-input-22 x = go (ltb bay (bayCount states)) refl
+      where
+        go : (t : Bool) → ltb bay (bayCount states) ≡ t → bayInputOf reading file marks states bay x ≡ refused 22
+        go true e = input-there reading file marks states bay (ltb-true _ _ e) x ∙ input-22 (bayState states bay) x
+        go false e = input-none reading file marks states bay x (ltb-false _ _ e) ∙ ap refused none-22
+
+    pub bay-output-22 : (x y : ℕ) → bayOutputOf reading file marks states bay x y ≡ record { answer = refused 22; states = states }
+    bay-output-22 x y = let e = said in let k = refused-stays reading file marks states bay x y e in λ i. record { answer = e i; states = k i }
+      where
+        go : (t : Bool) → ltb bay (bayCount states) ≡ t → bayOutputOf reading file marks states bay x y .answer ≡ refused 22
+        go true e =
+            ap (λ (r : BayAnswer). r .answer) (output-there reading file marks states bay (ltb-true _ _ e) x y)
+            ∙ ap (λ (r : OutputAnswer). r .answer) (output-22 (bayState states bay) x y)
+        go false e = ap (λ (r : BayAnswer). r .answer) (output-none reading file marks states bay x y (ltb-false _ _ e)) ∙ ap refused none-22
+
+        said : bayOutputOf reading file marks states bay x y .answer ≡ refused 22
+        said = go (ltb bay (bayCount states)) refl
 
 -- Past 22 and 1 to 10, what is left for prepare to answer of a file under a reading.
 abbrev left : ℕ → List ℕ → Answer Entry.Summary

@@ -16,3 +16,4 @@ pub mod Unchanged
 pub mod Rests
 pub mod Annex
 pub mod InARow
+pub mod Bays

@@ -236,3 +236,69 @@ pub(crate) fn output_indexed(
         next,
     }
 }
+
+pub(crate) fn bays_new(cases: &[u8], at: Cursor, states: &mut [u16]) -> Outcome {
+    let got = groovepawn::groovepawn_bays_new(states);
+    let answer = at.long(cases);
+    let next = answer.next;
+    let after = next.same_state(cases, states);
+    let next = after.next;
+    Outcome {
+        differs: first_of(got as u64 == answer.value, true, after.same),
+        next,
+    }
+}
+
+pub(crate) fn bay_input(
+    cases: &[u8],
+    at: Cursor,
+    reading: u8,
+    file: &[u8],
+    marks: &[u8],
+    states: &[u16],
+) -> Outcome {
+    let bay = at.word(cases);
+    let next = bay.next;
+    let x = next.byte(cases);
+    let next = x.next;
+    let got = groovepawn::groovepawn_bay_input(reading, file, marks, states, bay.value, x.value);
+    let answer = next.long(cases);
+    let next = answer.next;
+    Outcome {
+        differs: first_of(got as u64 == answer.value, true, true),
+        next,
+    }
+}
+
+pub(crate) fn bay_output(
+    cases: &[u8],
+    at: Cursor,
+    reading: u8,
+    file: &[u8],
+    marks: &[u8],
+    states: &mut [u16],
+) -> Outcome {
+    let bay = at.word(cases);
+    let next = bay.next;
+    let x = next.byte(cases);
+    let next = x.next;
+    let y = next.byte(cases);
+    let next = y.next;
+    let got = groovepawn::groovepawn_bay_output(
+        reading,
+        file,
+        marks,
+        states,
+        bay.value,
+        x.value,
+        y.value,
+    );
+    let answer = next.long(cases);
+    let next = answer.next;
+    let after = next.same_state(cases, states);
+    let next = after.next;
+    Outcome {
+        differs: first_of(got as u64 == answer.value, true, after.same),
+        next,
+    }
+}

@@ -93,6 +93,25 @@ fn state_record(
     }
 }
 
+// The rest of a record that has a list of bays.
+fn bay_record(
+    cases: &[u8],
+    kind: Kind,
+    at: Cursor,
+    reading: u8,
+    file: &[u8],
+    marks: &[u8],
+) -> Outcome {
+    let mut states = [0u16; 136];
+    let taken = at.state(cases, &mut states);
+    let numbers = taken.count;
+    let next = taken.next;
+    match kind {
+        Kind::BayInput => calls::bay_input(cases, next, reading, file, marks, &states[..numbers]),
+        _ => calls::bay_output(cases, next, reading, file, marks, &mut states[..numbers]),
+    }
+}
+
 // A record that begins with a reading, a policy and marks.
 fn policy_record(cases: &[u8], kind: Kind, at: Cursor) -> Outcome {
     let mut file = [0u8; 8192];
@@ -112,6 +131,22 @@ fn policy_record(cases: &[u8], kind: Kind, at: Cursor) -> Outcome {
             reading.value,
             &file[..file_length],
             &mut marks[..marks_length],
+        ),
+        Kind::BayInput => bay_record(
+            cases,
+            kind,
+            next,
+            reading.value,
+            &file[..file_length],
+            &marks[..marks_length],
+        ),
+        Kind::BayOutput => bay_record(
+            cases,
+            kind,
+            next,
+            reading.value,
+            &file[..file_length],
+            &marks[..marks_length],
         ),
         _ => state_record(
             cases,
@@ -190,6 +225,14 @@ fn index_record(cases: &[u8], at: Cursor) -> Outcome {
     calls::index(cases, next, &file[..file_length], &mut index[..entries])
 }
 
+fn bays_new_record(cases: &[u8], at: Cursor) -> Outcome {
+    let mut states = [0u16; 136];
+    let taken = at.state(cases, &mut states);
+    let numbers = taken.count;
+    let next = taken.next;
+    calls::bays_new(cases, next, &mut states[..numbers])
+}
+
 // The body of a record.
 fn body(cases: &[u8], kind: Kind, at: Cursor) -> Outcome {
     match kind {
@@ -198,6 +241,7 @@ fn body(cases: &[u8], kind: Kind, at: Cursor) -> Outcome {
         Kind::WaveWrite => wave_record(cases, kind, at),
         Kind::WaveRead => wave_record(cases, kind, at),
         Kind::Index => index_record(cases, at),
+        Kind::BaysNew => bays_new_record(cases, at),
         Kind::Unknown => Outcome {
             differs: Differs::Nothing,
             next: at.lose(),

@@ -15,6 +15,9 @@ pub enum Kind {
     Index,
     InputIndexed,
     OutputIndexed,
+    BaysNew,
+    BayInput,
+    BayOutput,
     Unknown,
 }
 
@@ -32,6 +35,9 @@ impl Kind {
             9 => Kind::Index,
             10 => Kind::InputIndexed,
             11 => Kind::OutputIndexed,
+            12 => Kind::BaysNew,
+            13 => Kind::BayInput,
+            14 => Kind::BayOutput,
             _ => Kind::Unknown,
         }
     }
@@ -49,6 +55,9 @@ impl Kind {
             Kind::Index => print(b"index"),
             Kind::InputIndexed => print(b"input_indexed"),
             Kind::OutputIndexed => print(b"output_indexed"),
+            Kind::BaysNew => print(b"bays_new"),
+            Kind::BayInput => print(b"bay_input"),
+            Kind::BayOutput => print(b"bay_output"),
             Kind::Unknown => print(b"unknown"),
         }
     }
@@ -67,6 +76,9 @@ struct Counts {
     index: u64,
     input_indexed: u64,
     output_indexed: u64,
+    bays_new: u64,
+    bay_input: u64,
+    bay_output: u64,
 }
 
 impl Counts {
@@ -83,6 +95,9 @@ impl Counts {
             Kind::Index => self.index = one_more(self.index),
             Kind::InputIndexed => self.input_indexed = one_more(self.input_indexed),
             Kind::OutputIndexed => self.output_indexed = one_more(self.output_indexed),
+            Kind::BaysNew => self.bays_new = one_more(self.bays_new),
+            Kind::BayInput => self.bay_input = one_more(self.bay_input),
+            Kind::BayOutput => self.bay_output = one_more(self.bay_output),
             Kind::Unknown => {}
         }
         self
@@ -100,6 +115,9 @@ impl Counts {
         print_count(b"index ", self.index);
         print_count(b"input_indexed ", self.input_indexed);
         print_count(b"output_indexed ", self.output_indexed);
+        print_count(b"bays_new ", self.bays_new);
+        print_count(b"bay_input ", self.bay_input);
+        print_count(b"bay_output ", self.bay_output);
     }
 }
 
@@ -150,6 +168,9 @@ impl Tally {
                 index: 0,
                 input_indexed: 0,
                 output_indexed: 0,
+                bays_new: 0,
+                bay_input: 0,
+                bay_output: 0,
             },
             different: 0,
             first: First::None,

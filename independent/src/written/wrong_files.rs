@@ -99,6 +99,23 @@ fn calls() -> Vec<Call> {
             x: 0,
             y: 1,
         },
+        Call::BayInput {
+            reading,
+            file: file.clone(),
+            marks: marks.clone(),
+            states: vec![0; 15],
+            bay: 2,
+            x: 1,
+        },
+        Call::BayOutput {
+            reading,
+            file: file.clone(),
+            marks: marks.clone(),
+            states: vec![0; 15],
+            bay: 2,
+            x: 0,
+            y: 1,
+        },
     ]
 }
 

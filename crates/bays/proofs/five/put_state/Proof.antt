@@ -1,10 +1,10 @@
--- `groovepawn::put_state` meets its contract: the five stores leave the location and the clock values.
+-- `bays::five::put_state` meets its contract: the five stores leave the location and the clock values.
 use native.Mathlib.Omega.{arith}
 use lib.ListN.{length-set}
-use Rattle.groovepawn.specs.Numbers.{words-put}
+use Rattle.bays.specs.Five.{words-put}
 use borrow.Author.Needs.{needs}
-use Rattle.groovepawn.proofs.put_state.Statement.{statement}
-use Rattle.groovepawn.proofs.put_state.Tie as tie
+use Rattle.bays.proofs.five.put_state.Statement.{statement}
+use Rattle.bays.proofs.five.put_state.Tie as tie
 
 slice-write-state : tie.Need-slice-write-state
 slice-write-state c = search needs

@@ -1,13 +1,20 @@
--- The five numbers of a state.
+-- A state as five numbers.
 use mathlib.Core.Path.{_≡_, sym, ap, subst, _∙_}
-use mathlib.Core.List.{List, _∷_}
+use mathlib.Core.List.{List, [], _∷_}
 use Prim.Native.Nat.{ℕ}
 use native.Mathlib.Omega.{arith}
-use lib.ListN.{length, getD, set}
+use lib.ListN.{length, getD, set, drop}
 use lib.Seq.{ext-getD}
+use Rattle.policy.specs.Rules.{Place}
 use Rattle.resting.specs.Table.{tab}
 use Rattle.resting.specs.Marks.{length-tab, getD-tab}
-use Rattle.groovepawn.specs.Words.{stateWords, stateIn}
+
+-- "A state is a location and four clock values": five numbers, in this order.
+abbrev pub stateWords : Place → List ℕ
+stateWords s = s .location ∷ s .clocks
+
+abbrev pub stateIn : List ℕ → Place
+stateIn s = record { location = getD s 0 0; clocks = getD s 1 0 ∷ getD s 2 0 ∷ getD s 3 0 ∷ getD s 4 0 ∷ [] }
 
 -- A list is its elements, one after the other.
 each : (n : ℕ) (s : List ℕ) → length s ≡ n → tab (λ i. getD s i 0) n ≡ s
@@ -15,10 +22,15 @@ each n s e =
     let l = length-tab n (λ i. getD s i 0) in
     ext-getD 0 _ s (l ∙ sym e) (λ i h. getD-tab n (λ k. getD s k 0) i (omega arith))
 
--- Five numbers are those of the state in them.
+-- Five numbers are those of the state in them, and the state in the numbers of a state is that state.
 pub words-back : (s : List ℕ) → length s ≡ 5 → stateWords (stateIn s) ≡ s
 unfolding tab
 words-back s e = each 5 s e
+
+pub words-in : (t : Place) → length (t .clocks) ≡ 4 → stateIn (stateWords t) ≡ t
+words-in t e =
+    let five : length (stateWords t) ≡ 5 = omega arith in
+    ap (λ (l : List ℕ). record { location = getD l 0 0; clocks = drop 1 l }) (words-back (stateWords t) five)
 
 -- Five stores leave the numbers stored.
 pub words-put : (s cs : List ℕ) (location : ℕ) → length s ≡ 5 → length cs ≡ 4 →

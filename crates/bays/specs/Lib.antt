@@ -1,0 +1,8 @@
+pub mod Five
+pub mod Bays
+pub mod Entries
+pub mod Promises
+pub mod Parts
+pub mod There
+pub mod Halves
+pub mod Alone
