@@ -17,6 +17,8 @@
  *   event   one byte: input x in the low four bits, output y in the high four
  *   text    a wave: a Value Change Dump (IEEE 1364) of a stream. 497,013 bytes are always enough
  *   states  a list of bays: five numbers for each of 1 to 8 bays, one bay after the other
+ *   station six numbers of 16 bits: a state, then the meter's register as last accepted
+ *   totals  two numbers of 32 bits: the pulses billed, the pulses not billed
  *   index   128 numbers: for each of 64 locations the number of its first rule, counted from 0, and how many rules it has
  *
  * Readings. Contracts read a deadline in two ways, and the caller names one, by the number 1 or 2, as the first argument:
@@ -55,10 +57,12 @@
  *   22  the reading is neither 1 nor 2
  *   24  the list has no such bay
  *   25  a list of bays is not five numbers for each of 1 to 8 bays
+ *   26  the policy has no input P or no output D
+ *   27  a total would pass 4,294,967,295
  *   28  the index is not that of the file, or not 128 numbers
  *   29  a stream to be written as a wave has over 16,384 events
  *
- * Where several hold, the first in this order is given: 22, 1 to 9 as they come in the file, 28, 10, 24, 11, 14, 16, 15, 17. A join asks 1 to 9 of its first
+ * Where several hold, the first in this order is given: 22, 1 to 9 as they come in the file, 26 or 28, 10, 24, 11, 14, 16, 15, 17, 27. A join asks 1 to 9 of its first
  * file, then of its second, then 12, 13, 14. A conversion asks 18, then 19. After 1 to 9 the writer of waves asks 29, 15, 14, their reader 21, 14.
  * With the marks of groovepawn_prepare under the same reading and a live state, groovepawn_input and groovepawn_run never give 17.
  *
@@ -175,6 +179,26 @@ uint32_t groovepawn_bay_input(uint8_t reading, const uint8_t *file, size_t file_
                               const uint16_t *states, size_t states_len, uint32_t bay, uint8_t x);
 uint32_t groovepawn_bay_output(uint8_t reading, const uint8_t *file, size_t file_len, const uint8_t *marks, size_t marks_len,
                                uint16_t *states, size_t states_len, uint32_t bay, uint8_t x, uint8_t y);
+
+/*
+ * Sets up a station with a meter: its state is the start, the first reading of the meter's register is given, and both totals are 0.
+ * Refusal 14 if station is not six numbers or totals is not two; both are then left as given. Returns the refusal.
+ */
+uint32_t groovepawn_meter_new(uint16_t *station, size_t station_len, uint32_t *totals, size_t totals_len, uint16_t reading_of_register);
+
+/*
+ * The halves of a tick of a station with a meter. The pulses of the tick are this register less the last accepted one, modulo 65,536.
+ * groovepawn_meter_input sets the input P in x exactly when pulses is not 0, clears it otherwise, and then is groovepawn_input. Nothing is written.
+ * Refusals 22, 1 to 9, 26, 10, 16 (also for a station that is not six numbers), 15, 17. Returns refusal | x' << 8.
+ * groovepawn_meter_output takes the same register, that x' and the controller's answer y, and is groovepawn_output; then it adds the pulses to the
+ * first total if the output D is on in the y' released, else to the second, and keeps the register.
+ * Refusals 22, 1 to 9, 26, 10, 14 (totals is not two), 16, 15, 17, 27. Returns refusal | y' << 8. With a refusal station and totals stay as given.
+ */
+uint32_t groovepawn_meter_input(uint8_t reading, const uint8_t *file, size_t file_len, const uint8_t *marks, size_t marks_len,
+                                const uint16_t *station, size_t station_len, uint16_t reading_of_register, uint8_t x);
+uint32_t groovepawn_meter_output(uint8_t reading, const uint8_t *file, size_t file_len, const uint8_t *marks, size_t marks_len,
+                                 uint16_t *station, size_t station_len, uint32_t *totals, size_t totals_len, uint16_t reading_of_register,
+                                 uint8_t x, uint8_t y);
 
 #ifdef __cplusplus
 }

@@ -140,4 +140,39 @@ extern "C" {
         x: u8,
         y: u8,
     ) -> u32;
+
+    pub fn groovepawn_meter_new(
+        station: *mut u16,
+        station_len: usize,
+        totals: *mut u32,
+        totals_len: usize,
+        reading_of_register: u16,
+    ) -> u32;
+
+    pub fn groovepawn_meter_input(
+        reading: u8,
+        file: *const u8,
+        file_len: usize,
+        marks: *const u8,
+        marks_len: usize,
+        station: *const u16,
+        station_len: usize,
+        reading_of_register: u16,
+        x: u8,
+    ) -> u32;
+
+    pub fn groovepawn_meter_output(
+        reading: u8,
+        file: *const u8,
+        file_len: usize,
+        marks: *const u8,
+        marks_len: usize,
+        station: *mut u16,
+        station_len: usize,
+        totals: *mut u32,
+        totals_len: usize,
+        reading_of_register: u16,
+        x: u8,
+        y: u8,
+    ) -> u32;
 }

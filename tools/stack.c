@@ -16,12 +16,13 @@ enum { STACK = 1 << 20, PAINT = 0xA5, RULES = 256, STATES = 65536, EVENTS = 1638
 static _Alignas(4096) uint8_t stack[STACK];
 static uint8_t file[5974], joined[5974], marks[STATES], quiet[EVENTS], restless[EVENTS], events[EVENTS], released[EVENTS], text[TEXT];
 static size_t length, text_length;
-static uint16_t state[5], index_of_file[128], bays[40];
+static uint16_t state[5], index_of_file[128], bays[40], station[6];
+static uint32_t totals[2];
 static uint8_t reading;
 
 /* 256 rules at location 0 that hold and each take one event, over 4 clocks; those to location 1, which has no rules, lead nowhere. */
 static void nested(void) {
-    static const uint8_t head[] = {4, 'A', 'B', 'C', 'D', 4, 'E', 'F', 'G', 'H', 4, 0, 3, 0, 3, 0, 3, 0, 3, 2, 0, 0, 1, 0};
+    static const uint8_t head[] = {4, 'P', 'B', 'C', 'A', 4, 'D', 'F', 'G', 'H', 4, 0, 3, 0, 3, 0, 3, 0, 3, 2, 0, 0, 1, 0};
     memcpy(file, head, sizeof head);
     length = sizeof head;
     for (int event = 0; event < RULES; event++) {
@@ -46,7 +47,7 @@ static void barred(void) {
 }
 
 /* All that the signals can do, for a join. */
-static const uint8_t any[] = {4, 'A', 'B', 'C', 'D', 4, 'E', 'F', 'G', 'H', 0, 1, 0, 0, 1, 0, 0, 0, 0, 0, 0, 0};
+static const uint8_t any[] = {4, 'P', 'B', 'C', 'A', 4, 'D', 'F', 'G', 'H', 0, 1, 0, 0, 1, 0, 0, 0, 0, 0, 0, 0};
 
 static uint64_t answer;
 static void nothing(void) { answer = 0; }
@@ -65,12 +66,16 @@ static void output_indexed(void) { answer = groovepawn_output_indexed(reading, f
 static void bays_new(void) { answer = groovepawn_bays_new(bays, 40); }
 static void bay_input(void) { answer = groovepawn_bay_input(reading, file, length, marks, STATES, bays, 40, 7, 0); }
 static void bay_output(void) { answer = groovepawn_bay_output(reading, file, length, marks, STATES, bays, 40, 7, 15, 0); }
+static void meter_new(void) { answer = groovepawn_meter_new(station, 6, totals, 2, 65530); }
+static void meter_input(void) { answer = groovepawn_meter_input(reading, file, length, marks, STATES, station, 6, 4, 0); }
+static void meter_output(void) { answer = groovepawn_meter_output(reading, file, length, marks, STATES, station, 6, totals, 2, 4, 15, 0); }
 
 static const struct { const char *name; void (*call)(void); } calls[] = {
     {"groovepawn_prepare", prepare}, {"groovepawn_index", build},
     {"groovepawn_input", input}, {"groovepawn_output", output}, {"groovepawn_run", run},
     {"groovepawn_input_indexed", input_indexed}, {"groovepawn_output_indexed", output_indexed},
     {"groovepawn_bays_new", bays_new}, {"groovepawn_bay_input", bay_input}, {"groovepawn_bay_output", bay_output},
+    {"groovepawn_meter_new", meter_new}, {"groovepawn_meter_input", meter_input}, {"groovepawn_meter_output", meter_output},
     {"groovepawn_join", join}, {"groovepawn_ticks", ticks},
     {"groovepawn_wave_write", wave_write}, {"groovepawn_wave_read", wave_read},
 };

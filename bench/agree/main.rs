@@ -27,6 +27,8 @@ mod index;
 mod join;
 #[path = "../../independent/src/laws.rs"]
 mod laws;
+#[path = "../../independent/src/meter.rs"]
+mod meter;
 #[path = "../../independent/src/moment.rs"]
 mod moment;
 #[path = "../../independent/src/parse.rs"]
@@ -199,5 +201,35 @@ impl Engine for PlainSide {
         y: u8,
     ) -> u64 {
         Model.bay_output(reading, file, marks, states, bay, x, y)
+    }
+
+    fn meter_new(&mut self, station: &mut [u16], totals: &mut [u32], register: u16) -> u64 {
+        Model.meter_new(station, totals, register)
+    }
+
+    fn meter_input(
+        &mut self,
+        reading: u8,
+        file: &[u8],
+        marks: &[u8],
+        station: &[u16],
+        register: u16,
+        x: u8,
+    ) -> u64 {
+        Model.meter_input(reading, file, marks, station, register, x)
+    }
+
+    fn meter_output(
+        &mut self,
+        reading: u8,
+        file: &[u8],
+        marks: &[u8],
+        station: &mut [u16],
+        totals: &mut [u32],
+        register: u16,
+        x: u8,
+        y: u8,
+    ) -> u64 {
+        Model.meter_output(reading, file, marks, station, totals, register, x, y)
     }
 }

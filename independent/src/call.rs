@@ -94,10 +94,33 @@ pub enum Call {
         x: u8,
         y: u8,
     },
+    MeterNew {
+        station: Vec<u16>,
+        totals: Vec<u32>,
+        register: u16,
+    },
+    MeterInput {
+        reading: u8,
+        file: Vec<u8>,
+        marks: Vec<u8>,
+        station: Vec<u16>,
+        register: u16,
+        x: u8,
+    },
+    MeterOutput {
+        reading: u8,
+        file: Vec<u8>,
+        marks: Vec<u8>,
+        station: Vec<u16>,
+        totals: Vec<u32>,
+        register: u16,
+        x: u8,
+        y: u8,
+    },
 }
 
 /// The functions, in the order of `Call::kind`.
-pub const FUNCTIONS: [&str; 14] = [
+pub const FUNCTIONS: [&str; 17] = [
     "prepare",
     "input",
     "output",
@@ -112,11 +135,15 @@ pub const FUNCTIONS: [&str; 14] = [
     "bays_new",
     "bay_input",
     "bay_output",
+    "meter_new",
+    "meter_input",
+    "meter_output",
 ];
 
 /// One thing that a function is given.
 pub enum Given<'a> {
     Byte(u8),
+    Pair(u16),
     Word(u32),
     /// A policy, or the slice for one.
     Policy(&'a [u8]),
@@ -124,6 +151,8 @@ pub enum Given<'a> {
     Bytes(&'a [u8]),
     /// A state, or what else is lent as numbers of 16 bits.
     Numbers(&'a [u16]),
+    /// The totals of a meter.
+    Totals(&'a [u32]),
 }
 
 /// An answer and the later contents of what was lent for writing.
@@ -133,9 +162,11 @@ pub struct Outcome {
     /// The marks of prepare, the released events of run, the file of join, the
     /// text of the wave writer, the events of its reader; otherwise empty.
     pub bytes: Vec<u8>,
-    /// The state of output and run, the index, the states of the bays;
-    /// otherwise empty.
+    /// The state of output and run, the index, the states of the bays, the
+    /// station of a meter; otherwise empty.
     pub state: Vec<u16>,
+    /// The totals of a meter; otherwise empty.
+    pub totals: Vec<u32>,
     /// A byte not lent for writing was changed.
     pub strayed: bool,
 }
@@ -158,6 +189,9 @@ impl Call {
             Call::BaysNew { .. } => 11,
             Call::BayInput { .. } => 12,
             Call::BayOutput { .. } => 13,
+            Call::MeterNew { .. } => 14,
+            Call::MeterInput { .. } => 15,
+            Call::MeterOutput { .. } => 16,
         }
     }
 
@@ -309,6 +343,49 @@ impl Call {
                 ("x", Byte(*x)),
                 ("y", Byte(*y)),
             ],
+            Call::MeterNew {
+                station,
+                totals,
+                register,
+            } => vec![
+                ("station before", Numbers(station)),
+                ("totals before", Totals(totals)),
+                ("register", Pair(*register)),
+            ],
+            Call::MeterInput {
+                reading,
+                file,
+                marks,
+                station,
+                register,
+                x,
+            } => vec![
+                ("reading", Byte(*reading)),
+                ("file", Policy(file)),
+                ("marks", Bytes(marks)),
+                ("station", Numbers(station)),
+                ("register", Pair(*register)),
+                ("x", Byte(*x)),
+            ],
+            Call::MeterOutput {
+                reading,
+                file,
+                marks,
+                station,
+                totals,
+                register,
+                x,
+                y,
+            } => vec![
+                ("reading", Byte(*reading)),
+                ("file", Policy(file)),
+                ("marks", Bytes(marks)),
+                ("station before", Numbers(station)),
+                ("totals before", Totals(totals)),
+                ("register", Pair(*register)),
+                ("x", Byte(*x)),
+                ("y", Byte(*y)),
+            ],
         }
     }
 
@@ -330,13 +407,16 @@ impl Call {
             | Call::InputIndexed { reading, .. }
             | Call::OutputIndexed { reading, .. }
             | Call::BayInput { reading, .. }
-            | Call::BayOutput { reading, .. } => *reading = other,
+            | Call::BayOutput { reading, .. }
+            | Call::MeterInput { reading, .. }
+            | Call::MeterOutput { reading, .. } => *reading = other,
             Call::Join { .. }
             | Call::Ticks { .. }
             | Call::WaveWrite { .. }
             | Call::WaveRead { .. }
             | Call::Index { .. }
-            | Call::BaysNew { .. } => {}
+            | Call::BaysNew { .. }
+            | Call::MeterNew { .. } => {}
         }
         self
     }
@@ -354,9 +434,11 @@ impl Call {
             | Call::InputIndexed { file, .. }
             | Call::OutputIndexed { file, .. }
             | Call::BayInput { file, .. }
-            | Call::BayOutput { file, .. } => *file = other,
+            | Call::BayOutput { file, .. }
+            | Call::MeterInput { file, .. }
+            | Call::MeterOutput { file, .. } => *file = other,
             Call::Join { a, .. } => *a = other,
-            Call::Ticks { .. } | Call::BaysNew { .. } => {}
+            Call::Ticks { .. } | Call::BaysNew { .. } | Call::MeterNew { .. } => {}
         }
         self
     }
@@ -364,6 +446,7 @@ impl Call {
     pub fn make(&self, engine: &mut dyn Engine) -> Outcome {
         let mut bytes = self.lent_bytes().to_vec();
         let mut lent_state = self.lent_state().to_vec();
+        let mut lent_totals = self.lent_totals().to_vec();
         let answer = match self {
             Call::Prepare { reading, file, .. } => engine.prepare(*reading, file, &mut bytes),
             Call::Input {
@@ -432,11 +515,41 @@ impl Call {
                 y,
                 ..
             } => engine.bay_output(*reading, file, marks, &mut lent_state, *bay, *x, *y),
+            Call::MeterNew { register, .. } => {
+                engine.meter_new(&mut lent_state, &mut lent_totals, *register)
+            }
+            Call::MeterInput {
+                reading,
+                file,
+                marks,
+                station,
+                register,
+                x,
+            } => engine.meter_input(*reading, file, marks, station, *register, *x),
+            Call::MeterOutput {
+                reading,
+                file,
+                marks,
+                register,
+                x,
+                y,
+                ..
+            } => engine.meter_output(
+                *reading,
+                file,
+                marks,
+                &mut lent_state,
+                &mut lent_totals,
+                *register,
+                *x,
+                *y,
+            ),
         };
         Outcome {
             answer,
             bytes,
             state: lent_state,
+            totals: lent_totals,
             strayed: engine.strayed(),
         }
     }
@@ -453,7 +566,16 @@ impl Call {
         }
     }
 
-    /// The state, the index or the list lent for writing, as it is before.
+    /// The totals lent for writing, as they are before.
+    pub fn lent_totals(&self) -> &[u32] {
+        match self {
+            Call::MeterNew { totals, .. } | Call::MeterOutput { totals, .. } => totals,
+            _ => &[],
+        }
+    }
+
+    /// The state, the index, the list or the station lent for writing, as it
+    /// is before.
     pub fn lent_state(&self) -> &[u16] {
         match self {
             Call::Output { state, .. }
@@ -461,6 +583,7 @@ impl Call {
             | Call::OutputIndexed { state, .. } => state,
             Call::Index { index, .. } => index,
             Call::BaysNew { states } | Call::BayOutput { states, .. } => states,
+            Call::MeterNew { station, .. } | Call::MeterOutput { station, .. } => station,
             _ => &[],
         }
     }
@@ -472,11 +595,13 @@ impl fmt::Display for Call {
         for (name, given) in self.given() {
             match given {
                 Given::Byte(byte) => writeln!(out, "{name} {byte}")?,
+                Given::Pair(pair) => writeln!(out, "{name} {pair}")?,
                 Given::Word(word) => writeln!(out, "{name} {word}")?,
                 Given::Policy(bytes) | Given::Bytes(bytes) => {
                     writeln!(out, "{name} {}", hex(bytes))?
                 }
                 Given::Numbers(numbers) => writeln!(out, "{name} {numbers:?}")?,
+                Given::Totals(totals) => writeln!(out, "{name} {totals:?}")?,
             }
         }
         if let Call::WaveRead { text, .. } = self {
@@ -492,6 +617,7 @@ impl fmt::Display for Outcome {
         writeln!(out, "answer {:#x} (refusal {refusal})", self.answer)?;
         writeln!(out, "bytes after {}", hex(&self.bytes))?;
         writeln!(out, "state after {:?}", self.state)?;
+        writeln!(out, "totals after {:?}", self.totals)?;
         writeln!(
             out,
             "changed what was not lent for writing: {}",

@@ -7,6 +7,7 @@ use crate::call::Call;
 use crate::damage;
 use crate::index::{self, INDEX_LENGTH};
 use crate::join;
+use crate::meter::{self, STATION_LENGTH, TOTALS};
 use crate::moment::STATE_LENGTH;
 use crate::policies::{self, Family, Size};
 use crate::policy::*;
@@ -25,14 +26,15 @@ const MOST_PREPARE_STEPS: usize = 300_000_000;
 /// Group `number` of `seed`; always the same.
 pub fn group(seed: u64, number: u64) -> Vec<Call> {
     let mut random = Random::for_group(seed, number);
-    match random.below(112) {
+    match random.below(118) {
         0..=55 => around_policy(&mut random),
         56..=59 => around_edits(&mut random),
         60..=77 => around_damage(&mut random),
         78 => around_prefixes(&mut random),
         79..=94 => around_join(&mut random),
         95..=99 => around_ticks(&mut random),
-        _ => around_wave(&mut random),
+        100..=111 => around_wave(&mut random),
+        _ => around_meter(&mut random),
     }
 }
 
@@ -64,6 +66,140 @@ fn around_policy(random: &mut Random) -> Vec<Call> {
     }
     made.push(bays_new_call(random));
     made
+}
+
+/// A policy that has the signals of a meter, or all but one of them.
+fn around_meter(random: &mut Random) -> Vec<Call> {
+    let reading = random.pick(&READINGS);
+    let subject = loop {
+        let size = random.pick(&[Size::Tiny, Size::Tiny, Size::Small]);
+        let policy = policies::of_size(random, size);
+        if let Some(policy) = meter::metered(random, policy) {
+            let subject = Subject::new(without_a_signal(random, policy), reading);
+            if subject.liveness.live[0] || random.percent(25) {
+                break subject;
+            }
+        }
+    };
+    let mut made = vec![meter_new_call(random)];
+    for _ in 0..3 {
+        made.push(meter_call(random, &subject));
+        let file = damage::damaged(random, &subject.policy);
+        made.push(meter_call(random, &subject).with_file(file));
+    }
+    made
+}
+
+/// Now and then another letter in the place of P or D, or the two exchanged.
+fn without_a_signal(random: &mut Random, mut policy: Policy) -> Policy {
+    let (from, to) = match random.below(16) {
+        0 => (b'P', b'p'),
+        1 => (b'D', b'd'),
+        2 => (b'P', b'D'),
+        _ => return policy,
+    };
+    let free =
+        (b'A'..=b'Z').find(|tag| !policy.inputs.contains(tag) && !policy.outputs.contains(tag));
+    for tag in policy.inputs.iter_mut().chain(&mut policy.outputs) {
+        *tag = match *tag {
+            old if old == from && to.is_ascii_lowercase() => free.expect("few letters are used"),
+            old if old == from => to,
+            old if old == to => from,
+            old => old,
+        };
+    }
+    policy
+}
+
+fn meter_new_call(random: &mut Random) -> Call {
+    let length = random.pick(&[STATION_LENGTH, STATION_LENGTH, STATION_LENGTH, 0, 5, 7, 8]);
+    let totals = random.pick(&[TOTALS, TOTALS, TOTALS, 0, 1, 3, 4]);
+    Call::MeterNew {
+        station: some_numbers(random, length),
+        totals: some_totals(random, totals),
+        register: random.next() as u16,
+    }
+}
+
+fn some_totals(random: &mut Random, length: usize) -> Vec<u32> {
+    let mut one = || match random.below(4) {
+        0 => 0,
+        1 => u32::MAX - random.below(3) as u32,
+        2 => u32::MAX - random.below(70_000) as u32,
+        _ => random.next() as u32,
+    };
+    (0..length).map(|_| one()).collect()
+}
+
+fn meter_call(random: &mut Random, subject: &Subject) -> Call {
+    let half = match random.percent(40) {
+        true => input_call(random, subject),
+        false => output_call(random, subject),
+    };
+    let last = random.next() as u16;
+    let register = match random.below(4) {
+        0 => last,
+        1 => last.wrapping_add(random.between(1, 20) as u16),
+        2 => last.wrapping_sub(1),
+        _ => random.next() as u16,
+    };
+    let totals = match random.percent(90) {
+        true => TOTALS,
+        false => random.pick(&[0, 1, 3, 4]),
+    };
+    let totals = some_totals(random, totals);
+    let tags = (&subject.policy.inputs, &subject.policy.outputs);
+    let metered = tags.0.contains(&b'P') && tags.1.contains(&b'D');
+    // Where 26 is due, marks that are too short as well.
+    let most_marks = match !metered && random.percent(40) {
+        true => subject.states() - 1,
+        false => usize::MAX,
+    };
+    let station = |mut state: Vec<u16>| {
+        state.truncate(7);
+        state.push(last);
+        state
+    };
+    match half {
+        Call::Input {
+            reading,
+            file,
+            mut marks,
+            state,
+            x,
+        } => Call::MeterInput {
+            reading,
+            file,
+            marks: {
+                marks.truncate(most_marks);
+                marks
+            },
+            station: station(state),
+            register,
+            x,
+        },
+        Call::Output {
+            reading,
+            file,
+            mut marks,
+            state,
+            x,
+            y,
+        } => Call::MeterOutput {
+            reading,
+            file,
+            marks: {
+                marks.truncate(most_marks);
+                marks
+            },
+            station: station(state),
+            totals,
+            register,
+            x,
+            y,
+        },
+        other => other,
+    }
 }
 
 /// Every input, and every output after some input, of a policy that permits
@@ -634,6 +770,9 @@ pub fn refusals_of(function: &str) -> Vec<usize> {
         "index" => &[14],
         "input_indexed" | "output_indexed" => &[10, 15, 16, 17, 22, 28],
         "bays_new" => return vec![0, 25],
+        "meter_new" => return vec![0, 14],
+        "meter_input" => &[10, 15, 16, 17, 22, 26],
+        "meter_output" => &[10, 14, 15, 16, 17, 22, 26, 27],
         "bay_input" | "bay_output" => &[10, 15, 16, 17, 22, 24],
         _ => panic!("{function} is none"),
     };

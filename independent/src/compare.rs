@@ -5,6 +5,7 @@ use crate::call::{Call, FUNCTIONS};
 use crate::cases;
 use crate::engine::{found_in, refusal_in, Engine, Model};
 use crate::laws::{self, LawTally};
+use crate::meter::{self, MeterTally};
 use crate::reading::READINGS;
 use crate::refusal::LAST_REFUSAL;
 use std::fmt;
@@ -28,6 +29,7 @@ pub struct Tally {
     pub verdicts: [u64; 2],
     pub laws: LawTally,
     pub bays: BayTally,
+    pub meter: MeterTally,
 }
 
 impl Tally {
@@ -95,6 +97,16 @@ impl fmt::Display for Tally {
             "lists of bays {}, their ticks {}, refused {}, edited {}",
             self.bays.stations, self.bays.ticks, self.bays.refused, self.bays.edited
         )?;
+        writeln!(
+            out,
+            "transfers {}, their ticks {}, refused {}, over the end of the register {}, pulses billed {}, unbilled {}",
+            self.meter.transfers,
+            self.meter.ticks,
+            self.meter.refused,
+            self.meter.rollovers,
+            self.meter.billed,
+            self.meter.unbilled
+        )?;
         Ok(())
     }
 }
@@ -131,6 +143,13 @@ pub fn compare(
                 format!(
                     "seed {seed} bays {number}\n{breach}\n{}",
                     station.describe()
+                )
+            })?;
+            let transfer = meter::transfer(seed, number);
+            meter::examine(engine, &transfer, &mut tally.meter).map_err(|breach| {
+                format!(
+                    "seed {seed} meter {number}\n{breach}\n{}",
+                    transfer.describe()
                 )
             })?;
         }
@@ -240,9 +259,16 @@ mod tests {
         BayIsTheCount,
         BayBeforeMarks,
         AllBaysMove,
+        PulsesEndAtTheRollover,
+        PulseIsNotCleared,
+        BillsWhatWasWanted,
+        TotalsGoRound,
+        RegisterMovesOnRefusal,
+        MarksBeforeMeterSignals,
+        FirstRegisterIsNone,
     }
 
-    const FAULTS: [Fault; 54] = [
+    const FAULTS: [Fault; 61] = [
         Fault::RefuseAlways,
         Fault::ForwardEverything,
         Fault::SmallestAmongEquals,
@@ -297,6 +323,13 @@ mod tests {
         Fault::BayIsTheCount,
         Fault::BayBeforeMarks,
         Fault::AllBaysMove,
+        Fault::PulsesEndAtTheRollover,
+        Fault::PulseIsNotCleared,
+        Fault::BillsWhatWasWanted,
+        Fault::TotalsGoRound,
+        Fault::RegisterMovesOnRefusal,
+        Fault::MarksBeforeMeterSignals,
+        Fault::FirstRegisterIsNone,
     ];
 
     impl Spoilt {
@@ -691,6 +724,75 @@ mod tests {
             answer
         }
 
+        fn meter_new(&mut self, station: &mut [u16], totals: &mut [u32], register: u16) -> u64 {
+            let register = match self.has(Fault::FirstRegisterIsNone) {
+                true => 0,
+                false => register,
+            };
+            Model.meter_new(station, totals, register)
+        }
+
+        fn meter_input(
+            &mut self,
+            reading: u8,
+            file: &[u8],
+            marks: &[u8],
+            station: &[u16],
+            register: u16,
+            x: u8,
+        ) -> u64 {
+            let answer = Model.meter_input(reading, file, marks, station, register, x);
+            if self.has(Fault::MarksBeforeMeterSignals) && answer == 26 {
+                let policy = parse::check(file).expect("it was read");
+                if (marks.len() as u64) < policy.states() {
+                    return 10;
+                }
+            }
+            let quiet = station.last() == Some(&register);
+            if self.has(Fault::PulseIsNotCleared) && refusal_in(answer) == 0 && quiet {
+                return Model.input(reading, file, marks, &station[..STATE_LENGTH], x);
+            }
+            answer
+        }
+
+        fn meter_output(
+            &mut self,
+            reading: u8,
+            file: &[u8],
+            marks: &[u8],
+            station: &mut [u16],
+            totals: &mut [u32],
+            register: u16,
+            x: u8,
+            y: u8,
+        ) -> u64 {
+            let last = station.last().copied().unwrap_or(0);
+            let before = totals.to_vec();
+            let mut answer =
+                Model.meter_output(reading, file, marks, station, totals, register, x, y);
+            if self.has(Fault::TotalsGoRound) && answer == 27 {
+                let mut none = [0; 2];
+                answer =
+                    Model.meter_output(reading, file, marks, station, &mut none, register, x, y);
+                for (total, pulses) in totals.iter_mut().zip(none) {
+                    *total = total.wrapping_add(pulses);
+                }
+            }
+            if refusal_in(answer) != 0 {
+                if self.has(Fault::RegisterMovesOnRefusal) && answer == 17 {
+                    station[STATE_LENGTH] = register;
+                }
+                return answer;
+            }
+            if self.has(Fault::PulsesEndAtTheRollover) && register < last {
+                totals.copy_from_slice(&before);
+            }
+            if self.has(Fault::BillsWhatWasWanted) && found_in(answer) != usize::from(y) {
+                totals.swap(0, 1);
+            }
+            answer
+        }
+
         fn strayed(&mut self) -> bool {
             self.has(Fault::Stray)
         }
@@ -756,7 +858,7 @@ mod tests {
 
     #[test]
     fn a_difference_names_the_case() {
-        let text = outcome(Fault::RefuseAlways).expect_err("noticed");
+        let text = outcome(Fault::InventLiveCount).expect_err("noticed");
         assert!(text.starts_with("seed 4 group "), "{text}");
         assert!(text.contains("file "), "{text}");
     }

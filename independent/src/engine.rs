@@ -5,6 +5,7 @@ use crate::bays;
 use crate::enforce;
 use crate::index;
 use crate::join;
+use crate::meter;
 use crate::refusal::Refusal;
 use crate::ticks::{self, Rounding};
 use crate::waves;
@@ -102,6 +103,34 @@ pub trait Engine {
         marks: &[u8],
         states: &mut [u16],
         bay: u32,
+        x: u8,
+        y: u8,
+    ) -> u64;
+
+    /// refusal
+    fn meter_new(&mut self, station: &mut [u16], totals: &mut [u32], register: u16) -> u64;
+
+    /// refusal | x' << 8
+    fn meter_input(
+        &mut self,
+        reading: u8,
+        file: &[u8],
+        marks: &[u8],
+        station: &[u16],
+        register: u16,
+        x: u8,
+    ) -> u64;
+
+    /// refusal | y' << 8
+    #[allow(clippy::too_many_arguments)]
+    fn meter_output(
+        &mut self,
+        reading: u8,
+        file: &[u8],
+        marks: &[u8],
+        station: &mut [u16],
+        totals: &mut [u32],
+        register: u16,
         x: u8,
         y: u8,
     ) -> u64;
@@ -242,6 +271,41 @@ impl Engine for Model {
         y: u8,
     ) -> u64 {
         packed(bays::output_half(reading, file, marks, states, bay, x, y))
+    }
+
+    fn meter_new(&mut self, station: &mut [u16], totals: &mut [u32], register: u16) -> u64 {
+        done(meter::new(station, totals, register))
+    }
+
+    fn meter_input(
+        &mut self,
+        reading: u8,
+        file: &[u8],
+        marks: &[u8],
+        station: &[u16],
+        register: u16,
+        x: u8,
+    ) -> u64 {
+        packed(meter::input_half(
+            reading, file, marks, station, register, x,
+        ))
+    }
+
+    fn meter_output(
+        &mut self,
+        reading: u8,
+        file: &[u8],
+        marks: &[u8],
+        station: &mut [u16],
+        totals: &mut [u32],
+        register: u16,
+        x: u8,
+        y: u8,
+    ) -> u64 {
+        let lent = meter::Lent { station, totals };
+        packed(meter::output_half(
+            reading, file, marks, lent, register, x, y,
+        ))
     }
 }
 

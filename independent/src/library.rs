@@ -56,6 +56,10 @@ fn bytes(slice: &[u8]) -> Lent<u8> {
     Lent::new(slice, 0xA5)
 }
 
+fn totals_of(slice: &[u32]) -> Lent<u32> {
+    Lent::new(slice, 0xA5A5_A5A5)
+}
+
 fn numbers(slice: &[u16]) -> Lent<u16> {
     Lent::new(slice, 0xA5A5)
 }
@@ -361,6 +365,80 @@ impl Engine for Library {
         self.expect(f.is_still(file));
         self.expect(m.is_still(marks));
         self.expect(s.give_back(states));
+        u64::from(answer)
+    }
+
+    fn meter_new(&mut self, station: &mut [u16], totals: &mut [u32], register: u16) -> u64 {
+        let (mut s, mut t) = (numbers(station), totals_of(totals));
+        let answer =
+            unsafe { groovepawn_meter_new(s.pointer(), s.length, t.pointer(), t.length, register) };
+        self.expect(s.give_back(station));
+        self.expect(t.give_back(totals));
+        u64::from(answer)
+    }
+
+    fn meter_input(
+        &mut self,
+        reading: u8,
+        file: &[u8],
+        marks: &[u8],
+        station: &[u16],
+        register: u16,
+        x: u8,
+    ) -> u64 {
+        let (mut f, mut m, mut s) = (bytes(file), bytes(marks), numbers(station));
+        let answer = unsafe {
+            groovepawn_meter_input(
+                reading,
+                f.pointer(),
+                f.length,
+                m.pointer(),
+                m.length,
+                s.pointer(),
+                s.length,
+                register,
+                x,
+            )
+        };
+        self.expect(f.is_still(file));
+        self.expect(m.is_still(marks));
+        self.expect(s.is_still(station));
+        u64::from(answer)
+    }
+
+    fn meter_output(
+        &mut self,
+        reading: u8,
+        file: &[u8],
+        marks: &[u8],
+        station: &mut [u16],
+        totals: &mut [u32],
+        register: u16,
+        x: u8,
+        y: u8,
+    ) -> u64 {
+        let (mut f, mut m) = (bytes(file), bytes(marks));
+        let (mut s, mut t) = (numbers(station), totals_of(totals));
+        let answer = unsafe {
+            groovepawn_meter_output(
+                reading,
+                f.pointer(),
+                f.length,
+                m.pointer(),
+                m.length,
+                s.pointer(),
+                s.length,
+                t.pointer(),
+                t.length,
+                register,
+                x,
+                y,
+            )
+        };
+        self.expect(f.is_still(file));
+        self.expect(m.is_still(marks));
+        self.expect(s.give_back(station));
+        self.expect(t.give_back(totals));
         u64::from(answer)
     }
 

@@ -17,6 +17,7 @@ mod join;
 mod laws;
 #[cfg(feature = "library")]
 mod library;
+mod meter;
 mod moment;
 mod parse;
 mod policies;

@@ -26,6 +26,8 @@ pub enum Refusal {
     UnknownReading = 22,
     NoSuchBay = 24,
     CountOfBays = 25,
+    NoMeterSignals = 26,
+    TotalTooLarge = 27,
     WrongIndex = 28,
     TooManyEvents = 29,
 }

@@ -19,6 +19,8 @@ const LONGEST_POLICY: usize = 8_192;
 const LONGEST_STRING: usize = 65_600;
 /// The most numbers of 16 bits that stand together.
 const LONGEST_NUMBERS: usize = 136;
+/// The most totals.
+const LONGEST_TOTALS: usize = 4;
 
 /// Those written by hand, then `count` random ones as far as they fit.
 pub fn vectors(count: usize, seed: u64) -> Vec<u8> {
@@ -77,7 +79,8 @@ fn strings_fit(call: &Call) -> bool {
         Given::Policy(bytes) => bytes.len() <= LONGEST_POLICY,
         Given::Bytes(bytes) => bytes.len() <= LONGEST_STRING,
         Given::Numbers(numbers) => numbers.len() <= LONGEST_NUMBERS,
-        Given::Byte(_) | Given::Word(_) => true,
+        Given::Totals(totals) => totals.len() <= LONGEST_TOTALS,
+        Given::Byte(_) | Given::Pair(_) | Given::Word(_) => true,
     })
 }
 
@@ -95,9 +98,11 @@ fn body(call: &Call, outcome: &Outcome) -> Vec<u8> {
     for (_, given) in call.given() {
         match given {
             Given::Byte(byte) => body.push(byte),
+            Given::Pair(pair) => body.extend(pair.to_be_bytes()),
             Given::Word(word) => put_number(&mut body, word as usize),
             Given::Policy(bytes) | Given::Bytes(bytes) => put_string(&mut body, bytes),
             Given::Numbers(numbers) => put_numbers(&mut body, numbers),
+            Given::Totals(totals) => put_totals(&mut body, totals),
         }
     }
     body.extend(outcome.answer.to_be_bytes());
@@ -107,6 +112,9 @@ fn body(call: &Call, outcome: &Outcome) -> Vec<u8> {
     if writes_state(call.kind()) {
         put_numbers(&mut body, &outcome.state);
     }
+    if writes_totals(call.kind()) {
+        put_totals(&mut body, &outcome.totals);
+    }
     body
 }
 
@@ -115,10 +123,15 @@ pub fn writes_bytes(kind: usize) -> bool {
     [0, 3, 4, 6, 7].contains(&kind)
 }
 
-/// Output, run, index, the output half with an index, and of the bays the list
-/// and the output half.
+/// Output, run, index, the output half with an index, of the bays the list and
+/// the output half, and of the meter the station and the output half.
 pub fn writes_state(kind: usize) -> bool {
-    [2, 3, 8, 10, 11, 13].contains(&kind)
+    [2, 3, 8, 10, 11, 13, 14, 16].contains(&kind)
+}
+
+/// Those of the meter that are lent them.
+pub fn writes_totals(kind: usize) -> bool {
+    [14, 16].contains(&kind)
 }
 
 fn put_number(out: &mut Vec<u8>, number: usize) {
@@ -129,6 +142,13 @@ fn put_numbers(out: &mut Vec<u8>, numbers: &[u16]) {
     out.push(numbers.len() as u8);
     for number in numbers {
         out.extend(number.to_be_bytes());
+    }
+}
+
+fn put_totals(out: &mut Vec<u8>, totals: &[u32]) {
+    out.push(totals.len() as u8);
+    for &total in totals {
+        put_number(out, total as usize);
     }
 }
 
@@ -210,6 +230,11 @@ impl<'a> Reader<'a> {
     fn numbers(&mut self) -> Result<Vec<u16>, String> {
         let length = self.byte()?;
         (0..length).map(|_| Ok(self.number(2)? as u16)).collect()
+    }
+
+    fn totals(&mut self) -> Result<Vec<u32>, String> {
+        let length = self.byte()?;
+        (0..length).map(|_| Ok(self.number(4)? as u32)).collect()
     }
 
     fn call(&mut self, kind: u8) -> Result<Call, String> {
@@ -303,6 +328,29 @@ impl<'a> Reader<'a> {
                 x: self.byte()?,
                 y: self.byte()?,
             },
+            15 => Call::MeterNew {
+                station: self.numbers()?,
+                totals: self.totals()?,
+                register: self.number(2)? as u16,
+            },
+            16 => Call::MeterInput {
+                reading: self.byte()?,
+                file: self.string()?,
+                marks: self.string()?,
+                station: self.numbers()?,
+                register: self.number(2)? as u16,
+                x: self.byte()?,
+            },
+            17 => Call::MeterOutput {
+                reading: self.byte()?,
+                file: self.string()?,
+                marks: self.string()?,
+                station: self.numbers()?,
+                totals: self.totals()?,
+                register: self.number(2)? as u16,
+                x: self.byte()?,
+                y: self.byte()?,
+            },
             _ => return Err(BROKEN.to_string()),
         })
     }
@@ -317,10 +365,15 @@ impl<'a> Reader<'a> {
             true => self.numbers()?,
             false => vec![],
         };
+        let totals = match writes_totals(kind) {
+            true => self.totals()?,
+            false => vec![],
+        };
         Ok(Outcome {
             answer,
             bytes,
             state,
+            totals,
             ..Outcome::default()
         })
     }

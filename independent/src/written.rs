@@ -7,6 +7,7 @@ mod halves;
 mod indexes;
 mod joins;
 mod leaving;
+mod meter;
 mod readings;
 mod runs;
 mod times;
@@ -31,6 +32,23 @@ pub struct Written {
     pub expected: Outcome,
 }
 
+impl Written {
+    /// The same, with the totals that are then expected.
+    fn with_totals(mut self, totals: &[u32]) -> Written {
+        self.expected.totals = totals.to_vec();
+        self
+    }
+
+    /// The same call under another reading, with what is then expected.
+    fn under(self, reading: u8) -> Written {
+        Written {
+            name: format!("reading {reading}: {}", self.name),
+            call: self.call.under(reading),
+            ..self
+        }
+    }
+}
+
 pub fn all() -> Vec<Written> {
     [
         files::all(),
@@ -41,6 +59,7 @@ pub fn all() -> Vec<Written> {
         readings::all(),
         indexes::all(),
         bays::all(),
+        meter::all(),
         wrong_files::all(),
         times::all(),
         waves::all(),
@@ -90,15 +109,15 @@ mod tests {
             seen[written.call.kind()][usize::from(refusal)] = true;
         }
         // The others are not given by any function.
-        for number in (0..=19).chain([21, 22, 24, 25, 28, 29]) {
+        for number in (0..=19).chain([21, 22, 24, 25, 26, 27, 28, 29]) {
             assert!(seen.iter().any(|function| function[number]), "{number}");
         }
         // Those that take a reading.
-        for kind in [0, 1, 2, 3, 9, 10, 12, 13] {
+        for kind in [0, 1, 2, 3, 9, 10, 12, 13, 15, 16] {
             assert!(seen[kind][22]);
         }
         // Those a half or a run can give beside the nine of a file.
-        for kind in [1, 2, 3, 9, 10, 12, 13] {
+        for kind in [1, 2, 3, 9, 10, 12, 13, 15, 16] {
             assert!([10, 15, 16, 17]
                 .iter()
                 .all(|&number: &usize| seen[kind][number]));

@@ -4,7 +4,7 @@
 use crate::call::{Outcome, FUNCTIONS};
 use crate::engine::refusal_in;
 use crate::random::Random;
-use crate::vectors::{chosen, file_of, record, writes_bytes, writes_state};
+use crate::vectors::{chosen, file_of, record, writes_bytes, writes_state, writes_totals};
 
 /// A call whose record is longer than this is left out.
 const LONGEST_RECORD: usize = 700;
@@ -15,9 +15,10 @@ enum Part {
     Answer,
     Bytes,
     State,
+    Totals,
 }
 
-const PARTS: [Part; 3] = [Part::Answer, Part::Bytes, Part::State];
+const PARTS: [Part; 4] = [Part::Answer, Part::Bytes, Part::State, Part::Totals];
 
 impl Part {
     fn is_compared(self, kind: usize) -> bool {
@@ -25,6 +26,7 @@ impl Part {
             Part::Answer => true,
             Part::Bytes => writes_bytes(kind),
             Part::State => writes_state(kind),
+            Part::Totals => writes_totals(kind),
         }
     }
 
@@ -34,6 +36,7 @@ impl Part {
             Part::Answer => 64,
             Part::Bytes => outcome.bytes.len(),
             Part::State => outcome.state.len(),
+            Part::Totals => outcome.totals.len(),
         }
     }
 
@@ -43,6 +46,7 @@ impl Part {
             Part::Answer => outcome.answer ^= 1 << place,
             Part::Bytes => outcome.bytes[place] ^= 1 << random.below(8),
             Part::State => outcome.state[place] ^= 1 << random.below(16),
+            Part::Totals => outcome.totals[place] ^= 1 << random.below(32),
         }
     }
 }
@@ -96,11 +100,14 @@ mod tests {
         assert_eq!(one.bytes.len(), other.bytes.len());
         assert_eq!(one.state.len(), other.state.len());
         let bytes = one.bytes.iter().zip(&other.bytes);
+        assert_eq!(one.totals.len(), other.totals.len());
         let state = one.state.iter().zip(&other.state);
+        let totals = one.totals.iter().zip(&other.totals);
         [
             (one.answer ^ other.answer).count_ones(),
             bytes.map(|(a, b)| (a ^ b).count_ones()).sum(),
             state.map(|(a, b)| (a ^ b).count_ones()).sum(),
+            totals.map(|(a, b)| (a ^ b).count_ones()).sum(),
         ]
     }
 
@@ -153,6 +160,13 @@ mod tests {
             "bay_input Answer",
             "bay_output Answer",
             "bay_output State",
+            "meter_new Answer",
+            "meter_new State",
+            "meter_new Totals",
+            "meter_input Answer",
+            "meter_output Answer",
+            "meter_output State",
+            "meter_output Totals",
         ];
         assert_eq!(named, expected);
     }
@@ -161,7 +175,7 @@ mod tests {
     fn the_file_is_short() {
         for seed in 0..10 {
             let file = wrong(4, seed);
-            assert!(file.len() <= 30_000, "{}", file.len());
+            assert!(file.len() <= 40_000, "{}", file.len());
         }
     }
 }

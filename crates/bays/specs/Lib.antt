@@ -1,4 +1,5 @@
 pub mod Five
+pub mod Odd
 pub mod Bays
 pub mod Entries
 pub mod Promises

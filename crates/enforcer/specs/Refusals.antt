@@ -10,7 +10,7 @@ use native.Mathlib.Omega.{arith}
 use lib.Dec.{leb, eqb}
 use lib.ListN.{length, length-map}
 use borrow.Author.Tests.{lt-ltb}
-use Rattle.streams.specs.Answer.{refused, _orElse_, unless, UpTo, none-refused, unless-le, else-le}
+use Rattle.streams.specs.Answer.{refused, _orElse_, unless, UpTo, none-refused, first-refused, unless-le, else-le}
 use Rattle.streams.specs.Stream.{Event, Stream}
 use Rattle.policy.specs.Rules.{Policy, Place, FitsOne, Fits, fits-none, fits-more}
 use Rattle.policy.specs.File.{policyOf}
@@ -103,6 +103,25 @@ module _ (s : Place) (out : List ℕ) where
   counted-few : (n : ℕ) (r : Ran) {k : ℕ} → length (r .released) ≤ k → runFrom s out n r .count ≤ k
   counted-few zero r h = h
   counted-few (suc n) r h = zero-le
+
+-- Of refusals in their order the first comes before all else.
+first-of : {A : Type 0} (n a b : ℕ) (o : Option A) → (n ≡ 0 → ⊥) → chosen ((n orElse a) orElse b) o ≡ refused n
+first-of zero a b o h = absurd (h refl)
+first-of (suc n) a b o h = refl
+
+-- Where the reading or the file is refused, so are the marks and the halves, by that number.
+module _ (reading : ℕ) (file marks : List ℕ) (bad : refusalUnder reading file ≡ 0 → ⊥) where
+  pub marks-first : marksRefusal reading file marks ≡ refusalUnder reading file
+  unfolding marksRefusal
+  marks-first = first-refused (refusalUnder reading file) _ bad
+
+  pub input-first : (s : Place) (x : ℕ) → inputOf reading file marks s x ≡ refused (refusalUnder reading file)
+  unfolding inputOf inputRefusal marksRefusal
+  input-first s x = first-of (refusalUnder reading file) _ _ _ bad
+
+  pub output-first : (s : Place) (x y : ℕ) → outputOf reading file marks s x y ≡ record { answer = refused (refusalUnder reading file); state = s }
+  unfolding outputOf outputRefusal marksRefusal
+  output-first s x y = ap (outputFrom s) (first-of (refusalUnder reading file) _ _ _ bad)
 
 module _ (reading : ℕ) (file marks : List ℕ) where
   -- The reading is refused by 22, the file and the marks by 1 to 10, the state by 16, and all else that comes before 17 by no more than that.

@@ -16,8 +16,9 @@ use Rattle.join.specs.Promise.{join-up-to}
 use Rattle.ticks.specs.Conversion.{ticksOf}
 use Rattle.ticks.specs.Laws.{ticks-up-to}
 use Rattle.bays.specs.Five.{stateIn}
-use Rattle.groovepawn.specs.Words.{answerWord, summaryWord, ranWord, isState, oddRefusal, prepareWord, inputWord, outputWord, runWord, joinWord, isUp, ticksWord}
-use Rattle.groovepawn.specs.Bounds.{Small, summary-small, odd-some, odd-le}
+use Rattle.bays.specs.Odd.{oddRefusal, odd-some, odd-le}
+use Rattle.groovepawn.specs.Words.{answerWord, summaryWord, ranWord, isState, prepareWord, inputWord, outputWord, runWord, joinWord, isUp, ticksWord}
+use Rattle.groovepawn.specs.Bounds.{Small, summary-small}
 
 -- The answer that a word holds: the refusal in the low eight bits, and without one what stands above it.
 abbrev pub answerIn : ℕ → Answer ℕ

@@ -15,7 +15,8 @@ use Rattle.enforcer.specs.Entries.{OutputAnswer, chosen, outputFrom, outputRefu
 use Rattle.indexed.specs.Entries.{refusedOr, indexRefusal, earlyRefusal, inputIndexedOf, outputIndexedOf}
 use Rattle.indexed.specs.Same.{input-same, output-same, early-same, early-le, input-up-to-28, output-up-to-28}
 use Rattle.bays.specs.Five.{stateWords, stateIn, words-back}
-use Rattle.groovepawn.specs.Words.{answerWord, isState, oddRefusal, inputWord, outputWord, outputState}
+use Rattle.bays.specs.Odd.{oddRefusal}
+use Rattle.groovepawn.specs.Words.{answerWord, isState, inputWord, outputWord, outputState}
 use Rattle.groovepawn.specs.Fields.{answerIn, answer-back}
 
 -- Numbers that are not five are no state: 16 in its place in the order, after 22, 1 to 9, 28 and 10.

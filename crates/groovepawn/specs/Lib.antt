@@ -6,3 +6,4 @@ pub mod Fields
 pub mod Waves
 pub mod Indexed
 pub mod Bays
+pub mod Meter

@@ -12,8 +12,9 @@ use Rattle.policy.specs.File.{policyOf}
 use Rattle.enforcer.specs.State.{placeIn}
 use Rattle.enforcer.specs.Tick.{Tick, Ran, outputTick, ran}
 use Rattle.enforcer.specs.Entries.{eventOf, chosen, outputFrom, outputRefusal, outputOf, runFrom, runRefusal, runOf}
-use Rattle.groovepawn.specs.Words.{answerWord, ranWord, isState, oddRefusal, outputWord, outputState, runWord, runState, runOut}
+use Rattle.groovepawn.specs.Words.{answerWord, ranWord, isState, outputWord, outputState, runWord, runState, runOut}
 use Rattle.bays.specs.Five.{stateWords, stateIn, words-back}
+use Rattle.bays.specs.Odd.{oddRefusal}
 
 -- The refusal that a run that is not refused at once ends by.
 ended : (t : Bool) (k : ℕ) → ((cond t 17 0 + k * 256) % 256 ≡ 0 → ⊥) → ((cond t 17 0 + k * 256) % 256 ≡ 17 → ⊥) → ⊥

@@ -4,12 +4,13 @@ use mathlib.Core.List.{List}
 use Prim.Native.Nat.{ℕ, _+_, _*_, _%_, _^_}
 use lib.Dec.{eqb, leb}
 use lib.ListN.{length}
-use Rattle.streams.specs.Answer.{Answer, refused, gives, _orElse_, unless}
-use Rattle.enforcer.specs.Entries.{RunAnswer, marksRefusal, inputOf, outputOf, runOf}
+use Rattle.streams.specs.Answer.{Answer, refused, gives}
+use Rattle.enforcer.specs.Entries.{RunAnswer, inputOf, outputOf, runOf}
 use Rattle.prepare.specs.Entry.{Summary, prepareOf}
 use Rattle.join.specs.Entry.{joinOf}
 use Rattle.ticks.specs.Conversion.{ticksOf}
 use Rattle.bays.specs.Five.{stateWords, stateIn}
+use Rattle.bays.specs.Odd.{oddRefusal}
 
 abbrev pub answerWord : Answer ℕ → ℕ
 answerWord (refused n) = n
@@ -26,10 +27,6 @@ ranWord r = r .refusal + r .count % 2 ^ 56 * 256
 
 abbrev pub isState : List ℕ → Bool
 isState s = eqb (length s) 5
-
--- Numbers that are not five are no state: 16 in its place in the order, after 22, 1 to 10 and, where there is no room for what is released, 14.
-unfoldable pub oddRefusal : ℕ → List ℕ → List ℕ → Bool → ℕ
-oddRefusal reading file marks room = marksRefusal reading file marks orElse unless room 14 orElse 16
 
 unfoldable pub prepareWord : ℕ → List ℕ → List ℕ → ℕ
 prepareWord reading file marks = summaryWord (prepareOf reading file marks)

@@ -1,19 +1,20 @@
 // The entries for a controller in C: each answer is one number, and a state is five numbers, the location and then the four clock values.
 // What each call promises stands in specs/.
 mod bay_calls;
+mod meter_calls;
 mod viewer;
 
 pub use bay_calls::groovepawn_bay_input;
 pub use bay_calls::groovepawn_bay_output;
 pub use bay_calls::groovepawn_bays_new;
 use bays::five::NUMBERS;
+use bays::five::odd_refusal;
 use bays::five::put_state;
 use bays::five::state_of;
 use enforcer::Answer;
 use enforcer::Output;
 use enforcer::State;
 use enforcer::input_half;
-use enforcer::marks_refusal;
 use enforcer::output_half;
 use enforcer::run;
 use index::build;
@@ -21,6 +22,9 @@ use indexed::early_refusal;
 use indexed::input_indexed;
 use indexed::output_indexed;
 use join::Joined;
+pub use meter_calls::groovepawn_meter_input;
+pub use meter_calls::groovepawn_meter_new;
+pub use meter_calls::groovepawn_meter_output;
 use prepare::Prepared;
 use ticks::Conversion;
 use ticks::Milliseconds;
@@ -30,19 +34,8 @@ pub use viewer::groovepawn_wave_write;
 ghost use mathlib.Core.Path.{_≡_};
 ghost use Rattle.enforcer.specs.Promises.{answerSaid, OutputPromise};
 ghost use Rattle.groovepawn.specs.Indexed.{oddIndexed, IndexCall, InputIndexedCall, OutputIndexedCall};
-ghost use Rattle.groovepawn.specs.Words.{answerWord, oddRefusal};
+ghost use Rattle.groovepawn.specs.Words.{answerWord};
 ghost use Rattle.groovepawn.specs.Calls.{PrepareCall, InputCall, OutputCall, RunCall, JoinCall, TicksCall};
-
-// What is refused where the state is not five numbers.
-fn odd_refusal(reading: u8, file: &[u8], marks: &[u8], room: bool) -> u8
-    ensures { λ r. ⌜ r ≡ oddRefusal reading (now (file .entry)) (now (marks .entry)) room ⌝ }
-{
-    let r = marks_refusal(policy::check_under(reading, file), marks);
-    if r != 0 {
-        return r;
-    }
-    if room { 16 } else { 14 }
-}
 
 pub(crate) fn answer_word(answer: Answer) -> u32
     ensures { λ r. ⌜ r ≡ answerWord (answerSaid answer) ⌝ }

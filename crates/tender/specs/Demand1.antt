@@ -30,6 +30,7 @@ use Rattle.bays.specs.Bays.{bayCount, bayState}
 use Rattle.bays.specs.Entries.{BayAnswer, noBay, bayInputOf, bayOutputOf}
 use Rattle.bays.specs.There.{input-there, output-there, input-none, output-none}
 use Rattle.bays.specs.Halves.{refused-stays}
+use Rattle.meter.specs.Entries.{meterRefusal, meterInputOf, meterOutputOf}
 -- The check of a file.
 pub use Rattle.policy.specs.Layout.{CheckPromise, check-one}
 -- Prepare.
@@ -38,6 +39,8 @@ pub use Rattle.prepare.specs.Promise.{PreparePromise, prepare-one, prepare-live
 pub use Rattle.enforcer.specs.Promises.{InputPromise, input-one, OutputPromise, output-one, RunPromise, run-one}
 -- A new list of bays, and the two halves of a bay.
 pub use Rattle.bays.specs.Promises.{NewPromise, new-one, BayInputPromise, bay-input-one, BayOutputPromise, bay-output-one}
+-- A station with a meter: setting it up, and the two halves.
+pub use Rattle.meter.specs.Promises.{MeterNewPromise, meter-new-one, MeterInputPromise, meter-input-one, MeterOutputPromise, meter-output-one}
 -- The join.
 pub use Rattle.join.specs.Promise.{JoinPromise, join-one}
 -- Milliseconds to ticks.
@@ -68,6 +71,14 @@ pub use Rattle.groovepawn.specs.Bays.{
   new-one as c-new-one,
   bay-input-one as c-bay-input-one,
   bay-output-one as c-bay-output-one,
+}
+pub use Rattle.groovepawn.specs.Meter.{
+  MeterNewCall,
+  MeterInputCall,
+  MeterOutputCall,
+  meter-new-one as c-meter-new-one,
+  meter-input-one as c-meter-input-one,
+  meter-output-one as c-meter-output-one,
 }
 -- The program `enforce`: `console::respond` writes the text `printed input`, and returns how many bytes it is.
 pub use Rattle.console.specs.Printed.{printed}
@@ -128,6 +139,21 @@ module _ (reading : ℕ) (not-one : ¬ (reading ≡ 1)) (not-two : ¬ (reading �
 
         said : bayOutputOf reading file marks states bay x y .answer ≡ refused 22
         said = go (ltb bay (bayCount states)) refl
+
+  -- And those of the meter, whatever the station, the totals and the register are.
+  module _ (station : List ℕ) where
+    under-22 : refusalUnder reading file ≡ 22
+    unfolding refusalUnder readingRefusal
+    under-22 = rw (ne-eqb reading 1 not-one, ne-eqb reading 2 not-two)
+
+    pub meter-input-22 : (register x : ℕ) → meterInputOf reading file marks station register x ≡ refused 22
+    unfolding meterInputOf meterRefusal
+    meter-input-22 register x = rw under-22
+
+    pub meter-output-22 : (totals : List ℕ) (register x y : ℕ) →
+        meterOutputOf reading file marks station totals register x y ≡ record { answer = refused 22; station = station; totals = totals }
+    unfolding meterOutputOf meterRefusal
+    meter-output-22 totals register x y = rw under-22
 
 -- Past 22 and 1 to 10, what is left for prepare to answer of a file under a reading.
 abbrev left : ℕ → List ℕ → Answer Entry.Summary

@@ -17,3 +17,5 @@ pub mod Rests
 pub mod Annex
 pub mod InARow
 pub mod Bays
+pub mod Metered
+pub mod Story

@@ -6,6 +6,7 @@ pub enum Differs {
     Answer,
     Bytes,
     State,
+    Totals,
 }
 
 // What differs, and where the record ends.
@@ -21,6 +22,19 @@ fn first_of(answer: bool, bytes: bool, state: bool) -> Differs {
         Differs::Bytes
     } else if !state {
         Differs::State
+    } else {
+        Differs::Nothing
+    }
+}
+
+// Of a call of the meter, which writes no bytes.
+fn first_of_station(answer: bool, station: bool, totals: bool) -> Differs {
+    if !answer {
+        Differs::Answer
+    } else if !station {
+        Differs::State
+    } else if !totals {
+        Differs::Totals
     } else {
         Differs::Nothing
     }
@@ -299,6 +313,92 @@ pub(crate) fn bay_output(
     let next = after.next;
     Outcome {
         differs: first_of(got as u64 == answer.value, true, after.same),
+        next,
+    }
+}
+
+pub(crate) fn meter_new(
+    cases: &[u8],
+    at: Cursor,
+    station: &mut [u16],
+    totals: &mut [u32],
+) -> Outcome {
+    let register = at.pair(cases);
+    let next = register.next;
+    let got = groovepawn::groovepawn_meter_new(station, totals, register.value);
+    let answer = next.long(cases);
+    let next = answer.next;
+    let after = next.same_state(cases, station);
+    let next = after.next;
+    let sums = next.same_totals(cases, totals);
+    let next = sums.next;
+    Outcome {
+        differs: first_of_station(got as u64 == answer.value, after.same, sums.same),
+        next,
+    }
+}
+
+pub(crate) fn meter_input(
+    cases: &[u8],
+    at: Cursor,
+    reading: u8,
+    file: &[u8],
+    marks: &[u8],
+    station: &[u16],
+) -> Outcome {
+    let register = at.pair(cases);
+    let next = register.next;
+    let x = next.byte(cases);
+    let next = x.next;
+    let got = groovepawn::groovepawn_meter_input(
+        reading,
+        file,
+        marks,
+        station,
+        register.value,
+        x.value,
+    );
+    let answer = next.long(cases);
+    let next = answer.next;
+    Outcome {
+        differs: first_of(got as u64 == answer.value, true, true),
+        next,
+    }
+}
+
+pub(crate) fn meter_output(
+    cases: &[u8],
+    at: Cursor,
+    reading: u8,
+    file: &[u8],
+    marks: &[u8],
+    station: &mut [u16],
+    totals: &mut [u32],
+) -> Outcome {
+    let register = at.pair(cases);
+    let next = register.next;
+    let x = next.byte(cases);
+    let next = x.next;
+    let y = next.byte(cases);
+    let next = y.next;
+    let got = groovepawn::groovepawn_meter_output(
+        reading,
+        file,
+        marks,
+        station,
+        totals,
+        register.value,
+        x.value,
+        y.value,
+    );
+    let answer = next.long(cases);
+    let next = answer.next;
+    let after = next.same_state(cases, station);
+    let next = after.next;
+    let sums = next.same_totals(cases, totals);
+    let next = sums.next;
+    Outcome {
+        differs: first_of_station(got as u64 == answer.value, after.same, sums.same),
         next,
     }
 }

@@ -6,6 +6,7 @@ mod records;
 mod states;
 mod strings;
 mod tally;
+mod totals;
 
 use libc::STDOUT_FILENO;
 

@@ -112,6 +112,51 @@ fn bay_record(
     }
 }
 
+// The rest of a record of the meter's output half.
+fn meter_output_record(
+    cases: &[u8],
+    at: Cursor,
+    reading: u8,
+    file: &[u8],
+    marks: &[u8],
+    station: &mut [u16],
+) -> Outcome {
+    let mut totals = [0u32; 4];
+    let taken = at.totals(cases, &mut totals);
+    let count = taken.count;
+    let next = taken.next;
+    calls::meter_output(
+        cases,
+        next,
+        reading,
+        file,
+        marks,
+        station,
+        &mut totals[..count],
+    )
+}
+
+// The rest of a record that has a station.
+fn meter_record(
+    cases: &[u8],
+    kind: Kind,
+    at: Cursor,
+    reading: u8,
+    file: &[u8],
+    marks: &[u8],
+) -> Outcome {
+    let mut station = [0u16; 8];
+    let taken = at.state(cases, &mut station);
+    let numbers = taken.count;
+    let next = taken.next;
+    match kind {
+        Kind::MeterInput => {
+            calls::meter_input(cases, next, reading, file, marks, &station[..numbers])
+        }
+        _ => meter_output_record(cases, next, reading, file, marks, &mut station[..numbers]),
+    }
+}
+
 // A record that begins with a reading, a policy and marks.
 fn policy_record(cases: &[u8], kind: Kind, at: Cursor) -> Outcome {
     let mut file = [0u8; 8192];
@@ -141,6 +186,22 @@ fn policy_record(cases: &[u8], kind: Kind, at: Cursor) -> Outcome {
             &marks[..marks_length],
         ),
         Kind::BayOutput => bay_record(
+            cases,
+            kind,
+            next,
+            reading.value,
+            &file[..file_length],
+            &marks[..marks_length],
+        ),
+        Kind::MeterInput => meter_record(
+            cases,
+            kind,
+            next,
+            reading.value,
+            &file[..file_length],
+            &marks[..marks_length],
+        ),
+        Kind::MeterOutput => meter_record(
             cases,
             kind,
             next,
@@ -233,6 +294,18 @@ fn bays_new_record(cases: &[u8], at: Cursor) -> Outcome {
     calls::bays_new(cases, next, &mut states[..numbers])
 }
 
+fn meter_new_record(cases: &[u8], at: Cursor) -> Outcome {
+    let mut station = [0u16; 8];
+    let mut totals = [0u32; 4];
+    let taken = at.state(cases, &mut station);
+    let numbers = taken.count;
+    let next = taken.next;
+    let taken = next.totals(cases, &mut totals);
+    let count = taken.count;
+    let next = taken.next;
+    calls::meter_new(cases, next, &mut station[..numbers], &mut totals[..count])
+}
+
 // The body of a record.
 fn body(cases: &[u8], kind: Kind, at: Cursor) -> Outcome {
     match kind {
@@ -242,6 +315,7 @@ fn body(cases: &[u8], kind: Kind, at: Cursor) -> Outcome {
         Kind::WaveRead => wave_record(cases, kind, at),
         Kind::Index => index_record(cases, at),
         Kind::BaysNew => bays_new_record(cases, at),
+        Kind::MeterNew => meter_new_record(cases, at),
         Kind::Unknown => Outcome {
             differs: Differs::Nothing,
             next: at.lose(),

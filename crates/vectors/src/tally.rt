@@ -18,6 +18,9 @@ pub enum Kind {
     BaysNew,
     BayInput,
     BayOutput,
+    MeterNew,
+    MeterInput,
+    MeterOutput,
     Unknown,
 }
 
@@ -38,6 +41,9 @@ impl Kind {
             12 => Kind::BaysNew,
             13 => Kind::BayInput,
             14 => Kind::BayOutput,
+            15 => Kind::MeterNew,
+            16 => Kind::MeterInput,
+            17 => Kind::MeterOutput,
             _ => Kind::Unknown,
         }
     }
@@ -58,6 +64,9 @@ impl Kind {
             Kind::BaysNew => print(b"bays_new"),
             Kind::BayInput => print(b"bay_input"),
             Kind::BayOutput => print(b"bay_output"),
+            Kind::MeterNew => print(b"meter_new"),
+            Kind::MeterInput => print(b"meter_input"),
+            Kind::MeterOutput => print(b"meter_output"),
             Kind::Unknown => print(b"unknown"),
         }
     }
@@ -79,6 +88,9 @@ struct Counts {
     bays_new: u64,
     bay_input: u64,
     bay_output: u64,
+    meter_new: u64,
+    meter_input: u64,
+    meter_output: u64,
 }
 
 impl Counts {
@@ -98,6 +110,9 @@ impl Counts {
             Kind::BaysNew => self.bays_new = one_more(self.bays_new),
             Kind::BayInput => self.bay_input = one_more(self.bay_input),
             Kind::BayOutput => self.bay_output = one_more(self.bay_output),
+            Kind::MeterNew => self.meter_new = one_more(self.meter_new),
+            Kind::MeterInput => self.meter_input = one_more(self.meter_input),
+            Kind::MeterOutput => self.meter_output = one_more(self.meter_output),
             Kind::Unknown => {}
         }
         self
@@ -118,6 +133,9 @@ impl Counts {
         print_count(b"bays_new ", self.bays_new);
         print_count(b"bay_input ", self.bay_input);
         print_count(b"bay_output ", self.bay_output);
+        print_count(b"meter_new ", self.meter_new);
+        print_count(b"meter_input ", self.meter_input);
+        print_count(b"meter_output ", self.meter_output);
     }
 }
 
@@ -171,6 +189,9 @@ impl Tally {
                 bays_new: 0,
                 bay_input: 0,
                 bay_output: 0,
+                meter_new: 0,
+                meter_input: 0,
+                meter_output: 0,
             },
             different: 0,
             first: First::None,
@@ -236,5 +257,6 @@ fn print_differs(differs: Differs) {
         Differs::Answer => print(b" answer\n"),
         Differs::Bytes => print(b" bytes\n"),
         Differs::State => print(b" state\n"),
+        Differs::Totals => print(b" totals\n"),
     }
 }

@@ -1,6 +1,7 @@
 //! A wrong file given to every function that takes one: refused by the number
 //! of what is wrong in it, and nothing is written.
 
+use super::meter::METERED;
 use super::*;
 use crate::samples::*;
 
@@ -39,7 +40,7 @@ const WRONG_FILES: [(u64, &str); 9] = [
 ];
 
 /// One call of each function that takes a file, which would not be refused
-/// about T.
+/// about T, or about a policy that has the signals of a meter.
 fn calls() -> Vec<Call> {
     let (reading, file, marks, state) = (FIRST_READING, from_hex(T), vec![1, 0], START.to_vec());
     let mut index = vec![0, 2, 2];
@@ -116,13 +117,32 @@ fn calls() -> Vec<Call> {
             x: 0,
             y: 1,
         },
+        Call::MeterInput {
+            reading,
+            file: from_hex(METERED),
+            marks: vec![1],
+            station: vec![0; 6],
+            register: 9,
+            x: 1,
+        },
+        Call::MeterOutput {
+            reading,
+            file: from_hex(METERED),
+            marks: vec![1],
+            station: vec![0; 6],
+            totals: vec![3, 4],
+            register: 9,
+            x: 2,
+            y: 2,
+        },
     ]
 }
 
 fn refused(number: u64, call: Call) -> Written {
     let name = format!("{number}: a wrong file");
     let (bytes, state) = (call.lent_bytes().to_vec(), call.lent_state().to_vec());
-    written(&name, call, number, bytes, state)
+    let totals = call.lent_totals().to_vec();
+    written(&name, call, number, bytes, state).with_totals(&totals)
 }
 
 #[cfg(test)]

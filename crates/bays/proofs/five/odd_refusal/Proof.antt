@@ -1,13 +1,13 @@
--- `groovepawn::odd_refusal` meets its contract: 22 and 1 to 10 come first, then 14 where there is no room, then 16.
+-- `bays::five::odd_refusal` meets its contract: 22 and 1 to 10 come first, then 14 where there is no room, then 16.
 use mathlib.Core.Path.{_≡_, sym, _∙_}
 use denote.Ref.{now}
 use Rattle.streams.specs.Answer.{first-refused}
 use Rattle.enforcer.specs.Entries.{marksRefusal}
 use Rattle.enforcer.specs.States.{marks-by}
-use Rattle.groovepawn.specs.Words.{oddRefusal}
+use Rattle.bays.specs.Odd.{oddRefusal}
 use borrow.Author.Needs.{needs}
-use Rattle.groovepawn.proofs.odd_refusal.Statement.{statement}
-use Rattle.groovepawn.proofs.odd_refusal.Tie as tie
+use Rattle.bays.proofs.five.odd_refusal.Statement.{statement}
+use Rattle.bays.proofs.five.odd_refusal.Tie as tie
 
 check-under-requires : tie.Need-check-under-requires
 check-under-requires c κs = search needs

@@ -1,0 +1,18 @@
+-- `groovepawn::meter_calls::groovepawn_meter_input` meets its contract: the word is that of the meter's answer.
+use mathlib.Core.Path.{ap, _∙_}
+use Rattle.groovepawn.specs.Words.{answerWord}
+use borrow.Author.Needs.{needs}
+use Rattle.groovepawn.proofs.meter_calls.groovepawn_meter_input.Statement.{statement}
+use Rattle.groovepawn.proofs.meter_calls.groovepawn_meter_input.Tie as tie
+
+meter-input-requires : tie.Need-meter-input-requires
+meter-input-requires c κs = search needs
+
+answer-word-requires : tie.Need-answer-word-requires
+answer-word-requires c κs = search needs
+
+returns : tie.Need-returns
+returns c = record { said = c .answer-word .ensures ∙ ap answerWord (c .before .meter-input .ensures .said) }
+
+pub groovepawn-meter-input-spec : {M : Type 1} → statement M
+groovepawn-meter-input-spec = tie.close (tie.spec meter-input-requires answer-word-requires returns)

@@ -1,0 +1,120 @@
+-- `meter::meter::meter_input` meets its contract: P is set or cleared, and then it is the input half.
+use mathlib.Core.Path.{_≡_, sym, ap, ap₂, _∙_}
+use mathlib.Core.Logic.{_⊎_}
+use Prim.Native.Nat.{ℕ, _+_}
+use lib.ListN.{length}
+use denote.Ref.{now}
+use borrow.Author.Tests.{eq-eqb, ne-eqb}
+use Rattle.streams.specs.Answer.{refused}
+use Rattle.policy.specs.Rules.{Place}
+use Rattle.policy.specs.File.{byteAt}
+use Rattle.enforcer.specs.Entries.{inputOf}
+use Rattle.meter.specs.Meter.{withPulse}
+use Rattle.meter.specs.Entries.{tagP, tagD}
+use Rattle.meter.specs.Signals.{weightAt}
+use Rattle.meter.specs.There.{input-lacks, input-odd, input-there}
+use Rattle.meter.specs.declared.signals.Signals.{Signals}
+use borrow.Author.Needs.{needs}
+use Rattle.meter.proofs.meter.meter_input.Statement.{statement}
+use Rattle.meter.proofs.meter.meter_input.Tie as tie
+
+signals-of-requires : tie.Need-signals-of-requires
+signals-of-requires c κs = search needs
+
+no-signals-requires : tie.Need-no-signals-requires
+no-signals-requires c κs = search needs
+
+returns : tie.Need-returns
+returns c =
+    let a = c .before .before .before .before .before .before .before .args in
+    let z = sym (ap (λ (s : Signals). s .pulse) (c .before .before .before .signals-of .ensures)) ∙ c .before .if1 .taken in
+    record {
+      said =
+          ap refused (c .no-signals .ensures)
+          ∙ sym (input-lacks (a .reading) (now (a .file)) (now (a .marks)) (now (a .station)) (a .register) (a .x) (_⊎_.inl z));
+    }
+
+no-signals-requires-2 : tie.Need-no-signals-requires-2
+no-signals-requires-2 c κs = search needs
+
+returns-2 : tie.Need-returns-2
+returns-2 c =
+    let a = c .before .before .before .before .before .before .before .before .before .args in
+    let z = sym (ap (λ (s : Signals). s .dispense) (c .before .before .before .before .before .signals-of .ensures)) ∙ c .before .if2 .taken in
+    record {
+      said =
+          ap refused (c .no-signals2 .ensures)
+          ∙ sym (input-lacks (a .reading) (now (a .file)) (now (a .marks)) (now (a .station)) (a .register) (a .x) (_⊎_.inr z));
+    }
+
+-- Both signals are there.
+some : (c : tie.Else2) →
+    let f = now (c .before .before .before .before .before .before .before .before .args .file) in (weightAt f 0 tagP ≡ 0 → ⊥) × (weightAt f (1 + byteAt f 0) tagD ≡ 0 → ⊥)
+some c =
+    let s = c .before .before .before .before .signals-of .ensures in (
+      λ z. c .before .before .if1 .left (ap (λ (r : Signals). r .pulse) s ∙ z),
+      λ z. c .if2 .left (ap (λ (r : Signals). r .dispense) s ∙ z),
+    )
+
+odd-refusal-requires : tie.Need-odd-refusal-requires
+odd-refusal-requires c κs = search needs
+
+returns-3 : tie.Need-returns-3
+returns-3 c =
+    let a = c .before .before .before .before .before .before .before .before .before .before .args in
+    let k = some (c .before .before) in
+    record {
+      said =
+          ap refused (c .odd-refusal .ensures)
+          ∙ sym (input-odd (a .reading) (now (a .file)) (now (a .marks)) (now (a .station)) (k .0) (k .1) (a .register) (a .x)
+          (ne-eqb (length (now (a .station))) 6 (c .before .if3 .taken)));
+    }
+
+shared-slice-read-pulses : tie.Need-shared-slice-read-pulses
+shared-slice-read-pulses c = search needs
+
+pulses-requires : tie.Need-pulses-requires
+pulses-requires c κs = search needs
+
+with-pulse-requires : tie.Need-with-pulse-requires
+with-pulse-requires c κs = search needs
+
+station-state-requires : tie.Need-station-state-requires
+station-state-requires c κs = search needs
+
+input-half-requires : tie.Need-input-half-requires
+input-half-requires c κs = search needs
+
+returns-4 : tie.Need-returns-4
+returns-4 c =
+    let a = c .before .before .before .before .before .before .before .before .before .before .before .before .before .before .args in
+    let k = some (c .before .before .before .before .before .before) in
+    let x =
+    c .before .before .with-pulse .ensures
+    ∙ ap₂ (λ (w n : ℕ). withPulse w n (a .x)) (ap (λ (r : Signals). r .pulse) (c .before .before .before .before .before .before .before .before .before .before .signals-of .ensures)) (c .before .before .before .pulses .ensures)
+    in
+    record {
+      said =
+          c .input-half .ensures .said
+          ∙ ap₂ (λ (s : Place) (z : ℕ). inputOf (a .reading) (now (a .file)) (now (a .marks)) s z) (c .before .station-state .ensures) x
+          ∙ sym (input-there (a .reading) (now (a .file)) (now (a .marks)) (now (a .station)) (k .0) (k .1) (a .register) (a .x)
+          (eq-eqb (length (now (a .station))) 6 (c .before .before .before .before .before .if3 .left)));
+    }
+
+pub meter-input-spec : {M : Type 1} → statement M
+meter-input-spec =
+    tie.close
+    (tie.spec
+    signals-of-requires
+    no-signals-requires
+    returns
+    no-signals-requires-2
+    returns-2
+    odd-refusal-requires
+    returns-3
+    shared-slice-read-pulses
+    pulses-requires
+    with-pulse-requires
+    station-state-requires
+    input-half-requires
+    returns-4)

@@ -1,0 +1,64 @@
+-- `meter::meter::meter_new` meets its contract.
+use mathlib.Core.Path.{ap, _∙_}
+use lib.ListN.{length}
+use denote.Ref.{now}
+use borrow.Author.Tests.{eq-eqb, ne-eqb}
+use Rattle.enforcer.specs.Code.{asPlace}
+use Rattle.enforcer.specs.declared.state.State.{State}
+use Rattle.meter.specs.Meter.{stationWords}
+use Rattle.meter.specs.Entries.{newRefusal, newStation, newTotals}
+use borrow.Author.Needs.{needs}
+use Rattle.meter.proofs.meter.meter_new.Statement.{statement}
+use Rattle.meter.proofs.meter.meter_new.Tie as tie
+
+returns : tie.Need-returns
+unfolding newRefusal newStation newTotals
+returns c = let e = ne-eqb (length (now (c .before .before .before .args .station))) 6 (c .if1 .taken) in record { said = rw e; placed = rw e; cleared = rw e }
+
+returns-2 : tie.Need-returns-2
+unfolding newRefusal newStation newTotals
+returns-2 c =
+    let a = c .before .before .before .before .args in
+    let e = eq-eqb (length (now (a .station))) 6 (c .before .if1 .left) in
+    let g = ne-eqb (length (now (a .totals))) 2 (c .if2 .taken) in
+    record { said = rw (e, g); placed = rw (e, g); cleared = rw (e, g) }
+
+start-requires : tie.Need-start-requires
+start-requires c κs = search needs
+
+put-station-requires : tie.Need-put-station-requires
+put-station-requires c κs = search needs
+
+clear-totals-requires : tie.Need-clear-totals-requires
+clear-totals-requires c κs = search needs
+
+same-length : tie.Need-same-length
+same-length c = search needs
+
+same-length-2 : tie.Need-same-length-2
+same-length-2 c = search needs
+
+returns-3 : tie.Need-returns-3
+unfolding newRefusal newStation newTotals
+returns-3 c =
+    let a = c .before .before .before .before .before .before .before .before .before .before .before .before .before .args in
+    let e = eq-eqb (length (now (a .station))) 6 (c .before .before .before .before .before .before .before .before .before .before .if1 .left) in
+    let g = eq-eqb (length (now (a .totals))) 2 (c .before .before .before .before .before .before .before .before .before .if2 .left) in
+    record {
+      said = rw (e, g);
+      placed = rw (e, g) (c .before .before .before .before .before .before .put-station .ensures ∙ ap (λ (s : State). stationWords (asPlace s) (a .register)) (c .before .before .before .before .before .before .before .start .ensures));
+      cleared = rw (e, g) (c .before .before .clear-totals .ensures);
+    }
+
+pub meter-new-spec : {M : Type 1} → statement M
+meter-new-spec =
+    tie.close
+    (tie.spec
+    returns
+    returns-2
+    start-requires
+    put-station-requires
+    clear-totals-requires
+    same-length
+    same-length-2
+    returns-3)

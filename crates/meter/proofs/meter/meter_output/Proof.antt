@@ -1,0 +1,124 @@
+-- `meter::meter::meter_output` meets its contract.
+use mathlib.Core.Path.{_≡_, sym, ap, _∙_}
+use mathlib.Core.Logic.{_⊎_}
+use Prim.Native.Nat.{_+_}
+use lib.ListN.{length}
+use denote.Ref.{now}
+use borrow.Author.Tests.{eq-eqb, ne-eqb}
+use Rattle.policy.specs.File.{byteAt}
+use Rattle.enforcer.specs.Entries.{outputOf}
+use Rattle.meter.specs.Meter.{stationState}
+use Rattle.meter.specs.Entries.{kept, metered, tagP, tagD}
+use Rattle.meter.specs.Signals.{weightAt}
+use Rattle.meter.specs.There.{output-lacks, output-no-totals, output-no-station, output-there}
+use Rattle.meter.specs.declared.signals.Signals.{Signals}
+use borrow.Author.Needs.{needs}
+use Rattle.meter.proofs.meter.meter_output.Statement.{statement}
+use Rattle.meter.proofs.meter.meter_output.Tie as tie
+
+signals-of-requires : tie.Need-signals-of-requires
+signals-of-requires c κs = search needs
+
+no-signals-requires : tie.Need-no-signals-requires
+no-signals-requires c κs = search needs
+
+returns : tie.Need-returns
+returns c =
+    let a = c .before .before .before .before .before .before .before .before .args in
+    let z = sym (ap (λ (s : Signals). s .pulse) (c .before .before .before .signals-of .ensures)) ∙ c .before .if1 .taken in
+    record {
+      said =
+          ap (kept (now (a .station)) (now (a .totals))) (c .no-signals .ensures)
+          ∙ sym (output-lacks (a .reading) (now (a .file)) (now (a .marks)) (now (a .station)) (now (a .totals)) (a .register) (a .x) (a .y) (_⊎_.inl z));
+    }
+
+no-signals-requires-2 : tie.Need-no-signals-requires-2
+no-signals-requires-2 c κs = search needs
+
+returns-2 : tie.Need-returns-2
+returns-2 c =
+    let a = c .before .before .before .before .before .before .before .before .before .before .args in
+    let z = sym (ap (λ (s : Signals). s .dispense) (c .before .before .before .before .before .signals-of .ensures)) ∙ c .before .if2 .taken in
+    record {
+      said =
+          ap (kept (now (a .station)) (now (a .totals))) (c .no-signals2 .ensures)
+          ∙ sym (output-lacks (a .reading) (now (a .file)) (now (a .marks)) (now (a .station)) (now (a .totals)) (a .register) (a .x) (a .y) (_⊎_.inr z));
+    }
+
+-- Both signals are there.
+some : (c : tie.Else2) →
+    let f = now (c .before .before .before .before .before .before .before .before .before .args .file) in (weightAt f 0 tagP ≡ 0 → ⊥) × (weightAt f (1 + byteAt f 0) tagD ≡ 0 → ⊥)
+some c =
+    let s = c .before .before .before .before .signals-of .ensures in (
+      λ z. c .before .before .if1 .left (ap (λ (r : Signals). r .pulse) s ∙ z),
+      λ z. c .if2 .left (ap (λ (r : Signals). r .dispense) s ∙ z),
+    )
+
+odd-refusal-requires : tie.Need-odd-refusal-requires
+odd-refusal-requires c κs = search needs
+
+returns-3 : tie.Need-returns-3
+returns-3 c =
+    let a = c .before .before .before .before .before .before .before .before .before .before .before .args in
+    let k = some (c .before .before) in
+    record {
+      said =
+          ap (kept (now (a .station)) (now (a .totals))) (c .odd-refusal .ensures)
+          ∙ sym (output-no-totals (a .reading) (now (a .file)) (now (a .marks)) (now (a .station)) (k .0) (k .1) (now (a .totals)) (a .register) (a .x) (a .y)
+          (ne-eqb (length (now (a .totals))) 2 (c .before .if3 .taken)));
+    }
+
+odd-refusal-requires-2 : tie.Need-odd-refusal-requires-2
+odd-refusal-requires-2 c κs = search needs
+
+returns-4 : tie.Need-returns-4
+returns-4 c =
+    let a = c .before .before .before .before .before .before .before .before .before .before .before .before .args in
+    let k = some (c .before .before .before) in
+    record {
+      said =
+          ap (kept (now (a .station)) (now (a .totals))) (c .odd-refusal2 .ensures)
+          ∙ sym (output-no-station (a .reading) (now (a .file)) (now (a .marks)) (now (a .station)) (k .0) (k .1) (now (a .totals)) (a .register) (a .x) (a .y)
+          (eq-eqb (length (now (a .totals))) 2 (c .before .before .if3 .left)) (ne-eqb (length (now (a .station))) 6 (c .before .if4 .taken)));
+    }
+
+release-requires : tie.Need-release-requires
+release-requires c κs = search needs
+
+same-length : tie.Need-same-length
+same-length c = search needs
+
+same-length-2 : tie.Need-same-length-2
+same-length-2 c = search needs
+
+returns-5 : tie.Need-returns-5
+returns-5 c =
+    let a = c .before .before .before .before .before .before .before .before .before .before .before .before .before .before .before .before .before .before .args in
+    let e = c .before .before .before .before .before .before .before .before .before in
+    let k = some e in
+    let o = outputOf (a .reading) (now (a .file)) (now (a .marks)) (stationState (now (a .station))) (a .x) (a .y) in
+    record {
+      said =
+          c .before .before .before .before .release .ensures .said
+          ∙ ap (λ (s : Signals). metered (now (a .station)) (now (a .totals)) (a .register) (s .dispense) (o .state) (o .answer)) (e .before .before .before .before .signals-of .ensures)
+          ∙ sym (output-there (a .reading) (now (a .file)) (now (a .marks)) (now (a .station)) (k .0) (k .1) (now (a .totals)) (a .register) (a .x) (a .y)
+          (rw (eq-eqb (length (now (a .station))) 6 (c .before .before .before .before .before .before .before .if4 .left), eq-eqb (length (now (a .totals))) 2 (c .before .before .before .before .before .before .before .before .if3 .left))));
+    }
+
+pub meter-output-spec : {M : Type 1} → statement M
+meter-output-spec =
+    tie.close
+    (tie.spec
+    signals-of-requires
+    no-signals-requires
+    returns
+    no-signals-requires-2
+    returns-2
+    odd-refusal-requires
+    returns-3
+    odd-refusal-requires-2
+    returns-4
+    release-requires
+    same-length
+    same-length-2
+    returns-5)

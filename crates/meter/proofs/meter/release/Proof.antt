@@ -1,0 +1,78 @@
+-- `meter::meter::release` meets its contract: what follows from what the output half answers.
+use mathlib.Core.Path.{_≡_, sym, ap, _∙_}
+use denote.Ref.{now}
+use Rattle.policy.specs.Rules.{Place}
+use Rattle.enforcer.specs.Entries.{OutputAnswer, outputOf}
+use Rattle.enforcer.specs.Code.{asPlace}
+use Rattle.enforcer.specs.Promises.{answerSaid, outputSaid}
+use Rattle.enforcer.specs.declared.halves.Answer.{Answer}
+use Rattle.meter.specs.Meter.{stationState}
+use Rattle.meter.specs.Entries.{metered}
+use borrow.Author.Needs.{needs}
+use Rattle.meter.proofs.meter.release.Statement.{statement}
+use Rattle.meter.proofs.meter.release.Tie as tie
+
+station-state-requires : tie.Need-station-state-requires
+station-state-requires c κs = search needs
+
+output-requires : tie.Need-output-requires
+output-requires c κs = search needs
+
+-- The output half of the station's state.
+given : (c : tie.After-output) →
+    let a = c .before .before .before .before .before .before .before .args in
+    outputSaid (c .output .result) ≡ outputOf (a .reading) (now (a .file)) (now (a .marks)) (stationState (now (a .station))) (a .x) (a .y)
+given c =
+    let a = c .before .before .before .before .before .before .before .args in
+    c .output .ensures .said
+    ∙ ap (λ (s : Place). outputOf (a .reading) (now (a .file)) (now (a .marks)) s (a .x) (a .y)) (c .before .station-state .ensures)
+
+-- What follows from the answer that the code has, follows from it.
+follows : (c : tie.After-output) {z : Answer} → c .output .result .answer ≡ z →
+    let a = c .before .before .before .before .before .before .before .args in
+    let o = outputOf (a .reading) (now (a .file)) (now (a .marks)) (stationState (now (a .station))) (a .x) (a .y) in
+    metered (now (a .station)) (now (a .totals)) (a .register) (a .weight) (asPlace (c .output .result .state)) (answerSaid z)
+    ≡ metered (now (a .station)) (now (a .totals)) (a .register) (a .weight) (o .state) (o .answer)
+follows c e =
+    let a = c .before .before .before .before .before .before .before .args in
+    ap (λ (z : Answer). metered (now (a .station)) (now (a .totals)) (a .register) (a .weight) (asPlace (c .output .result .state)) (answerSaid z)) (sym e)
+    ∙ ap (λ (o : OutputAnswer). metered (now (a .station)) (now (a .totals)) (a .register) (a .weight) (o .state) (o .answer)) (given c)
+
+enum-known-answer : tie.Need-enum-known-answer
+enum-known-answer c = search needs
+
+settle-requires : tie.Need-settle-requires
+settle-requires c κs = search needs
+
+enum-known-answer-2 : tie.Need-enum-known-answer-2
+enum-known-answer-2 c = search needs
+
+same-length : tie.Need-same-length
+same-length c = search needs
+
+same-length-2 : tie.Need-same-length-2
+same-length-2 c = search needs
+
+returns : tie.Need-returns
+returns c = record { said = c .before .before .before .before .settle .ensures .said ∙ follows (c .before .before .before .before .before .before .before .before .before .before .before) (c .before .before .before .before .before .before .before .before .answer .given .1) }
+
+same-length-3 : tie.Need-same-length-3
+same-length-3 c = search needs
+
+returns-2 : tie.Need-returns-2
+returns-2 c = record { said = follows (c .before .before .before .before) (c .before .answer2 .given .1) }
+
+pub release-spec : {M : Type 1} → statement M
+release-spec =
+    tie.close
+    (tie.spec
+    station-state-requires
+    output-requires
+    enum-known-answer
+    settle-requires
+    enum-known-answer-2
+    same-length
+    same-length-2
+    returns
+    same-length-3
+    returns-2)

@@ -1,0 +1,72 @@
+-- `meter::meter::settle` meets its contract: 27 before any change, or the state, the register and the total.
+use mathlib.Core.Path.{_≡_, sym, ap, _∙_}
+use Prim.Native.Nat.{ℕ}
+use denote.Ref.{now}
+use borrow.Author.Tests.{not-true, not-false}
+use Rattle.streams.specs.Answer.{gives}
+use Rattle.meter.specs.Meter.{lastReading, pulsesOf, risen, fits}
+use Rattle.meter.specs.Entries.{settled}
+use borrow.Author.Needs.{needs}
+use Rattle.meter.proofs.meter.settle.Statement.{statement}
+use Rattle.meter.proofs.meter.settle.Tie as tie
+
+slice-read-pulses : tie.Need-slice-read-pulses
+slice-read-pulses c = search needs
+
+pulses-requires : tie.Need-pulses-requires
+pulses-requires c κs = search needs
+
+has-room-requires : tie.Need-has-room-requires
+has-room-requires c κs = search needs
+
+same-length : tie.Need-same-length
+same-length c = search needs
+
+-- What was asked of the total.
+room : (c : tie.After-has-room) →
+    let a = c .before .before .before .before .before .before .args in fits (now (a .totals)) (a .billed) (pulsesOf (a .register) (lastReading (now (a .station)))) ≡ c .has-room .result
+room c =
+    let a = c .before .before .before .before .before .before .args in
+    ap (λ (n : ℕ). fits (now (a .totals)) (a .billed) n) (sym (c .before .before .pulses .ensures)) ∙ sym (c .has-room .ensures)
+
+returns : tie.Need-returns
+unfolding settled
+returns c = record { said = rw (room (c .before) ∙ not-true _ (c .if1 .taken)) }
+
+put-station-requires : tie.Need-put-station-requires
+put-station-requires c κs = search needs
+
+add-pulses-requires : tie.Need-add-pulses-requires
+add-pulses-requires c κs = (c .before .before .before .before .before .before .before .before .before .before .before .before .pre .1, sym (c .before .before .before .before .before .before .has-room .ensures) ∙ not-false _ (c .before .before .before .before .before .if1 .left))
+
+same-length-2 : tie.Need-same-length-2
+same-length-2 c = search needs
+
+same-length-3 : tie.Need-same-length-3
+same-length-3 c = search needs
+
+returns-2 : tie.Need-returns-2
+unfolding settled
+returns-2 c =
+    let a = c .before .before .before .before .before .before .before .before .before .before .before .before .before .before .before .args in
+    let n = c .before .before .add-pulses .ensures ∙ ap (risen (now (a .totals)) (a .billed)) (c .before .before .before .before .before .before .before .before .before .before .before .pulses .ensures) in
+    record {
+      said =
+          rw (room (c .before .before .before .before .before .before .before .before .before) ∙ not-false _ (c .before .before .before .before .before .before .before .before .if1 .left))
+          (λ i. record { answer = gives (a .y); station = c .before .before .before .before .before .before .put-station .ensures i; totals = n i });
+    }
+
+pub settle-spec : {M : Type 1} → statement M
+settle-spec =
+    tie.close
+    (tie.spec
+    slice-read-pulses
+    pulses-requires
+    has-room-requires
+    same-length
+    returns
+    put-station-requires
+    add-pulses-requires
+    same-length-2
+    same-length-3
+    returns-2)

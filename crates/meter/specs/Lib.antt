@@ -1,0 +1,9 @@
+pub mod Meter
+pub mod Entries
+pub mod Promises
+pub mod Signals
+pub mod There
+pub mod Sums
+pub mod Refusals
+pub mod Accepted
+pub mod Pulse

@@ -1,0 +1,57 @@
+-- "Each tick brings the meter's 16-bit register." A station with a meter is six numbers, its state and the last accepted reading; its totals are two,
+-- the billed one and the unbilled one.
+use mathlib.Core.Bool.{Bool, cond, not}
+use mathlib.Core.List.{List, [], _∷_, _++_}
+use Prim.Native.Nat.{ℕ, _+_, _-_, _*_, _%_}
+use lib.Dec.{leb, eqb}
+use lib.Bits.{bitAnd, bitOr}
+use lib.ListN.{length, getD, take}
+use Rattle.policy.specs.Rules.{Place}
+use Rattle.bays.specs.Five.{stateWords, stateIn}
+
+abbrev pub isStation : List ℕ → Bool
+isStation station = eqb (length station) 6
+
+abbrev pub areTotals : List ℕ → Bool
+areTotals totals = eqb (length totals) 2
+
+abbrev pub stationState : List ℕ → Place
+stationState station = stateIn (take 5 station)
+
+abbrev pub lastReading : List ℕ → ℕ
+lastReading station = getD station 5 0
+
+abbrev pub stationWords : Place → ℕ → List ℕ
+stationWords s register = stateWords s ++ (register ∷ [])
+
+abbrev pub billed : List ℕ → ℕ
+billed totals = getD totals 0 0
+
+abbrev pub unbilled : List ℕ → ℕ
+unbilled totals = getD totals 1 0
+
+-- "The pulses of a tick are this reading less the last, modulo 65,536".
+unfoldable pub pulsesOf : ℕ → ℕ → ℕ
+pulsesOf register last = (register + (65536 - last)) % 65536
+
+-- What the signal with this tag adds to a value: "Bit 0 is the first signal". 0 where no signal has the tag.
+unfoldable pub weightOf : ℕ → List ℕ → ℕ
+weightOf tag [] = 0
+weightOf tag (t ∷ ts) = cond (eqb t tag) 1 (2 * weightOf tag ts)
+
+-- "Input tag P is set, before the input half, exactly when pulses is not 0": so it is cleared where there are none, whatever x had there. The other bits
+-- of x stay.
+unfoldable pub withPulse : (weight pulses x : ℕ) → ℕ
+withPulse weight pulses x = cond (eqb pulses 0) (bitAnd x (255 - weight)) (bitOr x weight)
+
+-- The signal of this weight is on in a value.
+abbrev pub isOn : ℕ → ℕ → Bool
+isOn weight value = not (eqb (bitAnd value weight) 0)
+
+-- "The billed total rises by the pulses whenever the released output with tag D is on; the others go into an unbilled total."
+unfoldable pub risen : List ℕ → Bool → ℕ → List ℕ
+risen totals on n = cond on ((billed totals + n) ∷ unbilled totals ∷ []) (billed totals ∷ (unbilled totals + n) ∷ [])
+
+-- No "total would pass 4,294,967,295".
+unfoldable pub fits : List ℕ → Bool → ℕ → Bool
+fits totals on n = leb (cond on (billed totals) (unbilled totals) + n) 4294967295

@@ -1,0 +1,82 @@
+// A station with a meter as six numbers: a state, and the register as last accepted. The totals are two: billed and unbilled.
+use bays::five::NUMBERS;
+use bays::five::put_state;
+use bays::five::state_of;
+use enforcer::State;
+ghost use mathlib.Core.Path.{_≡_};
+ghost use mathlib.Core.Bool.{true};
+ghost use mathlib.Core.List.{[], _∷_};
+ghost use Prim.Native.Nat.{_+_};
+ghost use lib.Dec.{leb};
+ghost use lib.ListN.{length};
+ghost use Rattle.enforcer.specs.Code.{asPlace};
+ghost use Rattle.meter.specs.Meter.{stationState, stationWords, pulsesOf, fits, risen};
+
+// Where the last register stands: after the state.
+pub(crate) const LAST: usize = NUMBERS;
+
+pub(crate) const STATION: usize = NUMBERS + 1;
+
+pub(crate) const TOTALS: usize = 2;
+
+// The largest that a total can be.
+const MOST: u32 = 4294967295;
+
+pub(crate) fn station_state(station: &[u16]) -> State
+    requires { ⌜ length (now station) ≡ 6 ⌝ }
+    ensures { λ r. ⌜ asPlace r ≡ stationState (now (station .entry)) ⌝ }
+{
+    state_of(&station[..NUMBERS])
+}
+
+pub(crate) fn put_station(station: &mut [u16], next: State, register: u16)
+    requires { ⌜ length (now station) ≡ 6 ⌝ }
+    ensures { λ _. ⌜ now (station .exit) ≡ stationWords (asPlace next) register ⌝ }
+{
+    station[LAST] = register;
+    put_state(&mut station[..NUMBERS], next);
+}
+
+pub(crate) fn clear_totals(totals: &mut [u32])
+    requires { ⌜ length (now totals) ≡ 2 ⌝ }
+    ensures { λ _. ⌜ now (totals .exit) ≡ 0 ∷ 0 ∷ [] ⌝ }
+{
+    totals[0] = 0;
+    totals[1] = 0;
+}
+
+// The pulses of a tick: this reading less the last, modulo 65,536.
+pub(crate) fn pulses(register: u16, last: u16) -> u16
+    ensures { λ r. ⌜ r ≡ pulsesOf register last ⌝ }
+{
+    std::num::wrapping_sub_u16(register, last)
+}
+
+// A total stays within its limit with the pulses.
+fn fits_in(total: u32, pulses: u16) -> bool
+    ensures { λ r. ⌜ r ≡ leb (total + pulses) 4294967295 ⌝ }
+{
+    pulses as u32 <= MOST - total
+}
+
+// The total that the pulses would go into stays within its limit.
+pub(crate) fn has_room(totals: &[u32], billed: bool, pulses: u16) -> bool
+    requires { ⌜ length (now totals) ≡ 2 ⌝ }
+    ensures { λ r. ⌜ r ≡ fits (now (totals .entry)) billed pulses ⌝ }
+{
+    if billed {
+        return fits_in(totals[0], pulses);
+    }
+    fits_in(totals[1], pulses)
+}
+
+pub(crate) fn add_pulses(totals: &mut [u32], billed: bool, pulses: u16)
+    requires { ⌜ (length (now totals) ≡ 2) × (fits (now totals) billed pulses ≡ true) ⌝ }
+    ensures { λ _. ⌜ now (totals .exit) ≡ risen (now (totals .entry)) billed pulses ⌝ }
+{
+    if billed {
+        totals[0] = totals[0] + pulses as u32;
+    } else {
+        totals[1] = totals[1] + pulses as u32;
+    }
+}

@@ -1,0 +1,53 @@
+// The totals of a meter: how many, then the numbers of 32 bits.
+use crate::numbers::Compared;
+use crate::numbers::Cursor;
+use crate::numbers::Taken;
+ghost use Rattle.vectors.specs.Counts.{Counts};
+
+impl Cursor {
+    // The next totals, at the start of `into`.
+    pub(crate) fn totals(self, cases: &[u8], into: &mut [u32]) -> Taken
+        ensures { λ r. ⌜ Counts (r .count) (now (into .exit)) ⌝ }
+    {
+        let head = self.byte(cases);
+        let count = head.value as usize;
+        let mut next = head.next;
+        if into.len() < count {
+            return Taken {
+                count: 0,
+                next: next.lose(),
+            };
+        }
+        let mut i = 0;
+        while i < count {
+            let number = next.word(cases);
+            into[i] = number.value;
+            next = number.next;
+            i += 1;
+        }
+        Taken { count, next }
+    }
+
+    // The next totals, which are as many as `held`, compared with what that holds.
+    pub(crate) fn same_totals(self, cases: &[u8], held: &[u32]) -> Compared {
+        let head = self.byte(cases);
+        let mut next = head.next;
+        if head.value as usize != held.len() {
+            return Compared {
+                same: false,
+                next: next.lose(),
+            };
+        }
+        let mut same = true;
+        let mut i = 0;
+        while i < held.len() {
+            let number = next.word(cases);
+            if held[i] != number.value {
+                same = false;
+            }
+            next = number.next;
+            i += 1;
+        }
+        Compared { same, next }
+    }
+}
