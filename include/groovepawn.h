@@ -19,6 +19,7 @@
  *   states  a list of bays: five numbers for each of 1 to 8 bays, one bay after the other
  *   station six numbers of 16 bits: a state, then the meter's register as last accepted
  *   totals  two numbers of 32 bits: the pulses billed, the pulses not billed
+ *   work    scratch of the second engine: one number of 16 bits for each state, 65,536 are always enough
  *   index   128 numbers: for each of 64 locations the number of its first rule, counted from 0, and how many rules it has
  *
  * Readings. Contracts read a deadline in two ways, and the caller names one, by the number 1 or 2, as the first argument:
@@ -55,6 +56,7 @@
  *   19  the tick count is above 1,000
  *   21  a text is not one that groovepawn_wave_write makes, or holds a time above 16,384
  *   22  the reading is neither 1 nor 2
+ *   23  a work slice has fewer entries than there are states
  *   24  the list has no such bay
  *   25  a list of bays is not five numbers for each of 1 to 8 bays
  *   26  the policy has no input P or no output D
@@ -62,7 +64,7 @@
  *   28  the index is not that of the file, or not 128 numbers
  *   29  a stream to be written as a wave has over 16,384 events
  *
- * Where several hold, the first in this order is given: 22, 1 to 9 as they come in the file, 26 or 28, 10, 24, 11, 14, 16, 15, 17, 27. A join asks 1 to 9 of its first
+ * Where several hold, the first in this order is given: 22, 1 to 9 as they come in the file, 26 or 28, 10, 23 or 24, 11, 14, 16, 15, 17, 27. A join asks 1 to 9 of its first
  * file, then of its second, then 12, 13, 14. A conversion asks 18, then 19. After 1 to 9 the writer of waves asks 29, 15, 14, their reader 21, 14.
  * With the marks of groovepawn_prepare under the same reading and a live state, groovepawn_input and groovepawn_run never give 17.
  *
@@ -199,6 +201,16 @@ uint32_t groovepawn_meter_input(uint8_t reading, const uint8_t *file, size_t fil
 uint32_t groovepawn_meter_output(uint8_t reading, const uint8_t *file, size_t file_len, const uint8_t *marks, size_t marks_len,
                                  uint16_t *station, size_t station_len, uint32_t *totals, size_t totals_len, uint16_t reading_of_register,
                                  uint8_t x, uint8_t y);
+
+/*
+ * The second engine: what groovepawn_prepare answers and writes, for every policy and both readings, and on large tables faster. It works in five
+ * slices that the caller lends, each with an entry for each state or more. They may hold anything, and what they hold afterwards is not said.
+ * Refusals 22, 1 to 10, 23 (a work slice has fewer entries than there are states), 11. With 22, 1 to 10 and 23 neither the marks nor the work
+ * slices are written.
+ */
+uint64_t groovepawn_prepare_fast(uint8_t reading, const uint8_t *file, size_t file_len, uint8_t *marks, size_t marks_len, uint16_t *work_1,
+                                 size_t work_1_len, uint16_t *work_2, size_t work_2_len, uint16_t *work_3, size_t work_3_len, uint16_t *work_4,
+                                 size_t work_4_len, uint16_t *work_5, size_t work_5_len);
 
 #ifdef __cplusplus
 }

@@ -175,4 +175,22 @@ extern "C" {
         x: u8,
         y: u8,
     ) -> u32;
+
+    pub fn groovepawn_prepare_fast(
+        reading: u8,
+        file: *const u8,
+        file_len: usize,
+        marks: *mut u8,
+        marks_len: usize,
+        work_1: *mut u16,
+        work_1_len: usize,
+        work_2: *mut u16,
+        work_2_len: usize,
+        work_3: *mut u16,
+        work_3_len: usize,
+        work_4: *mut u16,
+        work_4_len: usize,
+        work_5: *mut u16,
+        work_5_len: usize,
+    ) -> u64;
 }

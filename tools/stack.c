@@ -18,6 +18,7 @@ static uint8_t file[5974], joined[5974], marks[STATES], quiet[EVENTS], restless[
 static size_t length, text_length;
 static uint16_t state[5], index_of_file[128], bays[40], station[6];
 static uint32_t totals[2];
+static uint16_t work[5][STATES];
 static uint8_t reading;
 
 /* 256 rules at location 0 that hold and each take one event, over 4 clocks; those to location 1, which has no rules, lead nowhere. */
@@ -52,6 +53,10 @@ static const uint8_t any[] = {4, 'P', 'B', 'C', 'A', 4, 'D', 'F', 'G', 'H', 0, 1
 static uint64_t answer;
 static void nothing(void) { answer = 0; }
 static void prepare(void) { answer = groovepawn_prepare(reading, file, length, marks, STATES); }
+static void prepare_fast(void) {
+    answer = groovepawn_prepare_fast(reading, file, length, marks, STATES, work[0], STATES, work[1], STATES, work[2], STATES, work[3], STATES, work[4],
+                                     STATES);
+}
 static void input(void) { answer = groovepawn_input(reading, file, length, marks, STATES, state, 5, 0); }
 static void output(void) { answer = groovepawn_output(reading, file, length, marks, STATES, state, 5, 15, 0); }
 static void run(void) { answer = groovepawn_run(reading, file, length, marks, STATES, state, 5, quiet, EVENTS, released, EVENTS); }
@@ -71,7 +76,7 @@ static void meter_input(void) { answer = groovepawn_meter_input(reading, file, l
 static void meter_output(void) { answer = groovepawn_meter_output(reading, file, length, marks, STATES, station, 6, totals, 2, 4, 15, 0); }
 
 static const struct { const char *name; void (*call)(void); } calls[] = {
-    {"groovepawn_prepare", prepare}, {"groovepawn_index", build},
+    {"groovepawn_prepare", prepare}, {"groovepawn_prepare_fast", prepare_fast}, {"groovepawn_index", build},
     {"groovepawn_input", input}, {"groovepawn_output", output}, {"groovepawn_run", run},
     {"groovepawn_input_indexed", input_indexed}, {"groovepawn_output_indexed", output_indexed},
     {"groovepawn_bays_new", bays_new}, {"groovepawn_bay_input", bay_input}, {"groovepawn_bay_output", bay_output},

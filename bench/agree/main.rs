@@ -55,6 +55,7 @@ mod ticks;
 mod waves;
 
 use bench::engine::{Engine as _, Plain};
+use call::Work;
 use compare::Tally;
 use engine::{Engine, Model};
 use std::process::ExitCode;
@@ -231,5 +232,9 @@ impl Engine for PlainSide {
         y: u8,
     ) -> u64 {
         Model.meter_output(reading, file, marks, station, totals, register, x, y)
+    }
+
+    fn prepare_fast(&mut self, reading: u8, file: &[u8], marks: &mut [u8], work: &mut Work) -> u64 {
+        Model.prepare_fast(reading, file, marks, work)
     }
 }

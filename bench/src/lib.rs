@@ -4,6 +4,8 @@
 pub mod cases;
 mod clock;
 pub mod engine;
+pub mod engines;
+mod falling;
 mod file;
 mod generated;
 #[cfg(feature = "library")]

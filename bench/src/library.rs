@@ -127,3 +127,27 @@ impl Engine for Library {
         }
     }
 }
+
+/// The second engine of prepare.
+pub fn prepare_fast(reading: u8, file: &[u8], marks: &mut [u8], work: &mut [Vec<u16>; 5]) -> u64 {
+    let [stack, from, ways, bound, place] = work;
+    unsafe {
+        groovepawn_prepare_fast(
+            reading,
+            file.as_ptr(),
+            file.len(),
+            marks.as_mut_ptr(),
+            marks.len(),
+            stack.as_mut_ptr(),
+            stack.len(),
+            from.as_mut_ptr(),
+            from.len(),
+            ways.as_mut_ptr(),
+            ways.len(),
+            bound.as_mut_ptr(),
+            bound.len(),
+            place.as_mut_ptr(),
+            place.len(),
+        )
+    }
+}

@@ -3,7 +3,7 @@
 
 use bench::engine::{Engine, Plain};
 use bench::streams::{Stream, Wave, STREAMS, WAVES};
-use bench::{cases, instructions, measure, report, work};
+use bench::{cases, engines, instructions, measure, report, work};
 use std::process::ExitCode;
 
 fn main() -> ExitCode {
@@ -21,6 +21,8 @@ fn main() -> ExitCode {
 fn perform(words: &[&str]) -> Result<(), String> {
     match *words {
         [] => measure_all(),
+        ["engines"] => compare_engines(""),
+        ["engines", policy] => compare_engines(policy),
         ["instructions", side, ticks] => count(side, ticks, STREAMS[0].name, instructions::run),
         ["instructions", side, ticks, stream] => count(side, ticks, stream, instructions::run),
         ["instructions", side, calls, stream, "input"] => {
@@ -43,7 +45,7 @@ fn usage() -> String {
     let streams: Vec<&str> = STREAMS.iter().map(|stream| stream.name).collect();
     let waves: Vec<&str> = WAVES.iter().map(|wave| wave.name).collect();
     format!(
-        "usage:\n  bench\n  bench instructions plain|library TICKS [STREAM]\n  \
+        "usage:\n  bench\n  bench engines [POLICY]\n  bench instructions plain|library TICKS [STREAM]\n  \
          bench instructions plain|library CALLS STREAM input|output\n  \
          bench instructions plain|library CALLS WAVE write|read\n\
          streams: {}\nwaves: {}",
@@ -61,6 +63,15 @@ fn second_side() -> (&'static str, &'static dyn Engine) {
 #[cfg(not(feature = "library"))]
 fn second_side() -> (&'static str, &'static dyn Engine) {
     ("plain", &Plain)
+}
+
+/// On the policies whose names begin so.
+fn compare_engines(policy: &str) -> Result<(), String> {
+    println!("{}", engines::heading());
+    for row in engines::rows(policy)? {
+        println!("{row}");
+    }
+    Ok(())
 }
 
 fn measure_all() -> Result<(), String> {

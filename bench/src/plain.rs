@@ -7,6 +7,7 @@
 mod check;
 mod enforcer;
 mod join;
+pub mod looks;
 mod policy;
 mod prepare;
 mod reached;

@@ -117,10 +117,19 @@ pub enum Call {
         x: u8,
         y: u8,
     },
+    PrepareFast {
+        reading: u8,
+        file: Vec<u8>,
+        marks: Vec<u8>,
+        work: Work,
+    },
 }
 
+/// The work slices of the second engine. What they hold afterwards is not said.
+pub type Work = [Vec<u16>; 5];
+
 /// The functions, in the order of `Call::kind`.
-pub const FUNCTIONS: [&str; 17] = [
+pub const FUNCTIONS: [&str; 18] = [
     "prepare",
     "input",
     "output",
@@ -138,6 +147,7 @@ pub const FUNCTIONS: [&str; 17] = [
     "meter_new",
     "meter_input",
     "meter_output",
+    "prepare_fast",
 ];
 
 /// One thing that a function is given.
@@ -159,8 +169,8 @@ pub enum Given<'a> {
 #[derive(Clone, Debug, Default, PartialEq, Eq)]
 pub struct Outcome {
     pub answer: u64,
-    /// The marks of prepare, the released events of run, the file of join, the
-    /// text of the wave writer, the events of its reader; otherwise empty.
+    /// The marks of both prepares, the released events of run, the file of join,
+    /// the text of the wave writer, the events of its reader; otherwise empty.
     pub bytes: Vec<u8>,
     /// The state of output and run, the index, the states of the bays, the
     /// station of a meter; otherwise empty.
@@ -192,6 +202,7 @@ impl Call {
             Call::MeterNew { .. } => 14,
             Call::MeterInput { .. } => 15,
             Call::MeterOutput { .. } => 16,
+            Call::PrepareFast { .. } => 17,
         }
     }
 
@@ -386,6 +397,21 @@ impl Call {
                 ("x", Byte(*x)),
                 ("y", Byte(*y)),
             ],
+            Call::PrepareFast {
+                reading,
+                file,
+                marks,
+                work,
+            } => vec![
+                ("reading", Byte(*reading)),
+                ("file", Policy(file)),
+                ("marks before", Bytes(marks)),
+                ("work 1", Numbers(&work[0])),
+                ("work 2", Numbers(&work[1])),
+                ("work 3", Numbers(&work[2])),
+                ("work 4", Numbers(&work[3])),
+                ("work 5", Numbers(&work[4])),
+            ],
         }
     }
 
@@ -409,7 +435,8 @@ impl Call {
             | Call::BayInput { reading, .. }
             | Call::BayOutput { reading, .. }
             | Call::MeterInput { reading, .. }
-            | Call::MeterOutput { reading, .. } => *reading = other,
+            | Call::MeterOutput { reading, .. }
+            | Call::PrepareFast { reading, .. } => *reading = other,
             Call::Join { .. }
             | Call::Ticks { .. }
             | Call::WaveWrite { .. }
@@ -436,7 +463,8 @@ impl Call {
             | Call::BayInput { file, .. }
             | Call::BayOutput { file, .. }
             | Call::MeterInput { file, .. }
-            | Call::MeterOutput { file, .. } => *file = other,
+            | Call::MeterOutput { file, .. }
+            | Call::PrepareFast { file, .. } => *file = other,
             Call::Join { a, .. } => *a = other,
             Call::Ticks { .. } | Call::BaysNew { .. } | Call::MeterNew { .. } => {}
         }
@@ -544,6 +572,12 @@ impl Call {
                 *x,
                 *y,
             ),
+            Call::PrepareFast {
+                reading,
+                file,
+                work,
+                ..
+            } => engine.prepare_fast(*reading, file, &mut bytes, &mut work.clone()),
         };
         Outcome {
             answer,
@@ -557,7 +591,7 @@ impl Call {
     /// The slice lent for writing, as it is before.
     pub fn lent_bytes(&self) -> &[u8] {
         match self {
-            Call::Prepare { marks, .. } => marks,
+            Call::Prepare { marks, .. } | Call::PrepareFast { marks, .. } => marks,
             Call::Run { released, .. } => released,
             Call::Join { out, .. } => out,
             Call::WaveWrite { text, .. } => text,

@@ -26,7 +26,7 @@ const MOST_PREPARE_STEPS: usize = 300_000_000;
 /// Group `number` of `seed`; always the same.
 pub fn group(seed: u64, number: u64) -> Vec<Call> {
     let mut random = Random::for_group(seed, number);
-    match random.below(118) {
+    match random.below(121) {
         0..=55 => around_policy(&mut random),
         56..=59 => around_edits(&mut random),
         60..=77 => around_damage(&mut random),
@@ -34,7 +34,8 @@ pub fn group(seed: u64, number: u64) -> Vec<Call> {
         79..=94 => around_join(&mut random),
         95..=99 => around_ticks(&mut random),
         100..=111 => around_wave(&mut random),
-        _ => around_meter(&mut random),
+        112..=117 => around_meter(&mut random),
+        _ => around_engines(&mut random),
     }
 }
 
@@ -53,6 +54,7 @@ fn around_policy(random: &mut Random) -> Vec<Call> {
     let mut made = Vec::new();
     if subject.prepare_steps() <= MOST_PREPARE_STEPS {
         made.push(prepare_call(random, &subject));
+        made.push(prepare_fast_call(random, &subject));
     }
     for _ in 0..calls {
         made.push(input_call(random, &subject));
@@ -66,6 +68,40 @@ fn around_policy(random: &mut Random) -> Vec<Call> {
     }
     made.push(bays_new_call(random));
     made
+}
+
+/// Both engines on policies that are hard on one of them.
+fn around_engines(random: &mut Random) -> Vec<Call> {
+    let mut made = Vec::new();
+    for _ in 0..3 {
+        let policy = policies::adversarial(random);
+        let subject = Subject::new(policy, random.pick(&READINGS));
+        if subject.prepare_steps() <= MOST_PREPARE_STEPS {
+            made.push(prepare_call(random, &subject));
+            made.push(prepare_fast_call(random, &subject));
+        }
+    }
+    made
+}
+
+/// The work slices hold anything before.
+fn prepare_fast_call(random: &mut Random, subject: &Subject) -> Call {
+    let states = subject.states();
+    let length = lent_length(random, states);
+    let odd = random.below(12) as usize;
+    let work = [0, 1, 2, 3, 4].map(|slice| {
+        let entries = match odd == slice {
+            true => random.pick(&[states - 1, states / 2, 0]),
+            false => states + random.pick(&[0, 0, 1, 7]),
+        };
+        some_numbers(random, entries)
+    });
+    Call::PrepareFast {
+        reading: some_reading(random, subject),
+        file: subject.file.clone(),
+        marks: filler(random, length),
+        work,
+    }
 }
 
 /// A policy that has the signals of a meter, or all but one of them.
@@ -254,7 +290,8 @@ fn around_damage(random: &mut Random) -> Vec<Call> {
         made.push(wave.read_call(random).with_file(file.clone()));
         made.push(index_call(random, &subject).with_file(file.clone()));
         made.push(indexed_call(random, &subject).with_file(file.clone()));
-        made.push(bay_call(random, &subject).with_file(file));
+        made.push(bay_call(random, &subject).with_file(file.clone()));
+        made.push(prepare_fast_call(random, &subject).with_file(file));
     }
     made
 }
@@ -762,6 +799,7 @@ pub fn refusals_of(function: &str) -> Vec<usize> {
     let own: &[usize] = match function {
         "ticks" => return vec![0, 18, 19],
         "prepare" => &[10, 11, 22],
+        "prepare_fast" => &[10, 11, 22, 23],
         "input" | "output" => &[10, 15, 16, 17, 22],
         "run" => &[10, 14, 15, 16, 17, 22],
         "join" => &[12, 13, 14],

@@ -47,7 +47,7 @@ impl Tally {
                 self.forwarded += same.len() as u64;
                 self.edited += other.len() as u64;
             }
-            Call::Prepare { .. } if refusal == 0 => {
+            Call::Prepare { .. } | Call::PrepareFast { .. } if refusal == 0 => {
                 self.verdicts[usize::from((answer >> 8) as u8 & 1)] += 1;
             }
             _ => {}
@@ -189,6 +189,7 @@ fn compare_laws(
 #[cfg(test)]
 mod tests {
     use super::*;
+    use crate::call::Work;
     use crate::index;
     use crate::moment::STATE_LENGTH;
     use crate::parse;
@@ -266,9 +267,15 @@ mod tests {
         RegisterMovesOnRefusal,
         MarksBeforeMeterSignals,
         FirstRegisterIsNone,
+        FourWorkSlices,
+        StartBeforeWork,
+        WorkBeforeMarks,
+        FastForgetsRest,
+        FastReadsTheWork,
+        JoinForgetsB,
     }
 
-    const FAULTS: [Fault; 61] = [
+    const FAULTS: [Fault; 67] = [
         Fault::RefuseAlways,
         Fault::ForwardEverything,
         Fault::SmallestAmongEquals,
@@ -330,6 +337,12 @@ mod tests {
         Fault::RegisterMovesOnRefusal,
         Fault::MarksBeforeMeterSignals,
         Fault::FirstRegisterIsNone,
+        Fault::FourWorkSlices,
+        Fault::StartBeforeWork,
+        Fault::WorkBeforeMarks,
+        Fault::FastForgetsRest,
+        Fault::FastReadsTheWork,
+        Fault::JoinForgetsB,
     ];
 
     impl Spoilt {
@@ -582,6 +595,10 @@ mod tests {
                 return Model.join(b, a, out);
             }
             let answer = Model.join(a, b, out);
+            if self.has(Fault::JoinForgetsB) && answer as u8 == 0 && a.len() <= out.len() {
+                out[..a.len()].copy_from_slice(a);
+                return (a.len() as u64) << 8;
+            }
             if self.has(Fault::JoinRestsWhereOneRests) && answer as u8 == 0 {
                 rest_where_one_rests(a, b, out);
             }
@@ -791,6 +808,40 @@ mod tests {
                 totals.swap(0, 1);
             }
             answer
+        }
+
+        fn prepare_fast(
+            &mut self,
+            reading: u8,
+            file: &[u8],
+            marks: &mut [u8],
+            work: &mut Work,
+        ) -> u64 {
+            let answer = Model.prepare_fast(reading, file, marks, work);
+            let first_short = work[..4].iter().any(|slice| slice.len() < marks.len());
+            match self.fault {
+                Fault::FourWorkSlices if answer == 23 && !first_short => {
+                    Model.prepare(reading, file, marks)
+                }
+                Fault::StartBeforeWork if answer == 23 => {
+                    let mut scratch = marks.to_vec();
+                    match Model.prepare(reading, file, &mut scratch) {
+                        11 => 11,
+                        _ => 23,
+                    }
+                }
+                Fault::WorkBeforeMarks if answer == 10 && work[0].is_empty() => 23,
+                Fault::FastForgetsRest if refusal_in(answer) == 0 => {
+                    let mut policy = parse::check(file).expect("it was read");
+                    policy.must_leave.fill(false);
+                    Model.prepare(reading, &policy.encode(), marks)
+                }
+                Fault::FastReadsTheWork if refusal_in(answer) == 0 && work[2][0] != 0xEEEE => {
+                    marks[0] ^= 1;
+                    answer
+                }
+                _ => answer,
+            }
         }
 
         fn strayed(&mut self) -> bool {

@@ -2,6 +2,7 @@
 //! number, and the model as one maker of such answers.
 
 use crate::bays;
+use crate::call::Work;
 use crate::enforce;
 use crate::index;
 use crate::join;
@@ -135,6 +136,9 @@ pub trait Engine {
         y: u8,
     ) -> u64;
 
+    /// As prepare. What the work slices hold afterwards is not said.
+    fn prepare_fast(&mut self, reading: u8, file: &[u8], marks: &mut [u8], work: &mut Work) -> u64;
+
     /// Whether, since this was last asked, a byte was changed that was not
     /// lent for writing.
     fn strayed(&mut self) -> bool {
@@ -157,13 +161,7 @@ pub struct Model;
 
 impl Engine for Model {
     fn prepare(&mut self, reading: u8, file: &[u8], marks: &mut [u8]) -> u64 {
-        match enforce::prepare(reading, file, marks) {
-            Ok(prepared) => {
-                let counts = (prepared.states as u64) << 16 | (prepared.live as u64) << 40;
-                u64::from(prepared.verdict) << 8 | counts
-            }
-            Err(refusal) => u64::from(refusal.number()),
-        }
+        prepared(enforce::prepare(reading, file, marks))
     }
 
     fn input(&mut self, reading: u8, file: &[u8], marks: &[u8], state: &[u16], x: u8) -> u64 {
@@ -306,6 +304,22 @@ impl Engine for Model {
         packed(meter::output_half(
             reading, file, marks, lent, register, x, y,
         ))
+    }
+
+    fn prepare_fast(&mut self, reading: u8, file: &[u8], marks: &mut [u8], work: &mut Work) -> u64 {
+        let room = work.each_ref().map(Vec::len);
+        prepared(enforce::prepare_with_room(reading, file, marks, room))
+    }
+}
+
+/// Of both prepares.
+fn prepared(result: Result<enforce::Prepared, Refusal>) -> u64 {
+    match result {
+        Ok(prepared) => {
+            let counts = (prepared.states as u64) << 16 | (prepared.live as u64) << 40;
+            u64::from(prepared.verdict) << 8 | counts
+        }
+        Err(refusal) => u64::from(refusal.number()),
     }
 }
 

@@ -2,6 +2,7 @@
 //! a guard before and after it, and afterwards all is looked at that the
 //! function had no business to change.
 
+use crate::call::Work;
 use crate::engine::Engine;
 use crate::groovepawn::*;
 
@@ -440,6 +441,36 @@ impl Engine for Library {
         self.expect(s.give_back(station));
         self.expect(t.give_back(totals));
         u64::from(answer)
+    }
+
+    fn prepare_fast(&mut self, reading: u8, file: &[u8], marks: &mut [u8], work: &mut Work) -> u64 {
+        let (mut f, mut m) = (bytes(file), bytes(marks));
+        let [mut a, mut b, mut c, mut d, mut e] = work.each_ref().map(|slice| numbers(slice));
+        let answer = unsafe {
+            groovepawn_prepare_fast(
+                reading,
+                f.pointer(),
+                f.length,
+                m.pointer(),
+                m.length,
+                a.pointer(),
+                a.length,
+                b.pointer(),
+                b.length,
+                c.pointer(),
+                c.length,
+                d.pointer(),
+                d.length,
+                e.pointer(),
+                e.length,
+            )
+        };
+        self.expect(f.is_still(file));
+        self.expect(m.give_back(marks));
+        for (lent, slice) in [a, b, c, d, e].iter().zip(work) {
+            self.expect(lent.give_back(slice));
+        }
+        answer
     }
 
     fn strayed(&mut self) -> bool {

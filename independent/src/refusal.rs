@@ -24,6 +24,7 @@ pub enum Refusal {
     TooManyTicks = 19,
     NotThisForm = 21,
     UnknownReading = 22,
+    WorkTooShort = 23,
     NoSuchBay = 24,
     CountOfBays = 25,
     NoMeterSignals = 26,

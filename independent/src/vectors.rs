@@ -118,9 +118,9 @@ fn body(call: &Call, outcome: &Outcome) -> Vec<u8> {
     body
 }
 
-/// Prepare, run, join and both functions of waves.
+/// Both prepares, run, join and both functions of waves.
 pub fn writes_bytes(kind: usize) -> bool {
-    [0, 3, 4, 6, 7].contains(&kind)
+    [0, 3, 4, 6, 7, 17].contains(&kind)
 }
 
 /// Output, run, index, the output half with an index, of the bays the list and
@@ -350,6 +350,18 @@ impl<'a> Reader<'a> {
                 register: self.number(2)? as u16,
                 x: self.byte()?,
                 y: self.byte()?,
+            },
+            18 => Call::PrepareFast {
+                reading: self.byte()?,
+                file: self.string()?,
+                marks: self.string()?,
+                work: [
+                    self.numbers()?,
+                    self.numbers()?,
+                    self.numbers()?,
+                    self.numbers()?,
+                    self.numbers()?,
+                ],
             },
             _ => return Err(BROKEN.to_string()),
         })

@@ -167,6 +167,8 @@ mod tests {
             "meter_output Answer",
             "meter_output State",
             "meter_output Totals",
+            "prepare_fast Answer",
+            "prepare_fast Bytes",
         ];
         assert_eq!(named, expected);
     }

@@ -202,6 +202,17 @@ module _ (s : Place) (p : Policy) where
     pub mark : (marks : List ℕ) → leads s p marks r ≡ (some && isMarked marks to)
     pub below : some ≡ true → to < states p
 
+  -- So it does, if its bounds hold.
+  pub record Held (r : Rule) (some : Bool) (to : ℕ) : Type 0 where
+    pub mark : (marks : List ℕ) → (holds (looked stopped p s) r && leads s p marks r) ≡ (some && isMarked marks to)
+    pub below : some ≡ true → to < states p
+
+  pub held-not : {r : Rule} {to : ℕ} → holds (looked stopped p s) r ≡ false → Held r false to
+  held-not e = record { mark = λ marks. rw e; below = λ q. absurd (false≢true q) }
+
+  pub held-led : {r : Rule} {some : Bool} {to : ℕ} → holds (looked stopped p s) r ≡ true → Led r some to → Held r some to
+  held-led e w = record { mark = λ marks. rw e (w .mark marks); below = w .below }
+
   -- What the rule r takes of the first n sets, and where it leads if it takes something.
   pub record Turned (r : Rule) (n : ℕ) (left rest : List ℕ) (some : Bool) (to : ℕ) : Type 0 where
     pub went : (marks : List ℕ) → Went s p marks r n left rest (some && isMarked marks to)

@@ -59,14 +59,7 @@ fn rule_fires(rules: &[u8], at: usize, clocks: usize, state: State, x: u8, y: u8
 }
 
 // The number of the first that fires of the rules, all of which are the location's.
-pub(crate) fn first_rule(
-    rules: &[u8],
-    count: usize,
-    clocks: usize,
-    state: State,
-    x: u8,
-    y: u8,
-) -> Found
+pub fn first_rule(rules: &[u8], count: usize, clocks: usize, state: State, x: u8, y: u8) -> Found
     requires { ⌜ (count ≤ 256) × (clocks ≤ 4) × (count * ruleSize clocks ≤ length (now rules)) ⌝ }
     requires { ⌜ level (state .location) (rulesFrom clocks (now rules) 0 count) ≡ count ⌝ }
     ensures { λ r. ⌜ foundSaid r ≡ decider (rulesFrom clocks (now (rules .entry)) 0 count) (place clocks state) (eventXY x y) ⌝ }

@@ -52,7 +52,7 @@ answer-back (refused zero) k l h = absurd (omega arith)
 answer-back (refused (suc n)) k l h = let e : suc n % 256 ≡ suc n = omega arith in rw e
 answer-back (gives v) k l h = let f = answer-fields v in rw (f .0, f .1)
 
-summary-back : (a : Answer Summary) (k : ℕ) → k < 256 → UpTo k a → ((s : Summary) → a ≡ gives s → Small s) → summaryIn (summaryWord a) ≡ a
+pub summary-back : (a : Answer Summary) (k : ℕ) → k < 256 → UpTo k a → ((s : Summary) → a ≡ gives s → Small s) → summaryIn (summaryWord a) ≡ a
 summary-back (refused zero) k l h f = absurd (omega arith)
 summary-back (refused (suc n)) k l h f = let e : suc n % 256 ≡ suc n = omega arith in rw e
 summary-back (gives s) k l h f = let g = summary-fields s (f s refl) in rw (g .none, g .verdict, g .states, g .live)

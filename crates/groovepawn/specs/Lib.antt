@@ -6,4 +6,5 @@ pub mod Fields
 pub mod Waves
 pub mod Indexed
 pub mod Bays
+pub mod Fast
 pub mod Meter

@@ -2,6 +2,7 @@
 // What each call promises stands in specs/.
 mod bay_calls;
 mod meter_calls;
+mod second;
 mod viewer;
 
 pub use bay_calls::groovepawn_bay_input;
@@ -26,6 +27,7 @@ pub use meter_calls::groovepawn_meter_input;
 pub use meter_calls::groovepawn_meter_new;
 pub use meter_calls::groovepawn_meter_output;
 use prepare::Prepared;
+pub use second::groovepawn_prepare_fast;
 use ticks::Conversion;
 use ticks::Milliseconds;
 use ticks::Rounding;

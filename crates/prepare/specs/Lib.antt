@@ -1,9 +1,11 @@
 pub mod Table
 pub mod Entry
 pub mod Live
+pub mod Alone
 pub mod Enforces
 pub mod Engine
 pub mod Search
+pub mod Strays
 pub mod Promise
 pub mod Counted
 pub mod Reached

@@ -27,6 +27,8 @@ use Rattle.prepare.specs.Entry.{summaryOf, prepareOf, preparedMarks}
 use Rattle.prepare.specs.Entry as Entry
 use Rattle.prepare.specs.Promise.{prepared-one, said-past}
 use Rattle.bays.specs.Bays.{bayCount, bayState}
+use Rattle.fast.specs.Entry.{fastOf, fastMarks}
+use Rattle.fast.specs.Promise.{first-refusals}
 use Rattle.bays.specs.Entries.{BayAnswer, noBay, bayInputOf, bayOutputOf}
 use Rattle.bays.specs.There.{input-there, output-there, input-none, output-none}
 use Rattle.bays.specs.Halves.{refused-stays}
@@ -35,6 +37,8 @@ use Rattle.meter.specs.Entries.{meterRefusal, meterInputOf, meterOutputOf}
 pub use Rattle.policy.specs.Layout.{CheckPromise, check-one}
 -- Prepare.
 pub use Rattle.prepare.specs.Promise.{PreparePromise, prepare-one, prepare-live, prepare-dead}
+-- The second engine: as prepare, unless it gives 23.
+pub use Rattle.fast.specs.Promise.{FastPromise, fast-one, same-answers}
 -- The input half, the output half by value and over a lent state, and the run.
 pub use Rattle.enforcer.specs.Promises.{InputPromise, input-one, OutputPromise, output-one, RunPromise, run-one}
 -- A new list of bays, and the two halves of a bay.
@@ -63,6 +67,7 @@ pub use Rattle.groovepawn.specs.Calls.{
   join-one as c-join-one,
   ticks-one as c-ticks-one,
 }
+pub use Rattle.groovepawn.specs.Fast.{FastCall, fast-one as c-fast-one, fast-prepares}
 pub use Rattle.groovepawn.specs.Waves.{WaveWriteCall, WaveReadCall, wave-write-one, wave-read-one}
 pub use Rattle.groovepawn.specs.Bays.{
   NewCall,
@@ -101,6 +106,9 @@ module _ (reading : ℕ) (not-one : ¬ (reading ≡ 1)) (not-two : ¬ (reading �
   pub prepare-22 : (prepareOf reading file marks ≡ refused 22) × (preparedMarks reading file marks ≡ marks)
   unfolding prepareOf preparedMarks
   prepare-22 = (rw first-22, rw first-22)
+
+  pub fast-22 : (work : ℕ) → (fastOf reading file marks work ≡ refused 22) × (fastMarks reading file marks work ≡ marks)
+  fast-22 work = let k = first-refusals reading file marks work 21 first-22 in (k .1, k .2)
 
   module _ (s : Place) where
     pub input-22 : (x : ℕ) → inputOf reading file marks s x ≡ refused 22

@@ -402,3 +402,35 @@ pub(crate) fn meter_output(
         next,
     }
 }
+
+pub(crate) fn prepare_fast(
+    cases: &[u8],
+    at: Cursor,
+    reading: u8,
+    file: &[u8],
+    marks: &mut [u8],
+    work_1: &mut [u16],
+    work_2: &mut [u16],
+    work_3: &mut [u16],
+    work_4: &mut [u16],
+    work_5: &mut [u16],
+) -> Outcome {
+    let got = groovepawn::groovepawn_prepare_fast(
+        reading,
+        file,
+        marks,
+        work_1,
+        work_2,
+        work_3,
+        work_4,
+        work_5,
+    );
+    let answer = at.long(cases);
+    let next = answer.next;
+    let bytes = next.same_string(cases, marks);
+    let next = bytes.next;
+    Outcome {
+        differs: first_of(got == answer.value, bytes.same, true),
+        next,
+    }
+}

@@ -157,6 +157,60 @@ fn meter_record(
     }
 }
 
+// The rest of a record of the second engine, past the first work slice.
+fn other_work(
+    cases: &[u8],
+    at: Cursor,
+    reading: u8,
+    file: &[u8],
+    marks: &mut [u8],
+    work_1: &mut [u16],
+) -> Outcome {
+    let mut work_2 = [0u16; 136];
+    let mut work_3 = [0u16; 136];
+    let mut work_4 = [0u16; 136];
+    let mut work_5 = [0u16; 136];
+    let taken = at.state(cases, &mut work_2);
+    let room_2 = taken.count;
+    let next = taken.next;
+    let taken = next.state(cases, &mut work_3);
+    let room_3 = taken.count;
+    let next = taken.next;
+    let taken = next.state(cases, &mut work_4);
+    let room_4 = taken.count;
+    let next = taken.next;
+    let taken = next.state(cases, &mut work_5);
+    let room_5 = taken.count;
+    let next = taken.next;
+    calls::prepare_fast(
+        cases,
+        next,
+        reading,
+        file,
+        marks,
+        work_1,
+        &mut work_2[..room_2],
+        &mut work_3[..room_3],
+        &mut work_4[..room_4],
+        &mut work_5[..room_5],
+    )
+}
+
+// The rest of a record of the second engine.
+fn prepare_fast_record(
+    cases: &[u8],
+    at: Cursor,
+    reading: u8,
+    file: &[u8],
+    marks: &mut [u8],
+) -> Outcome {
+    let mut work = [0u16; 136];
+    let taken = at.state(cases, &mut work);
+    let room = taken.count;
+    let next = taken.next;
+    other_work(cases, next, reading, file, marks, &mut work[..room])
+}
+
 // A record that begins with a reading, a policy and marks.
 fn policy_record(cases: &[u8], kind: Kind, at: Cursor) -> Outcome {
     let mut file = [0u8; 8192];
@@ -171,6 +225,13 @@ fn policy_record(cases: &[u8], kind: Kind, at: Cursor) -> Outcome {
     let next = taken.next;
     match kind {
         Kind::Prepare => calls::prepare(
+            cases,
+            next,
+            reading.value,
+            &file[..file_length],
+            &mut marks[..marks_length],
+        ),
+        Kind::PrepareFast => prepare_fast_record(
             cases,
             next,
             reading.value,

@@ -21,6 +21,7 @@ pub enum Kind {
     MeterNew,
     MeterInput,
     MeterOutput,
+    PrepareFast,
     Unknown,
 }
 
@@ -44,6 +45,7 @@ impl Kind {
             15 => Kind::MeterNew,
             16 => Kind::MeterInput,
             17 => Kind::MeterOutput,
+            18 => Kind::PrepareFast,
             _ => Kind::Unknown,
         }
     }
@@ -67,6 +69,7 @@ impl Kind {
             Kind::MeterNew => print(b"meter_new"),
             Kind::MeterInput => print(b"meter_input"),
             Kind::MeterOutput => print(b"meter_output"),
+            Kind::PrepareFast => print(b"prepare_fast"),
             Kind::Unknown => print(b"unknown"),
         }
     }
@@ -91,6 +94,7 @@ struct Counts {
     meter_new: u64,
     meter_input: u64,
     meter_output: u64,
+    prepare_fast: u64,
 }
 
 impl Counts {
@@ -113,6 +117,7 @@ impl Counts {
             Kind::MeterNew => self.meter_new = one_more(self.meter_new),
             Kind::MeterInput => self.meter_input = one_more(self.meter_input),
             Kind::MeterOutput => self.meter_output = one_more(self.meter_output),
+            Kind::PrepareFast => self.prepare_fast = one_more(self.prepare_fast),
             Kind::Unknown => {}
         }
         self
@@ -136,6 +141,7 @@ impl Counts {
         print_count(b"meter_new ", self.meter_new);
         print_count(b"meter_input ", self.meter_input);
         print_count(b"meter_output ", self.meter_output);
+        print_count(b"prepare_fast ", self.prepare_fast);
     }
 }
 
@@ -192,6 +198,7 @@ impl Tally {
                 meter_new: 0,
                 meter_input: 0,
                 meter_output: 0,
+                prepare_fast: 0,
             },
             different: 0,
             first: First::None,

@@ -15,20 +15,20 @@ pub fn all() -> Vec<Written> {
 
 /// A begins a transfer, which location 1 is in the middle of, and B finishes
 /// it.
-const TRANSFER: &str = "01 41 01 42 00 02 00 01 00 04 \
+pub const TRANSFER: &str = "01 41 01 42 00 02 00 01 00 04 \
     00 01 01 00 00 00 01 \
     00 00 00 00 00 00 00 \
     01 00 00 01 01 00 00 \
     01 00 00 00 00 00 01";
 
 /// As T, but what A begins goes on for ever; nothing finishes it.
-const UNFINISHED: &str = "01 41 01 42 00 02 00 01 00 03 \
+pub const UNFINISHED: &str = "01 41 01 42 00 02 00 01 00 03 \
     00 01 01 00 00 00 01 \
     00 00 00 00 00 00 00 \
     01 00 00 00 00 00 01";
 
 /// The same where location 1 may rest.
-const ENDLESS: &str = "01 41 01 42 00 02 00 00 00 03 \
+pub const ENDLESS: &str = "01 41 01 42 00 02 00 00 00 03 \
     00 01 01 00 00 00 01 \
     00 00 00 00 00 00 00 \
     01 00 00 00 00 00 01";

@@ -135,6 +135,12 @@ fn calls() -> Vec<Call> {
             x: 2,
             y: 2,
         },
+        Call::PrepareFast {
+            reading,
+            file: file.clone(),
+            marks: vec![FILLER; 2],
+            work: [0, 1, 2, 3, 4].map(|_| vec![7; 2]),
+        },
     ]
 }
 

@@ -1,0 +1,175 @@
+//! The policies that the two engines of prepare are set against each other on.
+
+use crate::file::*;
+use crate::generated::Shape;
+use crate::plain;
+use crate::policies;
+
+pub struct Falling {
+    pub name: &'static str,
+    pub file: Vec<u8>,
+}
+
+pub fn all() -> Vec<Falling> {
+    let of = |name, policy: Policy| Falling {
+        name,
+        file: policy.encode(),
+    };
+    vec![
+        of("none falls", policies::lasting()),
+        of("none falls, violations first", barred()),
+        of("a quarter cannot be left", policies::leaving()),
+        joined("joined", 0, 11),
+        joined("joined, another", 0, 12),
+        joined("joined, some must be left", 3, 13),
+        of("fall in rising order, 2 events", chain(1, 0, |_| 0)),
+        of("fall in rising order, 256 events", chain(4, 4, |_| 0)),
+        of("long ways to rest", long_ways()),
+        of("stuck loops", stuck()),
+        of("nested, in rising order", nested()),
+    ]
+}
+
+fn rule(source: u8, input: Condition, reset: u8, target: u8, bound: Bound) -> Rule {
+    Rule {
+        source,
+        input,
+        output: Condition::ANY,
+        reset,
+        target,
+        bounds: vec![bound],
+    }
+}
+
+/// 50 locations and a clock up to 1,000: 50,050 states.
+fn fifty(inputs: u8, outputs: u8, must_leave: impl Fn(u8) -> u8, rules: Vec<Rule>) -> Policy {
+    Policy {
+        inputs,
+        outputs,
+        ceilings: vec![1000],
+        locations: (0..50).map(must_leave).collect(),
+        rules,
+    }
+}
+
+const BEFORE_THE_LAST: Bound = (0, 999);
+const AT_THE_LAST: Bound = (1000, NO_UPPER_BOUND);
+
+/// 64,064 states, none of which dies; the first rules of each location forbid
+/// some inputs.
+fn barred() -> Policy {
+    let value = |value| Condition { care: 15, value };
+    let mut rules = Vec::new();
+    for source in 0..64 {
+        for input in 13..16 {
+            rules.push(rule(source, value(input), 0, VIOLATION, OPEN));
+        }
+        rules.push(rule(source, Condition::ANY, 1, (source + 1) % 64, OPEN));
+    }
+    Policy {
+        inputs: 4,
+        outputs: 4,
+        ceilings: vec![1000],
+        locations: vec![0; 64],
+        rules,
+    }
+}
+
+/// A state goes on to the location below with the next clock value, and there
+/// is no way on at the ceiling: each sweep takes few.
+fn chain(inputs: u8, outputs: u8, must_leave: impl Fn(u8) -> u8) -> Policy {
+    let rules = (0..50).map(|l| rule(l, Condition::ANY, 0, (l + 49) % 50, BEFORE_THE_LAST));
+    fifty(inputs, outputs, must_leave, rules.collect())
+}
+
+/// All must be left but the last, a thousand ticks from each location.
+fn long_ways() -> Policy {
+    let mut rules = Vec::new();
+    for l in 0..50 {
+        rules.push(rule(l, Condition::ANY, 0, l, BEFORE_THE_LAST));
+        rules.push(rule(l, Condition::ANY, 1, (l + 1) % 50, AT_THE_LAST));
+    }
+    fifty(2, 2, |l| u8::from(l != 49), rules)
+}
+
+/// Locations that must be left, in pairs that lead to each other and nowhere
+/// else once the clock is at its ceiling.
+fn stuck() -> Policy {
+    let mut rules = Vec::new();
+    for l in 0..50 {
+        let next = if l < 48 { l + 2 } else { l };
+        rules.push(rule(l, Condition::clear(1), 0, l ^ 1, OPEN));
+        rules.push(rule(l, Condition::set(1), 0, next, BEFORE_THE_LAST));
+    }
+    fifty(2, 2, |_| 1, rules)
+}
+
+/// The chain, in which each second location must be left and may also wait.
+fn nested() -> Policy {
+    let mut rules = Vec::new();
+    for l in 0..50 {
+        rules.push(rule(
+            l,
+            Condition::clear(1),
+            0,
+            (l + 49) % 50,
+            BEFORE_THE_LAST,
+        ));
+        if l % 2 == 1 {
+            rules.push(rule(l, Condition::set(1), 0, l, OPEN));
+        }
+    }
+    fifty(2, 2, |l| l % 2, rules)
+}
+
+/// The join of two random policies: 64 locations and 57,600 states. Of each
+/// eight locations so many must be left, and six have a rule for every event.
+fn joined(name: &'static str, must_leave: usize, seed: u64) -> Falling {
+    let part = |seed| {
+        let shape = Shape {
+            signals: 2,
+            locations: 8,
+            rules_per_location: 2,
+            violations: 10,
+            ceilings: &[4, 5],
+        };
+        let mut policy = shape.generate(seed);
+        policy.locations[8 - must_leave..].fill(1);
+        let last = policy.rules.iter_mut().skip(1).step_by(2);
+        for rule in last.filter(|rule| rule.source < 6) {
+            rule.input = Condition::ANY;
+            rule.output = Condition::ANY;
+            rule.bounds.fill(OPEN);
+        }
+        policy.encode()
+    };
+    let mut file = vec![0; LONGEST_FILE];
+    let length = plain::join(&part(seed), &part(seed + 100), &mut file).expect("they join");
+    file.truncate(length);
+    Falling { name, file }
+}
+
+#[cfg(test)]
+mod tests {
+    use super::*;
+
+    #[test]
+    fn both_methods_leave_the_marks_of_the_plain_program() {
+        for falling in all() {
+            for reading in [1, 2] {
+                let swept = plain::looks::sweeps(reading, &falling.file).expect("a policy");
+                let walked = plain::looks::walk(reading, &falling.file).expect("a policy");
+                assert_eq!(swept.marks, walked.marks, "{}", falling.name);
+            }
+        }
+    }
+
+    #[test]
+    fn the_walk_looks_at_no_rule_of_a_state_twice() {
+        for falling in all() {
+            let walked = plain::looks::walk(1, &falling.file).expect("a policy");
+            let most = plain::looks::rules_that_lead(1, &falling.file).expect("a policy");
+            assert!(walked.looks <= most, "{}", falling.name);
+        }
+    }
+}

@@ -1,0 +1,14 @@
+pub mod Onward
+pub mod Ways
+pub mod Cursor
+pub mod Path
+pub mod Code
+pub mod Lists
+pub mod Turn
+pub mod Fall
+pub mod Paint
+pub mod Turns
+pub mod Roots
+pub mod Reached
+pub mod Entry
+pub mod Promise

@@ -1,0 +1,24 @@
+// The second engine, for a controller in C: it works in slices that the caller lends.
+use prepare::Prepared;
+ghost use Rattle.groovepawn.specs.Fast.{FastCall};
+
+#[no_mangle]
+pub extern "C" fn groovepawn_prepare_fast(
+    reading: u8,
+    file: &[u8],
+    marks: &mut [u8],
+    stack: &mut [u16],
+    from: &mut [u16],
+    ways: &mut [u16],
+    bound: &mut [u16],
+    place: &mut [u16],
+) -> u64
+    ensures { λ r. ⌜ FastCall reading (now (file .entry)) (now (marks .entry)) (record { stack = now (stack .entry); from = now (from .entry); ways = now (ways .entry); bound = now (bound .entry); place = now (place .entry) }) r (now (marks .exit)) (record { stack = now (stack .exit); from = now (from .exit); ways = now (ways .exit); bound = now (bound .exit); place = now (place .exit) }) ⌝ }
+{
+    match fast::prepare_fast(reading, file, marks, stack, from, ways, bound, place) {
+        Prepared::Gives(s) => s.verdict as u64 * 256
+            + s.states as u64 * 65536
+            + s.live as u64 * 1099511627776,
+        Prepared::Refused(n) => n as u64,
+    }
+}
