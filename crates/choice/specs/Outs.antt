@@ -1,11 +1,13 @@
 -- The outputs that agree with a rule's output care and value, as a set.
 use mathlib.Core.Path.{_≡_, refl, sym}
 use mathlib.Core.Bool.{Bool, true, false, cond, _&&_, not}
-use Prim.Native.Nat.{ℕ, _-_, _/_, _%_, _≤_, _<_}
+use mathlib.Core.List.{List, [], _∷_}
+use Prim.Native.Nat.{ℕ, _-_, _*_, _/_, _%_, _^_, _≤_, _<_}
 use native.Mathlib.Omega.{arith}
 use lib.Dec.{eqb}
 use lib.Bits.{bitAnd, and-le-r}
-use borrow.Author.Tests.{eq-eqb}
+use lib.ListN.{getD}
+use borrow.Author.Tests.{eq-eqb, eqb-true, not-false}
 use Rattle.streams.specs.Choose.{any, any-none}
 use Rattle.choice.specs.Sets.{has}
 
@@ -40,3 +42,47 @@ outs-has care value y h e l =
     go true false q = sym q
     go false true q = q
     go false false q = refl
+
+-- The numbers of the code: for each of sixteen care bits, the outputs in which all of them are 0.
+unfoldable pub clear : List ℕ
+clear =
+    0xFFFF ∷ 0x5555 ∷ 0x3333 ∷ 0x1111 ∷ 0x0F0F ∷ 0x0505 ∷ 0x0303 ∷ 0x0101 ∷ 0x00FF ∷ 0x0055 ∷ 0x0033 ∷ 0x0011 ∷ 0x000F ∷ 0x0005 ∷ 0x0003 ∷ 0x0001 ∷ []
+
+-- Those that agree with a value stand as much higher as it says: computed, and none does not.
+strays : ℕ → ℕ → Bool
+strays care value = not (eqb ((getD clear care 0 * 2 ^ bitAnd value care) % 2 ^ 16) (outs care value))
+
+none-strays : any (λ care. any (strays care) 16) 16 ≡ false
+unfolding any outs clear strays
+none-strays = refl
+
+pub clear-outs : (care value : ℕ) → care < 16 → value < 16 → (getD clear care 0 * 2 ^ bitAnd value care) % 2 ^ 16 ≡ outs care value
+unfolding strays
+clear-outs care value h l = eqb-true _ _ (not-false _ (any-none (strays care) 16 (any-none _ 16 none-strays care h) value l))
+
+-- Only the first four bits count.
+pub outs-low : (care value : ℕ) → outs (care % 16) (value % 16) ≡ outs care value
+unfolding outs
+outs-low care value =
+    rw (
+      bit0 care,
+      bit0 value,
+      bit1 care,
+      bit1 value,
+      bit2 care,
+      bit2 value,
+      bit3 care,
+      bit3 value,
+    )
+  where
+    bit0 : (n : ℕ) → n % 16 % 2 ≡ n % 2
+    bit0 n = omega arith
+
+    bit1 : (n : ℕ) → n % 16 / 2 % 2 ≡ n / 2 % 2
+    bit1 n = omega arith
+
+    bit2 : (n : ℕ) → n % 16 / 4 % 2 ≡ n / 4 % 2
+    bit2 n = omega arith
+
+    bit3 : (n : ℕ) → n % 16 / 8 % 2 ≡ n / 8 % 2
+    bit3 n = omega arith

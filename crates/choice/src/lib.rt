@@ -7,7 +7,7 @@ pub use chooser::Choice;
 pub use chooser::nearest;
 pub use chooser::standing;
 pub use sets::all_below;
-pub use sets::gain;
+pub use sets::gather;
 pub use sets::is_left;
 pub use sets::outs;
 pub use sets::room;

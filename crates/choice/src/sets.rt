@@ -6,29 +6,44 @@ ghost use lib.ListN.{length, getD, replicate};
 ghost use lib.Bits.{bitAnd, bitOr, bitXor};
 ghost use Rattle.streams.specs.Choose.{any};
 ghost use Rattle.choice.specs.Sets.{allBelow};
-ghost use Rattle.choice.specs.Outs.{column, outs};
+ghost use Rattle.choice.specs.Outs.{clear, outs};
 ghost use Rattle.choice.specs.Sets.{agreed};
 ghost use Rattle.choice.specs.Changed.{Changed};
 ghost use Rattle.choice.specs.After.{after};
 
-// Of one output signal: the outputs that agree; `ones` are those in which its bit is 1.
-fn column(care: usize, value: usize, ones: u16) -> u16
-    ensures { λ r. ⌜ r ≡ column care value ones ⌝ }
+// For each of sixteen care bits, the outputs in which all of them are 0.
+const CLEAR: [u16; 16] = [
+    0xFFFF,
+    0x5555,
+    0x3333,
+    0x1111,
+    0x0F0F,
+    0x0505,
+    0x0303,
+    0x0101,
+    0x00FF,
+    0x0055,
+    0x0033,
+    0x0011,
+    0x000F,
+    0x0005,
+    0x0003,
+    0x0001,
+];
+
+// The outputs that agree with the care bits and 0, moved up to those that agree with the value. The table is lent: a constant is laid out anew wherever it is read.
+fn moved_up(table: &[u16; 16], care: usize, value: usize) -> u16
+    requires { ⌜ (now table ≡ clear) × (care < 16) × (value < 16) ⌝ }
+    ensures { λ r. ⌜ r ≡ outs care value ⌝ }
 {
-    if care % 2 == 1 {
-        if value % 2 == 1 { ones } else { 65535 - ones }
-    } else {
-        65535
-    }
+    table[care] << (value & care)
 }
 
-// The outputs that agree with the care bits and the value.
+// The outputs that agree with the care bits and the value, of which only the first four count.
 pub fn outs(care: usize, value: usize) -> u16
     ensures { λ r. ⌜ r ≡ outs care value ⌝ }
 {
-    let low = column(care, value, 0xAAAA) & column(care / 2, value / 2, 0xCCCC);
-    let high = column(care / 4, value / 4, 0xF0F0) & column(care / 8, value / 8, 0xFF00);
-    low & high
+    moved_up(&CLEAR, care % 16, value % 16)
 }
 
 // All numbers below n.
@@ -89,21 +104,24 @@ pub fn take(left: &mut [u16; 16], inputs: usize, care: usize, value: usize, set:
     }
 }
 
-// Adds to what is found what is left and agrees with the care bits, the value and the set.
-pub fn gain(
+// The same, and what agrees with the set `led` instead is found.
+pub fn gather(
+    left: &mut [u16; 16],
     found: &mut [u16; 16],
-    left: &[u16; 16],
     inputs: usize,
     care: usize,
     value: usize,
     set: u16,
+    led: u16,
 )
-    requires { ⌜ (inputs ≤ 16) × (care < 16) × (bitAnd value care ≡ value) × (length (now found) ≡ 16) ⌝ }
-    ensures { λ _. ⌜ Changed (λ x. bitOr (getD (now (found .entry)) x 0) (agreed care value set x (getD (now (left .entry)) x 0))) inputs (now (found .entry)) (now (found .exit)) ⌝ }
+    requires { ⌜ (inputs ≤ 16) × (care < 16) × (bitAnd value care ≡ value) × (length (now left) ≡ 16) × (length (now found) ≡ 16) ⌝ }
+    ensures { λ _. ⌜ Changed (λ x. bitXor (getD (now (left .entry)) x 0) (agreed care value set x (getD (now (left .entry)) x 0))) inputs (now (left .entry)) (now (left .exit)) ⌝ }
+    ensures { λ _. ⌜ Changed (λ x. bitOr (getD (now (found .entry)) x 0) (agreed care value led x (getD (now (left .entry)) x 0))) inputs (now (found .entry)) (now (found .exit)) ⌝ }
 {
     let mut x = value;
     while x < inputs {
-        found[x] = found[x] | (left[x] & set);
+        found[x] = found[x] | left[x] & led;
+        left[x] = left[x] ^ left[x] & set;
         x = after(care, x);
     }
 }

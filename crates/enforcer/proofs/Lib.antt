@@ -1,4 +1,5 @@
 pub mod Laws
+pub mod DecidedLaws
 pub mod RuleLaws
 pub mod RunLaws
 pub mod WayLaws

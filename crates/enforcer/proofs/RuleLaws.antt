@@ -2,17 +2,16 @@
 use mathlib.Core.Path.{_≡_, refl, ap}
 use mathlib.Core.Bool.{Bool, true, false, cond, _&&_}
 use mathlib.Core.List.{List}
-use mathlib.Core.Option.{Option, none, some, Option·map, Option·none-ne-some, Option·some-injective, map-eq-some-iff, bind}
+use mathlib.Core.Option.{Option, none, some, Option·map, Option·none-ne-some, Option·some-injective, map-eq-some-iff}
 use Prim.Native.Nat.{ℕ, zero, suc, _+_, _-_, _*_, _≤_, _<_}
-use native.Mathlib.Nat.{zero-add}
 use native.Mathlib.Numerals.{add-one, unary-clauses}
 use native.Mathlib.Omega.{arith}
 use lib.ListN.{length, getD, take, drop}
 use lib.Seq.{drop-cons, getD-take, length-take-le}
-use Rattle.policy.specs.Rules.{Place, hold, within, fires, decides, stopped, taken}
+use Rattle.policy.specs.Rules.{Place, hold, within, fires, decides}
 use Rattle.policy.specs.File.{pairAt, boundsFrom, ruleSize, ruleFrom, rulesFrom}
 use Rattle.streams.specs.Stream.{Event}
-use Rattle.enforcer.specs.Code.{decider, bare, stepBy}
+use Rattle.enforcer.specs.Code.{decider}
 
 -- The bounds from the clock i on hold for its value and those after it; a turn, and the end.
 abbrev pub holdFrom : List ℕ → ℕ → ℕ → List ℕ → ℕ → Bool
@@ -94,9 +93,3 @@ module _ (k : ℕ) (f : List ℕ) (s : Place) (e : Event) where
       go true o = ap (λ (p : ℕ). some (ruleFrom k f p)) (omega arith)
       go false none = refl
       go false (some i) = ap (λ (p : ℕ). some (ruleFrom k f p)) (omega arith)
-
-  -- One tick, by the number of the rule that decides.
-  pub step-decider : (t : Place) (cs : List ℕ) (n : ℕ) (o : Option ℕ) → o ≡ decider (rulesFrom k f 0 n) s e
-      → stepBy (bare cs (rulesFrom k f 0 n)) s t e
-      ≡ bind (Option·map (λ i. ruleFrom k f (i * ruleSize k)) o) (taken stopped (bare cs (rulesFrom k f 0 n)) t)
-  step-decider t cs n o p = rw (decider-decides n 0, ← p) (simp zero-add)

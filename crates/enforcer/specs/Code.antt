@@ -1,12 +1,12 @@
 -- What the code's own types stand for, and the definitions that its leaves meet.
 use mathlib.Core.Bool.{true, false, cond}
 use mathlib.Core.List.{List, [], _∷_}
-use mathlib.Core.Option.{Option, none, some, Option·map, bind}
+use mathlib.Core.Option.{Option, none, some, Option·map}
 use Prim.Native.Nat.{ℕ, suc}
 use lib.Dec.{eqb}
 use lib.ListN.{take}
 use Rattle.streams.specs.Stream.{Event}
-use Rattle.policy.specs.Rules.{Rule, Policy, Place, fires, decides, stopped, advance, taken}
+use Rattle.policy.specs.Rules.{Rule, Place, fires, stopped, advance}
 use Rattle.policy.specs.Number.{four, locationFrom, clocksFrom}
 use Rattle.policy.specs.declared.Layout.{Layout}
 use Rattle.enforcer.specs.declared.state.State.{State}
@@ -53,14 +53,6 @@ decider (r ∷ rs) s e = cond (fires r s e) (some 0) (Option·map suc (decider r
 abbrev pub foundSaid : Found → Option ℕ
 foundSaid (Found.Rule i) = some i
 foundSaid Found.Nothing = none
-
--- A policy of which only the clocks and the rules are asked.
-abbrev pub bare : List ℕ → List Rule → Policy
-bare cs rs = record { reading = 1; inputs = []; outputs = []; ceilings = cs; locations = 0; left = []; rules = rs }
-
--- One tick from the place s, if the bounds see the place v.
-abbrev pub stepBy : Policy → Place → Place → Event → Option Place
-stepBy p v s e = bind (decides (p .rules) v e) (taken stopped p s)
 
 -- The state after a step, or a violation and the state before it.
 abbrev pub stepFrom : State → Option Place → Step

@@ -1,5 +1,4 @@
--- What the layout of a checked file makes sure of: its counts are the policy's, a location's own rules lie within the file, and a step by them alone is the
--- policy's.
+-- What the layout of a checked file makes sure of: its counts are the policy's, and a location's own rules lie within the file.
 use mathlib.Core.Path.{_≡_, refl, sym, ap, _∙_, subst}
 use mathlib.Core.Bool.{Bool, true, false, cond, false≢true}
 use mathlib.Core.List.{List}
@@ -11,16 +10,16 @@ use lib.Dec.{eqb}
 use lib.ListN.{length, getD, take, replicate, length-append}
 use lib.Seq.{append-snoc, take-at, getD-take, getD-append-add}
 use Rattle.streams.specs.Stream.{Event}
-use Rattle.policy.specs.Rules.{Rule, Policy, Place, inputValues, outputValues, stopped, decides, advance, tested, looked, taken, step}
+use Rattle.policy.specs.Rules.{Policy, Place, inputValues, outputValues, stopped, advance, tested, looked, step}
 use Rattle.policy.specs.File.{part, ruleSize, rulesFrom, rulesOf, ceilingsOf, clocksAt, clockCount, ruleCount, rulesStart, policyOf}
 use Rattle.policy.specs.Check.{refusalOf, refusalUnder, under-none}
 use Rattle.policy.specs.Number.{four, states, numberFrom, locationFrom, clocksFrom, numberOf, placeOf}
 use Rattle.policy.specs.Numbered.{number-take, number-ceilings, location-ceilings, clocks-ceilings, clocks-length, numberOf-below}
 use Rattle.policy.specs.Sound.{WellFormed, Inside}
-use Rattle.policy.specs.Checked.{Framed, frame, checked-file, inputs-length, outputs-length, pairs-length, well-sound, well-rising}
+use Rattle.policy.specs.Checked.{Framed, frame, checked-file, inputs-length, outputs-length, pairs-length, well-sound}
 use Rattle.policy.specs.Stays.{Of, advance-take, step-inside}
 use Rattle.policy.specs.Parts.{rules-part}
-use Rattle.policy.specs.Own.{level, own, ownOf, level-own, own-ends, own-reads, decides-own}
+use Rattle.policy.specs.Own.{level, own, ownOf, level-own, own-ends, own-reads}
 use Rattle.policy.specs.Layout.{layoutOf, checkedUnder, under-says}
 use Rattle.policy.specs.declared.Layout.{Layout}
 use Rattle.policy.specs.declared.Checked.{Checked}
@@ -28,10 +27,9 @@ use Rattle.policy.specs.declared.own.Own.{Own}
 use Rattle.index.specs.Sections.{Sections, sections-filled, sections-rules}
 use Rattle.enforcer.specs.State.{placeIn, stateOf, isMarked}
 use Rattle.enforcer.specs.Tick.{arrives, reaches}
-use Rattle.enforcer.specs.Code.{eventXY, asPlace, place, stateFrom, stateAt, seenBy, bare, stepBy, stepFrom}
-use Rattle.enforcer.specs.Ready.{Laid, HereOf, Standing}
+use Rattle.enforcer.specs.Code.{eventXY, asPlace, place, stateFrom, stateAt, seenBy, stepFrom}
+use Rattle.enforcer.specs.Ready.{Laid, Standing}
 use Rattle.enforcer.specs.declared.state.State.{State}
-use Rattle.enforcer.specs.declared.reach.Here.{Here}
 use Rattle.enforcer.specs.declared.next.Step.{Step}
 
 -- The number of a state, as the code works it out.
@@ -99,12 +97,6 @@ laid-of reading f r e z =
     let n : refusalUnder reading f ≡ 0 = sym (under-says reading f .0) ∙ sym (ap (λ (c : Checked). c .refusal) e) ∙ z in
     let l : r .layout ≡ layoutOf reading f = ap (λ (c : Checked). c .layout) e ∙ under-says reading f .1 n in
     (subst (Laid f) (sym l) (laid-out reading f (under-none reading f .0 n .1)), ap (λ (c : Layout). c .reading) l)
-
--- Where the clocks and the decision are the same, the step is.
-step-bare : {cs : List ℕ} (rs : List Rule) (p : Policy) {v : Place} (s : Place) (e : Event) → cs ≡ p .ceilings → v ≡ looked stopped p s →
-    decides rs v e ≡ decides (p .rules) v e → stepBy (bare cs rs) v s e ≡ step stopped p s e
-unfolding step taken
-step-bare rs p s e c v d = rw (c, d, v)
 
 -- The state that a place of the policy is stands for that place.
 pub placeIn-stateOf : (p : Policy) {t : Place} → Inside p t → placeIn p (stateOf t) ≡ t
@@ -187,18 +179,6 @@ module _ {f : List ℕ} {l : Layout} (k : Laid f l) where
     -- All of them are the location's.
     pub own-level : level a (rulesFrom (l .clocks) (part f (l .«rules_start» + o .start) (o .count * ruleSize (l .clocks))) 0 (o .count)) ≡ o .count
     own-level = ap (level a) own-rules ∙ level-own a (rulesOf f) ∙ sym (ap (λ (z : Own). z .count) e)
-
-  -- A step by the location's own rules is the policy's.
-  pub own-step : {h : Here} (s : State) (e : Event) → HereOf f l s h →
-      stepBy
-      (bare (take (l .clocks) (l .ceilings))
-      (rulesFrom (l .clocks) (part f (l .«rules_start» + h .own .start) (h .own .count * ruleSize (l .clocks))) 0 (h .own .count)))
-      (place (l .clocks) (h .seen)) (place (l .clocks) s) e
-      ≡ step stopped (policyOf (l .reading) f) (place (l .clocks) s) e
-  unfolding policyOf
-  own-step s e h =
-      step-bare _ (policyOf (l .reading) f) (place (l .clocks) s) e laid-ceilings (h .seen)
-      (rw (h .seen, own-rules (s .location) (h .own)) (decides-own (looked stopped (policyOf (l .reading) f) (place (l .clocks) s)) e (well-rising (policyOf (l .reading) f) laid-well)))
 
   -- The state that bounds see, as the code works it out, stands for the place looked at.
   pub laid-seen : (s : State) → place (l .clocks) (seenBy l s) ≡ looked stopped (policyOf (l .reading) f) (place (l .clocks) s)

@@ -12,4 +12,5 @@ pub mod Arrived
 pub mod Promises
 pub mod Ways
 pub mod Pass
+pub mod Decided
 pub mod Choice

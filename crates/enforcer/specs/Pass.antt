@@ -6,7 +6,7 @@ use Prim.Native.Nat.{ℕ, zero, suc, _+_, _-_, _*_, _≤_, _<_}
 use native.Mathlib.Nat.{suc-mul, mul-le-mul-right, pow-le-pow-right}
 use native.Mathlib.Omega.{arith}
 use lib.Dec.{eqb, ltb}
-use lib.Bits.{bitAnd, bitOr, bitXor, or-zero-r, xor-zero-r}
+use lib.Bits.{bitAnd, bitOr, bitXor, and-zero-r, or-zero-r, xor-zero-r}
 use lib.ListN.{length, getD, take, drop, replicate}
 use borrow.Author.Tests.{lt-ltb, le-ltb, ltb-true, ltb-false, eqb-true}
 use Rattle.streams.specs.Choose.{any, any-from, any-none, any-has, any-fails}
@@ -54,11 +54,17 @@ module _ (s : Place) where
   unfolding takes
   parted-bounds {r} {n} e = record { says = rw (e, none-any n); parts = λ q. absurd (false≢true q) }
 
+  -- One whose bounds hold takes what its bytes say.
+  pub parts-so : {r : Rule} → holds s r ≡ true → r .inCare < 16 → bitAnd (r .inValue) (r .inCare) ≡ r .inValue →
+      Parts r (r .inCare) (r .inValue) (outs (r .outCare) (r .outValue))
+  unfolding takes
+  parts-so e few within = record { few = few; within = within; same = λ x l. rw e }
+
   pub parted-so : {r : Rule} {n : ℕ} {left : List ℕ} {some : Bool} → holds s r ≡ true → r .inCare < 16 → bitAnd (r .inValue) (r .inCare) ≡ r .inValue →
       some ≡ any (λ x. ltb 0 (agreed (r .inCare) (r .inValue) (outs (r .outCare) (r .outValue)) x (getD left x 0))) n →
       Parted r n left some (r .inCare) (r .inValue) (outs (r .outCare) (r .outValue))
   unfolding takes
-  parted-so e few within d = record { says = rw e d; parts = λ q. record { few = few; within = within; same = λ x l. rw e } }
+  parted-so e few within d = record { says = rw e d; parts = λ q. parts-so e few within }
 
   module _ {r : Rule} {n : ℕ} {left : List ℕ} {care value set : ℕ} (k : Parted r n left false care value set) where
     pub parted-none : (x : ℕ) → x < n → takes s r x (getD left x 0) ≡ 0
@@ -100,12 +106,16 @@ module _ (s : Place) (p : Policy) (marks : List ℕ) where
 
   module _ {r : Rule} {n : ℕ} {left rest : List ℕ} {care value set : ℕ} (k : Parts (looked stopped p s) r care value set)
       (c : Changed (λ x. bitXor (getD left x 0) (agreed care value set x (getD left x 0))) n left rest) (found : List ℕ) where
-    pub gathers-lost : leads s p marks r ≡ false → Gathers r n left rest found found
-    gathers-lost e = record { taken = parts-taken (looked stopped p s) k c; gained = changed-not (λ x h. rw e) }
-
-    pub gathers-led : leads s p marks r ≡ true → {more : List ℕ} →
-        Changed (λ x. bitOr (getD found x 0) (agreed care value set x (getD left x 0))) n found more → Gathers r n left rest found more
-    gathers-led e g = record { taken = parts-taken (looked stopped p s) k c; gained = changed-by (λ x h. rw (e, k .same x (getD left x 0))) g }
+    -- All of it is found, or nothing.
+    pub gathers-led : {led : ℕ} → led ≡ cond (leads s p marks r) set 0 → {more : List ℕ} →
+        Changed (λ x. bitOr (getD found x 0) (agreed care value led x (getD left x 0))) n found more → Gathers r n left rest found more
+    gathers-led {led} e g =
+        record { taken = parts-taken (looked stopped p s) k c; gained = changed-by (λ x h. go x (leads s p marks r) e) g }
+      where
+        go : (x : ℕ) (b : Bool) → led ≡ cond b set 0 →
+            bitOr (getD found x 0) (agreed care value led x (getD left x 0)) ≡ cond b (bitOr (getD found x 0) (takes (looked stopped p s) r x (getD left x 0))) (getD found x 0)
+        go x true q = rw q (ap (bitOr (getD found x 0)) (k .same x (getD left x 0)))
+        go x false q = rw (q, and-zero-r, cond-same {A = ℕ} (eqb (bitAnd x care) value) 0, or-zero-r) refl
 
   -- What is known with the rules rs still to come.
   pub record Gathering (rs : List Rule) (left found : List ℕ) : Type 0 where

@@ -3,6 +3,7 @@ use crate::pass::allowed;
 use crate::pass::may_stand;
 use crate::pass::row;
 use crate::reach::Here;
+use crate::reach::reaches;
 use crate::reach::values;
 use crate::state::State;
 use choice::Choice;
@@ -11,7 +12,7 @@ use choice::standing;
 use policy::Layout;
 ghost use mathlib.Core.Path.{_≡_};
 ghost use Prim.Native.Nat.{_<_};
-ghost use Rattle.policy.specs.Rules.{inputValues};
+ghost use Rattle.policy.specs.Rules.{inputValues, outputValues};
 ghost use Rattle.policy.specs.File.{policyOf};
 ghost use Rattle.enforcer.specs.Tick.{inputChoice, outputChoice};
 ghost use Rattle.enforcer.specs.Code.{place};
@@ -37,7 +38,7 @@ pub(crate) fn choose_input(
     nearest(standing(sets), x, values(layout.inputs))
 }
 
-// The outputs that go with x, from which one is chosen.
+// The output as read is asked about alone too; if it may not stand with x, one is chosen from the outputs that may.
 pub(crate) fn choose_output(
     file: &[u8],
     layout: Layout,
@@ -47,9 +48,12 @@ pub(crate) fn choose_output(
     x: u8,
     y: u8,
 ) -> Choice
-    requires { ⌜ Ready (now file) layout here (now marks) state ⌝ }
+    requires { ⌜ Ready (now file) layout here (now marks) state × (y < outputValues (policyOf (layout .reading) (now file))) ⌝ }
     ensures { λ r. ⌜ choiceSaid r ≡ outputChoice (policyOf (layout .reading) (now (file .entry))) (now (marks .entry)) (place (layout .clocks) state) x y ⌝ }
 {
+    if reaches(file, layout, here, marks, state, x, y) {
+        return Choice::Value(y);
+    }
     nearest(
         row(file, layout, here, marks, state, x),
         y,

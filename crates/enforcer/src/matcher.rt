@@ -5,7 +5,7 @@ use policy::bytes::pair_within;
 ghost use mathlib.Core.Path.{_≡_};
 ghost use Prim.Native.Nat.{_+_, _*_, _≤_, _<_, _^_};
 ghost use lib.ListN.{length, take};
-ghost use Rattle.policy.specs.Rules.{hold, fires};
+ghost use Rattle.policy.specs.Rules.{hold, fires, within};
 ghost use Rattle.policy.specs.File.{byteAt, ruleSize, boundsFrom, ruleFrom, rulesFrom};
 ghost use Rattle.policy.specs.Own.{level};
 ghost use Rattle.enforcer.specs.Code.{eventXY, place, decider, foundSaid};
@@ -15,7 +15,18 @@ pub enum Found {
     Nothing,
 }
 
-// The bounds from `at` on hold for the clock values.
+// No value is above 65,535, so that as a high it needs no test of its own.
+fn is_within(low: usize, high: usize, value: u16) -> bool
+    ensures { λ r. ⌜ r ≡ within (record { low = low; high = high }) value ⌝ }
+{
+    let value = value as usize;
+    if value < low {
+        return false;
+    }
+    value <= high
+}
+
+// The bounds from `at` on hold for the clock values. The turns are counted by a constant, so that the compiler writes them out.
 pub(crate) fn bounds_hold(
     rules: &[u8],
     at: usize,
@@ -26,17 +37,14 @@ pub(crate) fn bounds_hold(
     ensures { λ r. ⌜ r ≡ hold (boundsFrom (now (rules .entry)) at clocks) (take clocks values) ⌝ }
 {
     let mut i = 0;
-    while i < clocks {
+    while i < State::CLOCKS {
+        if clocks <= i {
+            return true;
+        }
         let low = pair_within(rules, at + 4 * i);
         let high = pair_within(rules, at + 4 * i + 2);
-        let value = values[i] as usize;
-        if value < low {
+        if !is_within(low, high, values[i]) {
             return false;
-        }
-        if high != 65535 {
-            if high < value {
-                return false;
-            }
         }
         i += 1;
     }
@@ -66,13 +74,13 @@ pub fn first_rule(rules: &[u8], count: usize, clocks: usize, state: State, x: u8
 {
     let size = 7 + 4 * clocks;
     let mut at = 0;
-    let mut i = 0;
-    while i < count {
+    let mut ahead = count;
+    while 0 < ahead {
         if rule_fires(rules, at, clocks, state, x, y) {
-            return Found::Rule(i);
+            return Found::Rule(count - ahead);
         }
         at += size;
-        i += 1;
+        ahead -= 1;
     }
     Found::Nothing
 }

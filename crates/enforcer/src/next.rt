@@ -1,16 +1,15 @@
 // The next state.
 use crate::matcher::Found;
-use crate::matcher::first_rule;
 use crate::state::State;
+use policy::Layout;
 use policy::bytes::byte_within;
 ghost use mathlib.Core.Path.{_≡_};
-ghost use Prim.Native.Nat.{_*_, _≤_};
-ghost use lib.ListN.{length, take};
-ghost use Rattle.policy.specs.Rules.{stopped, advance};
-ghost use Rattle.policy.specs.Number.{four};
-ghost use Rattle.policy.specs.File.{ruleSize, rulesFrom};
-ghost use Rattle.policy.specs.Own.{level};
-ghost use Rattle.enforcer.specs.Code.{eventXY, place, bare, stepBy, stepFrom};
+ghost use mathlib.Core.Option.{bind};
+ghost use Rattle.policy.specs.Rules.{stopped, advance, taken};
+ghost use Rattle.policy.specs.File.{policyOf};
+ghost use Rattle.enforcer.specs.Code.{place, stepFrom};
+ghost use Rattle.enforcer.specs.Ready.{Laid};
+ghost use Rattle.enforcer.specs.Decided.{ruleSaid, Stands};
 
 // What an event does: the state after it, or a violation and the state before it.
 pub struct Step {
@@ -46,30 +45,18 @@ pub(crate) fn advanced(
 }
 
 impl State {
-    // The next state by the location's own rules, whose bounds see another: the first that fires decides, and no such rule means violation.
-    pub(crate) fn step(
-        self,
-        seen: State,
-        rules: &[u8],
-        count: usize,
-        ceilings: [u16; State::CLOCKS],
-        clocks: usize,
-        x: u8,
-        y: u8,
-    ) -> Step
-        requires { ⌜ (count ≤ 256) × (clocks ≤ 4) × (count * ruleSize clocks ≤ length (now rules)) ⌝ }
-        requires { ⌜ level (seen .location) (rulesFrom clocks (now rules) 0 count) ≡ count ⌝ }
-        requires { ⌜ ceilings ≡ four (take clocks ceilings) ⌝ }
-        ensures { λ r. ⌜ r ≡ stepFrom self (stepBy (bare (take clocks ceilings) (rulesFrom clocks (now (rules .entry)) 0 count)) (place clocks seen) (place clocks self) (eventXY x y)) ⌝ }
+    // The next state by the rule that decides. No such rule means violation, which leaves the state as it is.
+    pub(crate) fn by(self, file: &[u8], layout: Layout, rule: Found) -> Step
+        requires { ⌜ Laid (now file) layout × Stands (now file) layout (self .location) rule ⌝ }
+        ensures { λ r. ⌜ r ≡ stepFrom self (bind (ruleSaid (layout .clocks) (now (file .entry)) rule) (taken stopped (policyOf (layout .reading) (now (file .entry))) (place (layout .clocks) self))) ⌝ }
     {
-        match first_rule(rules, count, clocks, seen, x, y) {
+        match rule {
             Found::Nothing => Step {
                 permitted: false,
                 state: self,
             },
-            Found::Rule(number) => {
-                let at = number * (7 + 4 * clocks);
-                let target = byte_within(rules, at + 6);
+            Found::Rule(at) => {
+                let target = byte_within(file, at + 6);
                 if target == 255 {
                     return Step {
                         permitted: false,
@@ -77,11 +64,12 @@ impl State {
                     };
                 }
                 let values = self.clocks;
+                let ceilings = layout.ceilings;
                 Step {
                     permitted: true,
                     state: State {
                         location: target as u16,
-                        clocks: advanced(byte_within(rules, at + 5), ceilings, values),
+                        clocks: advanced(byte_within(file, at + 5), ceilings, values),
                     },
                 }
             }

@@ -1,6 +1,9 @@
 // Which events take a state to a marked one.
+use crate::matcher::Found;
+use crate::matcher::first_rule;
 use crate::next::Step;
 use crate::next::advanced;
+use crate::pass::leads;
 use crate::state::State;
 use policy::Layout;
 use policy::Own;
@@ -14,6 +17,7 @@ ghost use Rattle.enforcer.specs.Tick.{reaches};
 ghost use Rattle.enforcer.specs.Code.{eventXY, place, seenBy, stepFrom};
 ghost use Rattle.enforcer.specs.Arrived.{arrival};
 ghost use Rattle.enforcer.specs.Ready.{Laid, HereOf, Ready};
+ghost use Rattle.enforcer.specs.Decided.{Decided};
 
 // What is worked out once for a state: the rules of its location, and the state that their bounds see.
 pub struct Here {
@@ -70,27 +74,34 @@ pub fn here_by(file: &[u8], layout: Layout, own: Own, state: State) -> Here
     }
 }
 
-// The state after the event x, y, by the rules of its own location.
-pub(crate) fn step_of(file: &[u8], layout: Layout, here: Here, state: State, x: u8, y: u8) -> Step
+// The rule that decides the event x, y, by where it stands in the file: the first of the location's own that fires.
+fn rule_of(file: &[u8], layout: Layout, here: Here, state: State, x: u8, y: u8) -> Found
     requires { ⌜ Laid (now file) layout × HereOf (now file) layout state here ⌝ }
-    ensures { λ r. ⌜ r ≡ stepFrom state (step stopped (policyOf (layout .reading) (now (file .entry))) (place (layout .clocks) state) (eventXY x y)) ⌝ }
+    ensures { λ r. ⌜ Decided (now (file .entry)) layout state (eventXY x y) r ⌝ }
 {
     let clocks = layout.clocks;
-    let ceilings = layout.ceilings;
+    let count = here.own.count;
+    let size = 7 + 4 * clocks;
     let from = layout.rules_start + here.own.start;
-    let to = from + here.own.count * (7 + 4 * clocks);
-    state.step(
-        here.seen,
-        &file[from..to],
-        here.own.count,
-        ceilings,
-        clocks,
-        x,
-        y,
-    )
+    let to = from + count * size;
+    match first_rule(&file[from..to], count, clocks, here.seen, x, y) {
+        Found::Nothing => Found::Nothing,
+        Found::Rule(number) => Found::Rule(from + number * size),
+    }
 }
 
-// What the event x, y does; a next state that is not marked counts as none.
+impl State {
+    // The state after the event x, y.
+    pub(crate) fn step(self, file: &[u8], layout: Layout, here: Here, x: u8, y: u8) -> Step
+        requires { ⌜ Laid (now file) layout × HereOf (now file) layout self here ⌝ }
+        ensures { λ r. ⌜ r ≡ stepFrom self (step stopped (policyOf (layout .reading) (now (file .entry))) (place (layout .clocks) self) (eventXY x y)) ⌝ }
+    {
+        let rule = rule_of(file, layout, here, self, x, y);
+        self.by(file, layout, rule)
+    }
+}
+
+// What the event x, y does; a next state that is not marked counts as none. Only a run asks this, so that the compiler lays it into the run's loop.
 pub(crate) fn arrival(
     file: &[u8],
     layout: Layout,
@@ -103,7 +114,8 @@ pub(crate) fn arrival(
     requires { ⌜ Ready (now file) layout here (now marks) state ⌝ }
     ensures { λ r. ⌜ r ≡ stepFrom state (arrival (policyOf (layout .reading) (now (file .entry))) (now (marks .entry)) (place (layout .clocks) state) x y) ⌝ }
 {
-    let step = step_of(file, layout, here, state, x, y);
+    let rule = rule_of(file, layout, here, state, x, y);
+    let step = state.by(file, layout, rule);
     if !step.permitted {
         return step;
     }
@@ -133,6 +145,8 @@ pub(crate) fn reaches(
     requires { ⌜ Ready (now file) layout here (now marks) state ⌝ }
     ensures { λ r. ⌜ r ≡ reaches (policyOf (layout .reading) (now (file .entry))) (now (marks .entry)) (place (layout .clocks) state) x y ⌝ }
 {
-    let step = arrival(file, layout, here, marks, state, x, y);
-    step.permitted
+    match rule_of(file, layout, here, state, x, y) {
+        Found::Nothing => false,
+        Found::Rule(at) => leads(file, layout, marks, state, at),
+    }
 }

@@ -4,7 +4,6 @@ use crate::choose::choose_output;
 use crate::reach::Here;
 use crate::reach::arrival;
 use crate::reach::here_by;
-use crate::reach::step_of;
 use crate::state::State;
 use choice::Choice;
 use policy::Layout;
@@ -42,14 +41,10 @@ pub(crate) fn output_tick(
     requires { ⌜ Ready (now file) layout here (now marks) state × (y < outputValues (policyOf (layout .reading) (now file))) ⌝ }
     ensures { λ r. ⌜ r ≡ tickFrom state (outputTick (policyOf (layout .reading) (now (file .entry))) (now (marks .entry)) (place (layout .clocks) state) x y) ⌝ }
 {
-    let read = arrival(file, layout, here, marks, state, x, y);
-    if read.permitted {
-        return released(x, y, read.state);
-    }
     match choose_output(file, layout, here, marks, state, x, y) {
         Choice::Nothing => stuck(state),
         Choice::Value(z) => {
-            let step = step_of(file, layout, here, state, x, z);
+            let step = state.step(file, layout, here, x, z);
             released(x, z, step.state)
         }
     }
@@ -77,7 +72,26 @@ fn stuck(state: State) -> Ticked
     }
 }
 
-// Both halves.
+// Both halves, one after the other.
+fn corrected(
+    file: &[u8],
+    layout: Layout,
+    here: Here,
+    marks: &[u8],
+    state: State,
+    x: u8,
+    y: u8,
+) -> Ticked
+    requires { ⌜ Ready (now file) layout here (now marks) state × (x < inputValues (policyOf (layout .reading) (now file))) × (y < outputValues (policyOf (layout .reading) (now file))) ⌝ }
+    ensures { λ r. ⌜ r ≡ tickFrom state (tick (policyOf (layout .reading) (now (file .entry))) (now (marks .entry)) (place (layout .clocks) state) (eventXY x y)) ⌝ }
+{
+    match choose_input(file, layout, here, marks, state, x) {
+        Choice::Nothing => stuck(state),
+        Choice::Value(z) => output_tick(file, layout, here, marks, state, z, y),
+    }
+}
+
+// Both halves at once where the event may stand as it was read.
 pub(crate) fn tick(
     file: &[u8],
     layout: Layout,
@@ -95,8 +109,5 @@ pub(crate) fn tick(
     if read.permitted {
         return released(x, y, read.state);
     }
-    match choose_input(file, layout, here, marks, state, x) {
-        Choice::Nothing => stuck(state),
-        Choice::Value(z) => output_tick(file, layout, here, marks, state, z, y),
-    }
+    corrected(file, layout, here, marks, state, x, y)
 }

@@ -5,20 +5,8 @@ use borrow.Author.Needs.{needs}
 use Rattle.enforcer.specs.Tick.{outputTick}
 use Rattle.choice.specs.Said.{choiceSaid}
 use Rattle.enforcer.specs.Chosen.{output-chosen}
-use Rattle.enforcer.specs.Arrived.{output-as-read}
 use Rattle.enforcer.proofs.tick.output_tick.Statement.{statement}
 use Rattle.enforcer.proofs.tick.output_tick.Tie as tie
-
-arrival-requires : tie.Need-arrival-requires
-arrival-requires c κs = search needs
-
-released-requires : tie.Need-released-requires
-released-requires c κs = search needs
-
-returns : tie.Need-returns
-returns c =
-    let b = c .before .before in
-    c .released .ensures ∙ output-as-read _ _ _ _ _ _ (b .arrival .ensures) (c .before .if1 .taken) (b .before .before .before .pre .1)
 
 choose-output-requires : tie.Need-choose-output-requires
 choose-output-requires c κs = search needs
@@ -32,36 +20,33 @@ stuck-requires c κs = search needs
 enum-known-z : tie.Need-enum-known-z
 enum-known-z c = search needs
 
-step-of-requires : tie.Need-step-of-requires
-step-of-requires c κs = search needs
+step-requires : tie.Need-step-requires
+step-requires c κs = let s = c .before .before .before .before .before .before in (s .pre .0 .standing .laid, s .pre .0 .here)
 
-released-requires-2 : tie.Need-released-requires-2
-released-requires-2 c κs = search needs
+released-requires : tie.Need-released-requires
+released-requires c κs = search needs
 
-returns-2 : tie.Need-returns-2
+returns : tie.Need-returns
 unfolding outputTick bind
-returns-2 c =
+returns c =
     let n = c .before .before .before in
     rw (sym (n .choose-output .ensures) ∙ ap choiceSaid (c .before .enum-told .given .1)) (c .stuck .ensures)
 
-returns-3 : tie.Need-returns-3
-returns-3 c =
+returns-2 : tie.Need-returns-2
+returns-2 c =
     let k = c .before .before .before in
     let r = output-chosen _ _ _ _ _ (sym (k .before .before .choose-output .ensures) ∙ ap choiceSaid (k .z .given .1)) in
-    rw (r .2, c .released2 .ensures, c .before .step-of .ensures, r .1)
+    rw (r .2, c .released .ensures, c .before .step .ensures, r .1)
 
 pub output-tick-spec : {M : Type 1} → statement M
 output-tick-spec =
     tie.close
     (tie.spec
-    arrival-requires
-    released-requires
-    returns
     choose-output-requires
     enum-told
     stuck-requires
     enum-known-z
-    step-of-requires
-    released-requires-2
-    returns-2
-    returns-3)
+    step-requires
+    released-requires
+    returns
+    returns-2)

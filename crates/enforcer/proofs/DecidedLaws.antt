@@ -1,0 +1,102 @@
+-- What the proofs of a decided event cite: which rule of the file decides it, and what that makes of the state.
+use mathlib.Core.Path.{_≡_, sym, ap, _∙_, subst}
+use mathlib.Core.Bool.{Bool, true, false, false≢true}
+use mathlib.Core.List.{List}
+use mathlib.Core.Option.{Option, some, none, Option·map, bind}
+use Prim.Native.Nat.{ℕ, zero, suc, _+_, _-_, _*_, _<_}
+use native.Mathlib.Nat.{suc-mul}
+use native.Mathlib.Omega.{arith}
+use borrow.Author.Tests.{eq-eqb}
+use Rattle.streams.specs.Stream.{Event}
+use Rattle.policy.specs.Rules.{Rule, Policy, Place, stopped, decides, looked, taken, step}
+use Rattle.policy.specs.File.{part, ruleSize, ruleFrom, rulesFrom, policyOf}
+use Rattle.policy.specs.Parts.{rules-part}
+use Rattle.policy.specs.Own.{decides-own}
+use Rattle.policy.specs.Checked.{well-rising}
+use Rattle.policy.specs.declared.Layout.{Layout}
+use Rattle.enforcer.specs.Tick.{reaches}
+use Rattle.enforcer.specs.Code.{eventXY, place, decider, stepFrom}
+use Rattle.enforcer.specs.Ready.{Laid, HereOf}
+use Rattle.enforcer.specs.Laid.{laid-well}
+use Rattle.enforcer.specs.Pass.{Ahead, RuleAt, own-here, own-ahead, ahead-rule, ahead-rest}
+use Rattle.enforcer.specs.Ways.{leads}
+use Rattle.enforcer.specs.Decided.{ruleSaid, Decided}
+use Rattle.enforcer.specs.declared.state.State.{State}
+use Rattle.enforcer.specs.declared.reach.Here.{Here}
+use Rattle.enforcer.specs.declared.next.Step.{Step}
+use Rattle.enforcer.specs.declared.matcher.Found.{Found}
+use Rattle.enforcer.specs.declared.matcher.Found.the-variants as Found
+use Rattle.enforcer.proofs.RuleLaws.{decider-lt, decider-decides}
+
+-- A violation takes the state nowhere.
+pub taken-violation : (p : Policy) (s : Place) (r : Rule) → r .target ≡ 255 → taken stopped p s r ≡ none
+unfolding taken
+taken-violation p s r e = rw (eq-eqb _ _ e)
+
+-- A rule that is found is found at one place.
+is-rule : Found → Bool
+is-rule (Found.Rule at) = true
+is-rule Found.Nothing = false
+
+rule-place : Found → ℕ
+rule-place (Found.Rule at) = at
+rule-place Found.Nothing = 0
+
+module _ {f : List ℕ} {l : Layout} (k : Laid f l) where
+  -- Each of the rules ahead is the location's.
+  pub ahead-at : {a at : ℕ} (n i : ℕ) → Ahead f l a at n → i < n → RuleAt f l a (at + i * ruleSize (l .clocks))
+  ahead-at {a} {at} n zero h m =
+      let e : at ≡ at + 0 * ruleSize (l .clocks) = omega arith in
+      subst (RuleAt f l a) e (ahead-rule k h m)
+  ahead-at {a} {at} n (suc i) h m =
+      let e : at + ruleSize (l .clocks) + i * ruleSize (l .clocks) ≡ at + suc i * ruleSize (l .clocks) = omega (arith, suc-mul i (ruleSize (l .clocks))) in
+      subst (RuleAt f l a) e (ahead-at (n - 1) i (ahead-rest k h (omega arith)) (omega arith))
+
+  module _ {h : Here} (s : State) (e : Event) (g : HereOf f l s h) where
+    abbrev from : ℕ
+    from = l .«rules_start» + h .own .start
+
+    -- The number of the rule that decides, as the search over the location's own rules finds it.
+    abbrev found : Option ℕ
+    found = decider (rulesFrom (l .clocks) (part f from (h .own .count * ruleSize (l .clocks))) 0 (h .own .count)) (place (l .clocks) (h .seen)) e
+
+    own-found : found ≡ decider (rulesFrom (l .clocks) f from (h .own .count)) (looked stopped (policyOf (l .reading) f) (place (l .clocks) s)) e
+    own-found = rw (g .seen, rules-part f (l .clocks) from (h .own .count))
+
+    own-decides : Option·map (λ i. ruleFrom (l .clocks) f (from + i * ruleSize (l .clocks))) found
+        ≡ decides (policyOf (l .reading) f .rules) (looked stopped (policyOf (l .reading) f) (place (l .clocks) s)) e
+    own-decides =
+        let v = looked stopped (policyOf (l .reading) f) (place (l .clocks) s) in
+        rw own-found (sym (decider-decides (l .clocks) f v e (h .own .count) from))
+        ∙ ap (λ (rs : List Rule). decides rs v e) (own-here k (s .location) (g .own))
+        ∙ decides-own v e (well-rising (policyOf (l .reading) f) (laid-well k))
+
+    pub decided-none : none ≡ found → Decided f l s e Found.Nothing
+    unfolding is-rule
+    decided-none p = record { says = rw (sym p) at own-decides; stands = λ at q. absurd (false≢true (ap is-rule q)) }
+
+    pub decided-rule : (i : ℕ) → some i ≡ found → Decided f l s e (Found.Rule (from + i * ruleSize (l .clocks)))
+    unfolding rule-place
+    decided-rule i p =
+        record {
+          says = rw (sym p) at own-decides;
+          stands = λ at q. subst (RuleAt f l (s .location)) (ap rule-place q)
+              (ahead-at (h .own .count) i (own-ahead k (s .location) (g .own)) (decider-lt _ _ _ _ _ _ i (sym p)));
+        }
+
+-- What the rule that decides makes of the state is what the event does.
+module _ {f : List ℕ} {l : Layout} {s : State} {r : Found} where
+  pub decided-step : {e : Event} → Decided f l s e r → {t : Step} → t ≡ stepFrom s (bind (ruleSaid (l .clocks) f r) (taken stopped (policyOf (l .reading) f) (place (l .clocks) s))) →
+      t ≡ stepFrom s (step stopped (policyOf (l .reading) f) (place (l .clocks) s) e)
+  unfolding step
+  decided-step k q = rw (← k .says) q
+
+  module _ (marks : List ℕ) {x y : ℕ} (k : Decided f l s (eventXY x y) r) where
+    pub reaches-none : r ≡ Found.Nothing → reaches (policyOf (l .reading) f) marks (place (l .clocks) s) x y ≡ false
+    unfolding reaches step bind
+    reaches-none e = rw (sym (k .says) ∙ ap (ruleSaid (l .clocks) f) e)
+
+    pub reaches-rule : {at : ℕ} → r ≡ Found.Rule at →
+        reaches (policyOf (l .reading) f) marks (place (l .clocks) s) x y ≡ leads (place (l .clocks) s) (policyOf (l .reading) f) marks (ruleFrom (l .clocks) f at)
+    unfolding reaches leads step bind
+    reaches-rule e = rw (sym (k .says) ∙ ap (ruleSaid (l .clocks) f) e)

@@ -1,0 +1,47 @@
+-- `enforcer::tick::corrected` meets its contract: the output half goes on from the chosen input.
+use mathlib.Core.Path.{sym, ap, _∙_}
+use mathlib.Core.Option.{bind}
+use borrow.Author.Needs.{needs}
+use Rattle.enforcer.specs.Tick.{tick}
+use Rattle.choice.specs.Said.{choiceSaid}
+use Rattle.enforcer.proofs.tick.corrected.Statement.{statement}
+use Rattle.enforcer.proofs.tick.corrected.Tie as tie
+
+choose-input-requires : tie.Need-choose-input-requires
+choose-input-requires c κs = search needs
+
+enum-told : tie.Need-enum-told
+enum-told c = search needs
+
+stuck-requires : tie.Need-stuck-requires
+stuck-requires c κs = search needs
+
+enum-known-z : tie.Need-enum-known-z
+enum-known-z c = search needs
+
+output-tick-requires : tie.Need-output-tick-requires
+output-tick-requires c κs = search needs
+
+returns : tie.Need-returns
+unfolding tick bind
+returns c =
+    let n = c .before .before .before in
+    rw (sym (n .choose-input .ensures) ∙ ap choiceSaid (c .before .enum-told .given .1)) (c .stuck .ensures)
+
+returns-2 : tie.Need-returns-2
+unfolding tick bind
+returns-2 c =
+    let k = c .before .before in
+    rw (sym (k .before .before .choose-input .ensures) ∙ ap choiceSaid (k .z .given .1)) (c .output-tick .ensures)
+
+pub corrected-spec : {M : Type 1} → statement M
+corrected-spec =
+    tie.close
+    (tie.spec
+    choose-input-requires
+    enum-told
+    stuck-requires
+    enum-known-z
+    output-tick-requires
+    returns
+    returns-2)
