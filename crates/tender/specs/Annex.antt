@@ -40,8 +40,10 @@ use Rattle.join.specs.declared.Joined.the-variants as Code
 use Rattle.groovepawn.specs.Calls.{PrepareCall, RunCall, JoinCall}
 use Rattle.groovepawn.specs.Fields.{summaryIn, prepare-fields}
 use Rattle.tender.specs.Granted.{well-formed, given-passed, given-goes-on}
-use Rattle.tender.specs.Demand2.{Released, released-length, released-bytes, prepared-otherwise}
-use Rattle.tender.specs.Demand3.{Joined, joined-reads, made, tags, JoinOf, alone, joined, to-first, to-second}
+use Rattle.tender.specs.Demand2.{Released}
+use Rattle.tender.specs.Demand2Shown.{released-length, released-bytes, prepared-otherwise}
+use Rattle.tender.specs.Demand3.{Joined, tags, JoinOf, alone, joined}
+use Rattle.tender.specs.Demand3Shown.{joined-reads, made, to-first, to-second}
 use Rattle.tender.specs.Halves.{Ticks, ticks-release}
 use Rattle.tender.specs.Code.{code-releases, cStart, runRead, prepare-read, c-releases, CTicks, c-ticks-release, code-joined, c-joined}
 

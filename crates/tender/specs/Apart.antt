@@ -20,7 +20,8 @@ use Rattle.prepare.specs.Entry.{prepareOf}
 use Rattle.join.specs.Join.{of, agree, target, both, pair, each, cell, rows, leftAt, leftBelow, join}
 use Rattle.join.specs.Masks.{alike}
 use Rattle.join.specs.Entry.{sameTags, sameSignals, joinFits, joinedFile, joinRefusal, joinOf, joinedOut}
-use Rattle.tender.specs.Demand3.{Joined, joined-is}
+use Rattle.tender.specs.Demand3.{Joined}
+use Rattle.tender.specs.Demand3Shown.{joined-is}
 
 -- The credit K is always on; it is always off.
 abbrev pub alwaysOn : List ℕ

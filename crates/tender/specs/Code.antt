@@ -34,9 +34,11 @@ use Rattle.groovepawn.specs.Words.{isState, outputState, runState, runOut}
 use Rattle.groovepawn.specs.Calls.{PrepareCall, InputCall, OutputCall, RunCall, JoinCall}
 use Rattle.groovepawn.specs.Fields.{summaryIn, answerIn, answer-fields, prepare-fields, input-fields, output-fields, run-fields, join-fields}
 use Rattle.tender.specs.Granted.{well-formed, given-passed}
-use Rattle.tender.specs.Demand2.{ReleasedFor, Released, releases, fromStart, hopeless-exactly}
+use Rattle.tender.specs.Demand2.{ReleasedFor, Released, fromStart}
+use Rattle.tender.specs.Demand2Shown.{releases, hopeless-exactly}
 use Rattle.tender.specs.Halves.{Ticks, ticks-none, ticks-more, TicksReleased, ticks-release}
-use Rattle.tender.specs.Demand3.{Joined, Alike, permits-exactly, permitsAll, order, grouping, repetition, unit-law}
+use Rattle.tender.specs.Demand3.{Joined, Alike, permitsAll}
+use Rattle.tender.specs.Demand3Shown.{permits-exactly, order, grouping, repetition, unit-law}
 
 -- "a policy is refused as hopeless exactly if, from its start, some length has no permitted stream": prepare's code, of a file that passes its checks and
 -- with a slice for the marks that is long enough.

@@ -1,76 +1,26 @@
--- Demand 2, over the definitions of the entries. "Over clocks that count without limit" is `Permits`, "go on for ever" is `GoesOn`, and what is
--- released for an event stream is `Enforced`: none of them knows a mark, a stopped clock or a byte. It holds "for each reading":
--- the caller names it, and the policy carries it. Over the promises of the code: specs/Code.antt.
-use mathlib.Core.Path.{_≡_, refl, sym, ap, subst, _∙_}
-use mathlib.Core.Bool.{true, and-eq-true-iff, true≢false}
+-- Demand 2, stated over the definitions of the entries; it is shown in specs/Demand2Shown.antt, and over the promises of the code in specs/Code.antt.
+-- "Over clocks that count without limit" is `Permits`, "go on for ever" is `GoesOn`, and what is released for an event stream is `Enforced`: none of
+-- them knows a mark, a stopped clock or a byte. It holds "for each reading": the caller names it, and the policy carries it.
+use mathlib.Core.Path.{_≡_}
+use mathlib.Core.Bool.{true}
 use mathlib.Core.List.{List, [], _∷_, _++_, map}
-use mathlib.Core.Logic.{_↔_, _⊎_, inl, inr, ⊎-elim}
-use mathlib.Core.Option.{Option, none, some, Option·none-ne-some}
-use Prim.Native.Nat.{ℕ, zero, suc, _/_, _%_, _≤_}
-use native.Mathlib.Nat.{le-refl}
-use native.Mathlib.Omega.{arith}
-use lib.ListN.{length, getD, take, drop, length-map, length-replicate}
-use lib.Seq.{take-at}
-use borrow.Author.Tests.{lt-ltb}
-use Rattle.streams.specs.Answer.{Answer, refused, gives, none-refused}
+use mathlib.Core.Logic.{_↔_, _⊎_}
+use Prim.Native.Nat.{ℕ, suc, _/_, _%_, _≤_}
+use lib.ListN.{length, take, drop}
+use Rattle.streams.specs.Answer.{refused, gives}
 use Rattle.streams.specs.Stream.{Stream, Hopeless}
-use Rattle.streams.specs.Corrections.{corrections}
-use Rattle.streams.specs.Laws.{⊆-refl, not-both, passes, enforced-one}
-use Rattle.streams.specs.Published.{instantaneity}
 use Rattle.policy.specs.Rules.{Policy, Place, start, Permits}
 use Rattle.policy.specs.Number.{states}
-use Rattle.policy.specs.File.{policyOf, outputsAt}
+use Rattle.policy.specs.File.{policyOf}
 use Rattle.policy.specs.Check.{refusalUnder, all}
-use Rattle.policy.specs.Checked.{well-sound}
-use Rattle.enforcer.specs.State.{placeIn, stateOf}
-use Rattle.enforcer.specs.Tick.{inputChoice, ran}
-use Rattle.enforcer.specs.Entries.{eventOf, byteOf, chosen, outputFrom, RunAnswer, runFrom, marksRefusal, xGood, yGood, eventGood, inputOf, outputOf, runOf}
-use Rattle.enforcer.specs.States.{marks-granted}
-use Rattle.enforcer.specs.Refusals.{events-back, fits-good, input-17, run-17}
+use Rattle.enforcer.specs.State.{stateOf}
+use Rattle.enforcer.specs.Entries.{eventOf, byteOf, RunAnswer, eventGood, inputOf, outputOf, runOf}
 use Rattle.prepare.specs.Entry.{Summary, summaryOf, prepareOf, preparedMarks}
-use Rattle.prepare.specs.Enforces.{EnforcedBy, Leads, leads-start, leads-one, leads-ready, ticked, ticked-ready, tick-found, input-stands, output-ticked, ran-on, ran-stuck, input-found, never-stuck, ran-enforces}
-use Rattle.tender.specs.Samples.{S, T}
-use Rattle.tender.specs.Cases
-use Rattle.tender.specs.Granted.{well-formed, prepared-marks, prepared-granted, judged, given-passed, given-long, given-goes-on, state-ready, entryRefusal, input-answer, output-answer, run-answer, run-ready}
-
--- For a reading, a file that passes under it and a slice for the marks that is long enough.
-module _ (reading : ℕ) (file marks : List ℕ) (passed : refusalUnder reading file ≡ 0) (long : states (policyOf reading file) ≤ length marks) where
-  -- "a policy is refused as hopeless exactly if" it is: "hopeless means that the start is not live".
-  pub hopeless-exactly : (prepareOf reading file marks ≡ refused 11) ↔ Hopeless (Permits (policyOf reading file))
-  hopeless-exactly =
-      ⊎-elim (λ h. (λ e. h .0, λ d. h .1))
-      (λ g. (λ e. let z : _≡_ {A = ℕ} 0 1 = cc in absurd (omega arith), λ d. absurd (not-both (Permits (policyOf reading file)) [] (g .0) d)))
-      (judged reading file marks passed long)
-
-  -- "Otherwise" prepare gives the summary.
-  pub prepared-otherwise : (¬ Hopeless (Permits (policyOf reading file))) ↔ (prepareOf reading file marks ≡ gives (summaryOf (policyOf reading file)))
-  prepared-otherwise =
-      ⊎-elim (λ h. (λ n. absurd (n (h .0)), λ e. let z : _≡_ {A = ℕ} 0 1 = cc in absurd (omega arith)))
-      (λ g. (λ n. g .1, λ e. not-both (Permits (policyOf reading file)) [] (g .0))) (judged reading file marks passed long)
-
-  -- "With the marks of prepare and a live state, run and the input half never give 17." A state that is not live they refuse by 16.
-  pub input-never-17 : (s : Place) (x : ℕ) → ¬ (inputOf reading file (preparedMarks reading file marks) s x ≡ refused 17)
-  input-never-17 s x e =
-      let M = preparedMarks reading file marks in
-      let k = input-17 reading file M s x e in
-      let by = prepared-marks reading file marks passed long in
-      let z = input-found (policyOf reading file) (well-formed reading file passed) M by (state-ready reading file M s (k .0)) x in
-      Option·none-ne-some (z .0) (sym (k .1) ∙ z .1)
-
-  pub run-never-17 : (s : Place) (events out : List ℕ) → ¬ (runOf reading file (preparedMarks reading file marks) s events out .refusal ≡ 17)
-  run-never-17 s events out e =
-      let M = preparedMarks reading file marks in
-      let k = run-17 reading file M s events out e in
-      let by = prepared-marks reading file marks passed long in
-      let ready = state-ready reading file M s (k .0) in
-      true≢false (sym (k .1) ∙ never-stuck (policyOf reading file) (well-formed reading file passed) M by ready (map eventOf events))
+use Rattle.prepare.specs.Enforces.{EnforcedBy, Leads}
 
 -- What is to be released for the bytes `events`, read from the start on.
 abbrev pub ReleasedFor : Policy → List ℕ → Stream → Type 0
 ReleasedFor p events = EnforcedBy p [] (map eventOf events)
-
-pub as-many : (p : Policy) (events : List ℕ) {rs : Stream} → ReleasedFor p events rs → length rs ≡ length events
-as-many p events h = instantaneity corrections (Permits p) _ _ h ∙ length-map events eventOf
 
 -- "one event is released for each one read: the input kept if some output lets the stream go on for ever, else the nearest such input (ties as 01
 -- fixes them); then the output likewise. Nothing else is altered." The ties are those of 02.
@@ -86,14 +36,6 @@ pub record Released (p : Policy) (events before : List ℕ) (r : RunAnswer) : Ty
   pub leads : Leads p released place
   pub state : r .state ≡ stateOf place
 
--- The slice begins with the released events.
-module _ {p : Policy} {events before : List ℕ} {r : RunAnswer} (h : Released p events before r) where
-  pub released-length : length (map byteOf (h .released)) ≡ length events
-  released-length = length-map (h .released) byteOf ∙ as-many p events (h .enforced)
-
-  pub released-bytes : take (length events) (r .out) ≡ map byteOf (h .released)
-  released-bytes = ap (take (length events)) (h .out) ∙ take-at (map byteOf (h .released)) _ _ released-length
-
 -- A run takes a reading, a file, marks, a state, events, and a slice for the released ones.
 abbrev pub Run : Type 0
 Run = (reading : ℕ) (file marks : List ℕ) → Place → (events out : List ℕ) → RunAnswer
@@ -106,80 +48,9 @@ Right run =
     (events out : List ℕ) → all (eventGood reading file) events ≡ true → length events ≤ length out →
     Released (policyOf reading file) events out (run reading file (preparedMarks reading file marks) (stateOf (start (policyOf reading file))) events out)
 
-pub releases : Right runOf
-releases reading file marks s e events out good long =
-    let p = policyOf reading file in
-    let M = preparedMarks reading file marks in
-    let passed = given-passed reading file marks s e in
-    let enough = given-long reading file marks s e in
-    let g = given-goes-on reading file marks s e in
-    let ok = well-formed reading file passed in
-    let by = prepared-marks reading file marks passed enough in
-    let r = ran-enforces p ok M by (leads-start p) g (map eventOf events) in
-    let n = as-many p events (r .enforced) in
-    let ready = leads-ready p ok M by (leads-start p) g in
-    subst (Released p events out) (sym (run-ready reading file M (prepared-granted reading file marks passed enough) (start p) ready events out long good))
-    (record {
-      released = ran p M (start p) (map eventOf events) .released;
-      enforced = r .enforced;
-      refusal = rw (r .moving);
-      count = n;
-      out = rw n;
-      place = ran p M (start p) (map eventOf events) .place;
-      leads = r .leads;
-      state = refl;
-    })
-
--- Demand 2 leaves a run no choice: two answers that meet it are the same.
-pub released-one : {p : Policy} {events before : List ℕ} {r q : RunAnswer} → Released p events before r → Released p events before q → r ≡ q
-released-one {p} {events} {before} {r} {q} a b =
-    let same = enforced-one corrections _ _ (Permits p) (a .enforced) (b .enforced) in
-    let there = leads-one (a .leads) (subst (λ (w : Stream). Leads p w (b .place)) (sym same) (b .leads)) in
-    let refusal : r .refusal ≡ q .refusal = a .refusal ∙ sym (b .refusal) in
-    let count : r .count ≡ q .count = a .count ∙ sym (b .count) in
-    let state : r .state ≡ q .state = a .state ∙ ap stateOf there ∙ sym (b .state) in
-    let out : r .out ≡ q .out = a .out ∙ ap (λ (w : Stream). map byteOf w ++ drop (length events) before) same ∙ sym (b .out) in
-    λ i. record { refusal = refusal i; count = count i; state = state i; out = out i }
-
 -- A run from the start, with the marks of prepare.
 abbrev pub fromStart : (reading : ℕ) (file marks events out : List ℕ) → RunAnswer
 fromStart reading file marks events out = runOf reading file (preparedMarks reading file marks) (stateOf (start (policyOf reading file))) events out
-
-module _ (reading : ℕ) (file marks : List ℕ) (s : Summary) (e : prepareOf reading file marks ≡ gives s)
-    (events out : List ℕ) (good : all (eventGood reading file) events ≡ true) (long : length events ≤ length out) where
-  -- Whatever is to be released is what the run writes.
-  pub releases-only :
-      (rs : Stream) → ReleasedFor (policyOf reading file) events rs →
-      fromStart reading file marks events out .out ≡ map byteOf rs ++ drop (length events) out
-  releases-only rs h =
-      let r = releases reading file marks s e events out good long in
-      r .out
-      ∙ ap (λ (w : Stream). map byteOf w ++ drop (length events) out) (enforced-one corrections _ _ (Permits (policyOf reading file)) (r .enforced) h)
-
-  -- "A released stream enforced again from the start comes back unchanged", in any slice, and ends in the same state.
-  pub comes-back :
-      (again : List ℕ) → length events ≤ length again →
-      let released = take (length events) (fromStart reading file marks events out .out) in
-      fromStart reading file marks released again
-      ≡ record { refusal = 0; count = length events; state = fromStart reading file marks events out .state; out = released ++ drop (length events) again }
-  comes-back again room =
-      let p = policyOf reading file in
-      let ok = well-formed reading file (given-passed reading file marks s e) in
-      let r = releases reading file marks s e events out good long in
-      let bytes = map byteOf (r .released) in
-      let n = released-length r in
-      rw (released-bytes r)
-      (released-one (releases reading file marks s e bytes again (fits-good reading file ok (r .leads .fits)) (rw n room))
-      (record {
-        released = r .released;
-        enforced = rw (events-back p ok (r .leads .fits)) (passes corrections _ _ (Permits p) (Permits p) (⊆-refl (Permits p)) (r .enforced));
-        refusal = refl;
-        count = sym n;
-        out = rw n;
-        place = r .place;
-        leads = r .leads;
-        state = r .state;
-      }))
 
 -- One more event, released before those of a run.
 abbrev pub after : ℕ → RunAnswer → RunAnswer
@@ -208,164 +79,36 @@ pub record Refuse (reading : ℕ) (file marks : List ℕ) (s : Place) (b : ℕ) 
   pub input : inputOf reading file marks s (b % 16) ≡ refused (suc number)
   pub run : (o : ℕ) (out : List ℕ) → runOf reading file marks s (b ∷ []) (o ∷ out) .refusal ≡ suc number
 
-module _ (reading : ℕ) (file marks : List ℕ) (s : Place) (b : ℕ) (good : eventGood reading file b ≡ true) where
-  pub halves-agree : Agree reading file marks s b ⊎ Refuse reading file marks s b
-  unfolding all ran
-  halves-agree = go (entryRefusal reading file marks s) refl (inputChoice (policyOf reading file) marks (placeIn (policyOf reading file) s) (b % 16)) refl
-    where
-      p : Policy
-      p = policyOf reading file
-
-      t : Place
-      t = placeIn p s
-
-      tests : (xGood reading file (b % 16) ≡ true) × (yGood reading file (b / 16) ≡ true)
-      tests = and-eq-true-iff (xGood reading file (b % 16)) (yGood reading file (b / 16)) .0 good
-
-      input : inputOf reading file marks s (b % 16) ≡ chosen (entryRefusal reading file marks s) (inputChoice p marks t (b % 16))
-      input = input-answer reading file marks s (b % 16) (tests .0)
-
-      run :
-          (o : ℕ) (bs out : List ℕ) → all (eventGood reading file) bs ≡ true → length bs ≤ length out →
-          runOf reading file marks s (b ∷ bs) (o ∷ out)
-          ≡ runFrom s (o ∷ out) (entryRefusal reading file marks s) (ran p marks t (eventOf b ∷ map eventOf bs))
-      run o bs out g l =
-          run-answer reading file marks s (b ∷ bs) (o ∷ out) (omega arith)
-          (and-eq-true-iff (eventGood reading file b) (all (eventGood reading file) bs) .1 (good, g))
-
-      one :
-          (o : ℕ) (out : List ℕ) →
-          runOf reading file marks s (b ∷ []) (o ∷ out) ≡ runFrom s (o ∷ out) (entryRefusal reading file marks s) (ran p marks t (eventOf b ∷ []))
-      one o out = run o [] out refl (omega arith)
-
-      agree : entryRefusal reading file marks s ≡ 0 → (z : ℕ) → inputChoice p marks t (b % 16) ≡ some z → Agree reading file marks s b
-      agree d z k =
-          let granted = none-refused (marksRefusal reading file marks) _ .0 d in
-          let r = tick-found p marks t (eventOf b) z k in
-          let w = ticked p marks t (eventOf b) (r .0) (r .1) in
-          let x = r .0 .event .x in
-          let half : outputOf reading file marks s x (b / 16) ≡ outputFrom s (gives (r .0)) =
-          output-answer reading file marks s x (b / 16) (lt-ltb _ _ (input-stands p marks t (b % 16) x (w .input) .0)) (tests .1)
-          ∙ rw (d, output-ticked p marks t (eventOf b) (r .0) w)
-          in
-          let ok = well-formed reading file (marks-granted reading file marks .0 (granted .0) .0) in
-          let ready = ticked-ready p marks t (eventOf b) (r .0) (well-sound p ok) (state-ready reading file marks s (granted .1) .inside) w in
-          record {
-            x = x;
-            y = r .0 .event .y;
-            input = rw (input, d, w .input);
-            output = rw half;
-            one = λ o out. rw (half, one o out, d, ran-on p marks t (eventOf b) [] (r .0) (r .1));
-            more =
-                λ o bs out g l.
-                rw (
-                  half,
-                  run o bs out g l,
-                  d,
-                  ran-on p marks t (eventOf b) (map eventOf bs) (r .0) (r .1),
-                  run-ready reading file marks (granted .0) (r .0 .place) ready bs out l g,
-                );
-          }
-
-      go :
-          (c : ℕ) → entryRefusal reading file marks s ≡ c → (o : Option ℕ) → inputChoice p marks t (b % 16) ≡ o →
-          Agree reading file marks s b ⊎ Refuse reading file marks s b
-      go (suc n) d o k = inr (record { number = n; input = rw (input, d); run = λ o out. rw (one o out, d) })
-      go zero d none k =
-          inr (record { number = 16; input = rw (input, d, k); run = λ o out. rw (one o out, d, ran-stuck p marks t (eventOf b) [] k) })
-      go zero d (some z) k = inl (agree d z k)
-
-  -- So the run refuses by 17 exactly if the input half does, and by any other number likewise.
-  pub refused-alike :
-      (n o : ℕ) (out : List ℕ) →
-      (runOf reading file marks s (b ∷ []) (o ∷ out) .refusal ≡ suc n) ↔ (inputOf reading file marks s (b % 16) ≡ refused (suc n))
-  refused-alike n o out = go halves-agree
-    where
-      go : Agree reading file marks s b ⊎ Refuse reading file marks s b →
-          (runOf reading file marks s (b ∷ []) (o ∷ out) .refusal ≡ suc n) ↔ (inputOf reading file marks s (b % 16) ≡ refused (suc n))
-      go (inl a) = (
-        λ e. absurd (omega (arith, ap (λ (r : RunAnswer). r .refusal) (a .one o out))),
-        λ e. let z : _≡_ {A = ℕ} 0 1 = cc in absurd (omega arith),
-      )
-      go (inr r) = (λ e. cc (r .run o out), λ e. cc (r .run o out))
-
--- A marked case, by its place in the list. Those of 01 are under reading 1, and so is all that follows.
-pub marked : (i : ℕ) →
-    getD (map (λ c. Cases.said (c .reading) (c .file) (c .asked)) Cases.cases) i (Cases.released [])
-    ≡ getD (map (λ (c : Cases.Case). c .expected) Cases.cases) i (Cases.released [])
-marked i = ap (λ (l : List Cases.Said). getD l i (Cases.released [])) Cases.marked-cases
-
--- Prepare gives a summary of the sample.
-abbrev Given : List ℕ → Type 0
-Given file = (s : Summary) × (prepareOf 1 file (Cases.lent (states (policyOf 1 file))) ≡ gives s)
-
-said-given : (file : List ℕ) (v n l : ℕ) → Cases.said 1 file Cases.prepared ≡ Cases.summary v n l → Given file
-said-given file v n l = go (prepareOf 1 file (Cases.lent (states (policyOf 1 file))))
-  where
-    go : (a : Answer Summary) → Cases.saidOfPrepare (Cases.marks 1 file) a ≡ Cases.summary v n l → (s : Summary) × (a ≡ gives s)
-    go (refused n) e = let z : _≡_ {A = ℕ} 0 1 = cc in absurd (omega arith)
-    go (gives s) e = (s, refl)
-
-pub said-released : (n : ℕ) (out rs : List ℕ) → n ≡ 0 → Cases.saidOfRun n out ≡ Cases.released rs → out ≡ rs
-said-released zero out rs z e = cc
-said-released (suc n) out rs z e = absurd (omega arith)
-
-S-given : Given S
-unfolding Cases.cases
-S-given = said-given S 0 1 1 (marked 4)
-
-T-given : Given T
-unfolding Cases.cases
-T-given = said-given T 1 2 1 (marked 7)
-
--- "These worthless versions are to be rejected". A prepare "refusing always" refuses S, which is not hopeless.
-pub S-not-hopeless : ¬ Hopeless (Permits (policyOf 1 S))
-S-not-hopeless = not-both (Permits (policyOf 1 S)) [] (given-goes-on 1 S (Cases.lent (states (policyOf 1 S))) (S-given .0) (S-given .1))
-
--- The others are runs. On a sample, from the start and with the marks of prepare, each does what no right run does.
-abbrev pub sample : Run → (file events : List ℕ) → RunAnswer
-sample run file events = run 1 file (Cases.marks 1 file) (stateOf (start (policyOf 1 file))) events (Cases.lent (length events))
-
-module _ (run : Run) (right : Right run) where
-  -- A right run releases what a marked case says.
-  as-marked :
-      (file : List ℕ) → Given file → (events rs : List ℕ) → all (eventGood 1 file) events ≡ true →
-      Cases.said 1 file (Cases.enforced events) ≡ Cases.released rs → (sample run file events .refusal ≡ 0) × (sample run file events .out ≡ rs)
-  as-marked file s events rs good e =
-      let marks = Cases.lent (states (policyOf 1 file)) in
-      let out = Cases.lent (length events) in
-      let room : length events ≤ length out = rw length-replicate (le-refl (length events)) in
-      let a = right 1 file marks (s .0) (s .1) events out good room in
-      let b = releases 1 file marks (s .0) (s .1) events out good room in
-      (a .refusal, ap (λ (r : RunAnswer). r .out) (released-one a b) ∙ said-released _ _ rs (b .refusal) e)
-
-  S-03 : (sample run S (0x03 ∷ []) .refusal ≡ 0) × (sample run S (0x03 ∷ []) .out ≡ 0x01 ∷ [])
-  unfolding all policyOf outputsAt Cases.cases
-  S-03 = as-marked S S-given (0x03 ∷ []) (0x01 ∷ []) refl (marked 0)
-
-  S-12 : (sample run S (0x12 ∷ []) .refusal ≡ 0) × (sample run S (0x12 ∷ []) .out ≡ 0x02 ∷ [])
-  unfolding all policyOf outputsAt Cases.cases
-  S-12 = as-marked S S-given (0x12 ∷ []) (0x02 ∷ []) refl (marked 1)
-
-  T-01-11 : (sample run T (0x01 ∷ 0x11 ∷ []) .refusal ≡ 0) × (sample run T (0x01 ∷ 0x11 ∷ []) .out ≡ 0x00 ∷ 0x10 ∷ [])
-  unfolding all policyOf outputsAt Cases.cases
-  T-01-11 = as-marked T T-given (0x01 ∷ 0x11 ∷ []) (0x00 ∷ 0x10 ∷ []) refl (marked 8)
-
-  -- "one refusing always"
-  pub not-refusing : (n : ℕ) → ¬ (sample run S (0x03 ∷ []) .refusal ≡ suc n)
-  not-refusing n e = omega (arith, S-03 .0)
-
-  -- "one releasing the same event always"
-  pub not-one-event : (b : ℕ) → sample run S (0x03 ∷ []) .out ≡ b ∷ [] → ¬ (sample run S (0x12 ∷ []) .out ≡ b ∷ [])
-  not-one-event b e d = omega (arith, first (sym e ∙ S-03 .1), first (sym d ∙ S-12 .1))
-    where
-      first : {l k : List ℕ} → l ≡ k → getD l 0 0 ≡ getD k 0 0
-      first = ap (λ (l : List ℕ). getD l 0 0)
-
-  -- "one forwarding everything": T's event 01 meets no violation itself, and has no future.
-  pub not-forwarding : ¬ (sample run T (0x01 ∷ 0x11 ∷ []) .out ≡ 0x01 ∷ 0x11 ∷ [])
-  not-forwarding e = omega (arith, ap (λ (l : List ℕ). getD l 0 0) (sym e ∙ T-01-11 .1))
-
-  -- "one correcting the first tick and forwarding the others"
-  pub not-first-alone : (b : ℕ) → ¬ (sample run T (0x01 ∷ 0x11 ∷ []) .out ≡ b ∷ 0x11 ∷ [])
-  not-first-alone b e = omega (arith, ap (λ (l : List ℕ). getD l 1 0) (sym e ∙ T-01-11 .1))
+pub record Demand2 : Type 0 where
+  -- "a policy is refused as hopeless exactly if" it is: "hopeless means that the start is not live". Of a file that passes under the reading, with a
+  -- slice for the marks that is long enough.
+  pub hopeless-exactly :
+      (reading : ℕ) (file marks : List ℕ) → refusalUnder reading file ≡ 0 → states (policyOf reading file) ≤ length marks →
+      (prepareOf reading file marks ≡ refused 11) ↔ Hopeless (Permits (policyOf reading file))
+  -- "Otherwise" prepare gives the summary,
+  pub prepared-otherwise :
+      (reading : ℕ) (file marks : List ℕ) → refusalUnder reading file ≡ 0 → states (policyOf reading file) ≤ length marks →
+      (¬ Hopeless (Permits (policyOf reading file))) ↔ (prepareOf reading file marks ≡ gives (summaryOf (policyOf reading file)))
+  -- and a run releases what is to be released. Two answers that meet this are the same.
+  pub releases : Right runOf
+  pub released-one :
+      {p : Policy} {events before : List ℕ} {r q : RunAnswer} → Released p events before r → Released p events before q → r ≡ q
+  -- "With the marks of prepare and a live state, run and the input half never give 17." A state that is not live they refuse by 16.
+  pub input-never-17 :
+      (reading : ℕ) (file marks : List ℕ) → refusalUnder reading file ≡ 0 → states (policyOf reading file) ≤ length marks →
+      (s : Place) (x : ℕ) → ¬ (inputOf reading file (preparedMarks reading file marks) s x ≡ refused 17)
+  pub run-never-17 :
+      (reading : ℕ) (file marks : List ℕ) → refusalUnder reading file ≡ 0 → states (policyOf reading file) ≤ length marks →
+      (s : Place) (events out : List ℕ) → ¬ (runOf reading file (preparedMarks reading file marks) s events out .refusal ≡ 17)
+  -- The two halves of a tick and the run answer alike, whatever the marks and the state are: each tick of a run is one tick by the halves.
+  pub halves-agree :
+      (reading : ℕ) (file marks : List ℕ) (s : Place) (b : ℕ) → eventGood reading file b ≡ true →
+      Agree reading file marks s b ⊎ Refuse reading file marks s b
+  -- "A released stream enforced again from the start comes back unchanged", in any slice, and ends in the same state.
+  pub comes-back :
+      (reading : ℕ) (file marks : List ℕ) (s : Summary) → prepareOf reading file marks ≡ gives s →
+      (events out : List ℕ) → all (eventGood reading file) events ≡ true → length events ≤ length out →
+      (again : List ℕ) → length events ≤ length again →
+      let released = take (length events) (fromStart reading file marks events out .out) in
+      fromStart reading file marks released again
+      ≡ record { refusal = 0; count = length events; state = fromStart reading file marks events out .state; out = released ++ drop (length events) again }

@@ -40,7 +40,8 @@ use Rattle.prepare.specs.declared.Summary.{Summary as Given}
 use Rattle.prepare.specs.declared.Prepared.the-variants as Prepare
 use Rattle.console.specs.Scratch.{start-is}
 use Rattle.tender.specs.Granted.{well-formed, entryRefusal, state-ready, ready-state, input-answer, output-answer, run-ready, prepared-marks, prepared-granted, given-passed, given-long, given-goes-on}
-use Rattle.tender.specs.Demand2.{Released, releases}
+use Rattle.tender.specs.Demand2.{Released}
+use Rattle.tender.specs.Demand2Shown.{releases}
 
 -- What a loop of the two halves released, the number by which a half refused, 0 for none, and the state that it left.
 pub record Looped : Type 0 where

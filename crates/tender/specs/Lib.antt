@@ -3,7 +3,9 @@ pub mod Cases
 pub mod Demand1
 pub mod Granted
 pub mod Demand2
+pub mod Demand2Shown
 pub mod Demand3
+pub mod Demand3Shown
 pub mod Halves
 pub mod Code
 pub mod Worthless

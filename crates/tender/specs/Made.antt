@@ -30,7 +30,8 @@ use Rattle.join.specs.Promise.{JoinPromise, join-one}
 use Rattle.join.specs.declared.Joined as Code
 use Rattle.join.specs.declared.Joined.the-variants as Variants
 use Rattle.tender.specs.Samples.{K}
-use Rattle.tender.specs.Demand3.{Joined, Alike, permitsAll, grouping}
+use Rattle.tender.specs.Demand3.{Joined, Alike, permitsAll}
+use Rattle.tender.specs.Demand3Shown.{grouping}
 use Rattle.tender.specs.Apart.{alwaysOff}
 
 none-refused : (a b out : List ℕ) → Unrefused a b out → joinRefusal a b out ≡ 0

@@ -34,7 +34,8 @@ use Rattle.console.specs.Frame.{countRefusal, policyFrameRefusal, policyPart, e
 use Rattle.console.specs.Printed.{unlessRefused, lent, ranOver, summaryLines, enforcedText, printed}
 use Rattle.console.specs.Reply.{Replied, replied-front, lent-length}
 use Rattle.tender.specs.Granted.{well-formed, judged, given-passed, given-goes-on, state-ready, ready-state, run-ready}
-use Rattle.tender.specs.Demand2.{ReleasedFor, releases, as-many}
+use Rattle.tender.specs.Demand2.{ReleasedFor}
+use Rattle.tender.specs.Demand2Shown.{releases, as-many}
 
 -- Two refusals that print the same are the same.
 refused-one : (n m : ℕ) → refusedLine n ≡ refusedLine m → n ≡ m

@@ -24,7 +24,7 @@ use Rattle.prepare.specs.Table.{machineOf, marksOf}
 use Rattle.prepare.specs.Live.{within}
 use Rattle.prepare.specs.Entry.{prepareOf}
 use Rattle.prepare.specs.Enforces.{EnforcedBy}
-use Rattle.tender.specs.Demand2.{hopeless-exactly}
+use Rattle.tender.specs.Demand2Shown.{hopeless-exactly}
 
 -- A state is "live if permitted streams of every length leave it"; so is the one that the stream w leads to.
 abbrev pub EveryLength : (Stream → Type 0) → Stream → Type 0

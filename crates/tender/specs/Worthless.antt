@@ -22,7 +22,7 @@ use Rattle.prepare.specs.declared.Prepared.the-variants as Prepared
 use Rattle.tender.specs.Samples.{S, T}
 use Rattle.tender.specs.Cases
 use Rattle.tender.specs.Granted.{given-passed, given-goes-on}
-use Rattle.tender.specs.Demand2.{releases, released-one, prepared-otherwise, marked, said-released}
+use Rattle.tender.specs.Demand2Shown.{releases, released-one, prepared-otherwise, marked, said-released}
 use Rattle.tender.specs.Code.{code-releases}
 -- "one refusing always" and "one inventing the number of live states", of prepare.
 pub use Rattle.tender.specs.Demand1.{not-refusing, not-inventing}

@@ -1,0 +1,288 @@
+-- Demand 3 is shown: what specs/Demand3.antt states holds.
+use mathlib.Core.Path.{_≡_, refl, sym, ap, ap₂, subst, _∙_}
+use mathlib.Core.Bool.{true, _&&_}
+use mathlib.Core.List.{List, [], _∷_, _++_, map, List·Memᴰ, List·Memᴰ·head, List·Memᴰ·append-cases, List·Memᴰ·eq-of-singleton, Memᴰ·append-left, Memᴰ·append-right}
+use mathlib.Core.Logic.{_⊎_, inl, inr, ⊎-elim}
+use Prim.Native.Nat.{ℕ, _≤_, _/_, _%_, _^_}
+use lib.Dec.{ltb}
+use lib.ListN.{length, take, drop, replicate}
+use lib.Seq.{take-at}
+use Rattle.streams.specs.Answer.{gives, given-only}
+use Rattle.streams.specs.Stream.{Stream, Language, _∩_}
+use Rattle.streams.specs.Enforced.{Enforced}
+use Rattle.streams.specs.Corrections.{corrections}
+use Rattle.streams.specs.Laws.{_⊆_, ⊆-refl, ⊆-trans, ∩-first, ∩-second, ∩-into, _≋_, ≋-sym, ≋-trans, ∩-swap, not-both, enforced-one}
+use Rattle.policy.specs.Rules.{Policy, Place, Runs, Permits}
+use Rattle.policy.specs.Rules as Rules
+use Rattle.policy.specs.Number.{states, statesOf}
+use Rattle.policy.specs.File.{policyOf, outputsAt, clocksAt, locationsAt, rulesAt, rulesStart, rulesEnd, pairsFrom, rulesFrom, ruleFrom, boundsFrom}
+use Rattle.policy.specs.Check.{readingRefusal, refusalUnder, under-none, refusalOf, inputsRefusal, outputsRefusal, clocksRefusal, locationsRefusal, rulesSectionRefusal, sectionRefusal, tagsGood, among, all, rulesRefusal, ruleRefusal, headGood, maskGood, boundsGood, boundGood}
+use Rattle.policy.specs.Bytes.{bytesOf, countsBytes, pairsBytes, rulesBytes, ruleBytes, boundsBytes}
+use Rattle.policy.specs.Checked.{checked-file}
+use Rattle.enforcer.specs.Entries.{eventOf, byteOf, eventGood}
+use Rattle.prepare.specs.Entry.{summaryOf, prepareOf}
+use Rattle.join.specs.Join.{of, agree, target, both, pair, each, cell, rows, leftAt, leftBelow, join}
+use Rattle.join.specs.Masks.{alike}
+use Rattle.join.specs.Steps.{fits-same}
+use Rattle.join.specs.Free.{free-read}
+use Rattle.join.specs.Laws.{Equal, equal, all-free}
+use Rattle.join.specs.Entry.{sameTags, sameSignals, joinFits, joinedFile, joinRefusal, joinOf, joinedOut}
+use Rattle.join.specs.Written.{unrefused, joined-joins, joined-passes, joined-policy, joined-written, joined-both}
+pub use Rattle.tender.specs.Demand2Shown.{comes-back}
+use Rattle.tender.specs.Samples.{T}
+use Rattle.tender.specs.Granted.{judged}
+use Rattle.tender.specs.Demand3.{Joined, tags, JoinOf, alone, joined, AllOf, SameAnswer, SameReleased, HopelessTogether, ReleaseTheSame, Alike, permitsAll, PermitsAll, Demand3}
+use Rattle.tender.specs.Demand2.{Run, Right, ReleasedFor}
+use Rattle.tender.specs.Demand2Shown.{releases, hopeless-exactly, prepared-otherwise, not-forwarding}
+
+module _ {a b f : List ℕ} (j : Joined a b f) where
+  only : (joinRefusal a b (j .slice) ≡ 0) × (length (joinedFile a b (j .slice)) ≡ j .size)
+  unfolding joinOf
+  only = given-only (joinRefusal a b (j .slice)) (length (joinedFile a b (j .slice))) (j .size) (j .given)
+
+  -- Its file is the joined one, whatever the slice held before.
+  pub joined-is : f ≡ joinedFile a b []
+  unfolding joinedFile
+  joined-is = j .written ∙ ap (λ (n : ℕ). take n (joinedOut a b (j .slice))) (sym (only .1)) ∙ joined-written a b (j .slice) (only .0)
+
+  -- "Joins carry no reading of their own": the bytes read under any reading are the join of the parts read under it.
+  pub joined-reads : (reading : ℕ) → policyOf reading f ≡ join (policyOf reading a) (policyOf reading b)
+  unfolding joinedFile
+  joined-reads reading = ap (policyOf reading) joined-is ∙ joined-policy a b (j .slice) (only .0) reading
+
+-- What is known of a join that was made.
+pub record Made (a b f : List ℕ) : Type 0 where
+  pub first : refusalOf a ≡ 0
+  pub second : refusalOf b ≡ 0
+  pub passed : refusalOf f ≡ 0
+  pub tags-first : tags f ≡ tags a
+  pub tags-second : tags f ≡ tags b
+  pub permits : (reading : ℕ) → Permits (policyOf reading f) ≋ Permits (policyOf reading a) ∩ Permits (policyOf reading b)
+
+pub made : {a b f : List ℕ} → Joined a b f → Made a b f
+unfolding joinedFile join policyOf
+made {a} {b} {f} j =
+    let e = only j .0 in
+    let k = unrefused a b (j .slice) e in
+    let i = joined-joins a b (j .slice) e 1 in
+    let t : tags f ≡ tags a = ap (λ (z : Policy). (z .inputs, z .outputs)) (joined-reads j 1) in
+    record {
+      first = k .first;
+      second = k .second;
+      passed = ap refusalOf (joined-is j) ∙ joined-passes a b (j .slice) e;
+      tags-first = t;
+      tags-second = t ∙ ap₂ (λ (x y : List ℕ). (x, y)) (i .inputs) (i .outputs);
+      permits = λ reading. rw (joined-is j) (joined-both a b (j .slice) e reading);
+    }
+
+-- "demands 2 and 3 hold for each reading, used for all the policies named".
+module _ (reading : ℕ) where
+  -- "the join permits exactly the streams that all its parts permit", and "a joined stream rests only where all parts rest together".
+  pub permits-exactly : {a b f : List ℕ} → Joined a b f → Permits (policyOf reading f) ≋ Permits (policyOf reading a) ∩ Permits (policyOf reading b)
+  permits-exactly j = made j .permits reading
+
+  -- To each part, and from both.
+  pub to-first : {a b f : List ℕ} → Joined a b f → Permits (policyOf reading f) ⊆ Permits (policyOf reading a)
+  to-first j = ⊆-trans (permits-exactly j .0) (∩-first _ _)
+
+  pub to-second : {a b f : List ℕ} → Joined a b f → Permits (policyOf reading f) ⊆ Permits (policyOf reading b)
+  to-second j = ⊆-trans (permits-exactly j .0) (∩-second _ _)
+
+  into : {a b f : List ℕ} {L : Language} → Joined a b f →
+      L ⊆ Permits (policyOf reading a) → L ⊆ Permits (policyOf reading b) → L ⊆ Permits (policyOf reading f)
+  into j f g = ⊆-trans (∩-into f g) (permits-exactly j .1)
+
+  -- "all its parts": of three, grouped either way.
+  pub permits-left : {a b c f h : List ℕ} → Joined a b f → Joined f c h →
+      Permits (policyOf reading h) ≋ Permits (policyOf reading a) ∩ Permits (policyOf reading b) ∩ Permits (policyOf reading c)
+  permits-left {a} {b} {c} j k =
+      let M = Permits (policyOf reading b) ∩ Permits (policyOf reading c) in
+      let all = ∩-second (Permits (policyOf reading a)) M in (
+        ∩-into (⊆-trans (to-first k) (to-first j)) (∩-into (⊆-trans (to-first k) (to-second j)) (to-second k)),
+        into k (into j (∩-first (Permits (policyOf reading a)) M) (⊆-trans all (∩-first (Permits (policyOf reading b)) (Permits (policyOf reading c)))))
+            (⊆-trans all (∩-second (Permits (policyOf reading b)) (Permits (policyOf reading c)))),
+      )
+
+  pub permits-right : {a b c g k : List ℕ} → Joined b c g → Joined a g k →
+      Permits (policyOf reading k) ≋ Permits (policyOf reading a) ∩ Permits (policyOf reading b) ∩ Permits (policyOf reading c)
+  permits-right {a} {b} {c} j k =
+      let M = Permits (policyOf reading b) ∩ Permits (policyOf reading c) in (
+        ∩-into (to-first k) (⊆-trans (to-second k) (permits-exactly j .0)),
+        into k (∩-first (Permits (policyOf reading a)) M) (⊆-trans (∩-second (Permits (policyOf reading a)) M) (permits-exactly j .1)),
+      )
+
+  part-of : {parts : List (List ℕ)} {a : List ℕ} → List·Memᴰ a parts → AllOf reading parts ⊆ Permits (policyOf reading a)
+  part-of {a} m = record { permits = λ w h. h a m; rests = λ w h. h a m }
+
+  all-of : {L : Language} (parts : List (List ℕ)) → ((a : List ℕ) → List·Memᴰ a parts → L ⊆ Permits (policyOf reading a)) → L ⊆ AllOf reading parts
+  all-of parts h = record { permits = λ w p a m. h a m .permits w p; rests = λ w p a m. h a m .rests w p }
+
+  fewer : (these those : List (List ℕ)) → ((a : List ℕ) → List·Memᴰ a these → List·Memᴰ a those) → AllOf reading those ⊆ AllOf reading these
+  fewer these those h = all-of these (λ a m. part-of (h a m))
+
+  pub permits-all : {parts : List (List ℕ)} {f : List ℕ} → JoinOf parts f → Permits (policyOf reading f) ≋ AllOf reading parts
+  permits-all (alone {a = a}) =
+      (all-of (a ∷ []) (λ b m. rw (List·Memᴰ·eq-of-singleton m) (⊆-refl (Permits (policyOf reading a)))), part-of (List·Memᴰ·head refl))
+  permits-all (joined {these = these} {those = those} i j k) = (
+    all-of (these ++ those) (λ b m.
+        ⊎-elim (λ u. ⊆-trans (to-first k) (⊆-trans (permits-all i .0) (part-of u))) (λ u. ⊆-trans (to-second k) (⊆-trans (permits-all j .0) (part-of u)))
+        (List·Memᴰ·append-cases these m)),
+    into k (⊆-trans (fewer these (these ++ those) (λ b m. Memᴰ·append-left those m)) (permits-all i .1))
+        (⊆-trans (fewer those (these ++ those) (λ b m. Memᴰ·append-right these m)) (permits-all j .1)),
+  )
+
+module _ (reading : ℕ) where
+  -- What is released goes by the permitted streams alone: two files that pass, with the same signals and the same permitted streams, are alike.
+  module _ (f g : List ℕ) (first : refusalUnder reading f ≡ 0) (second : refusalUnder reading g ≡ 0) (same : tags f ≡ tags g)
+      (permit : Permits (policyOf reading f) ≋ Permits (policyOf reading g)) where
+    equally : Equal (policyOf reading f) (policyOf reading g)
+    equally = equal (policyOf reading f) (policyOf reading g) (permit .0) (permit .1)
+
+    good-alike : (events : List ℕ) → all (eventGood reading f) events ≡ all (eventGood reading g) events
+    unfolding policyOf
+    good-alike events = ap (λ (t : List ℕ × List ℕ). all (λ b. ltb (b % 16) (2 ^ length (t .0)) && ltb (b / 16) (2 ^ length (t .1))) events) same
+
+    released-alike : (events : List ℕ) (rs : Stream) → ReleasedFor (policyOf reading f) events rs → ReleasedFor (policyOf reading g) events rs
+    unfolding policyOf
+    released-alike events rs h =
+        subst (λ (t : List ℕ × List ℕ). Enforced corrections (Permits (policyOf reading g)) (length (t .0)) (length (t .1)) [] (map eventOf events) rs) same
+        (equally .releases corrections _ _ [] (map eventOf events) rs .0 h)
+
+    pub permits-alike : Alike reading f g
+    permits-alike = record { passed = (first, second); signals = same; together = together }
+      where
+        answers :
+            (m n : List ℕ) →
+            prepareOf reading f m ≡ gives (summaryOf (policyOf reading f)) → prepareOf reading g n ≡ gives (summaryOf (policyOf reading g)) →
+            (events out : List ℕ) → all (eventGood reading f) events ≡ true → length events ≤ length out → SameReleased reading f m g n events out
+        answers m n d e events out good long =
+            let r = releases reading f m _ d events out good long in
+            let q = releases reading g n _ e events out (sym (good-alike events) ∙ good) long in
+            let one = enforced-one corrections _ _ (Permits (policyOf reading g)) (released-alike events (r .released) (r .enforced)) (q .enforced) in
+            record {
+              first = r;
+              second = q;
+              stream = one;
+              answer =
+                  record {
+                    refusal = r .refusal ∙ sym (q .refusal);
+                    count = r .count ∙ sym (q .count);
+                    out = r .out ∙ ap (λ (w : Stream). map byteOf w ++ drop (length events) out) one ∙ sym (q .out);
+                  };
+            }
+
+        together :
+            (m n : List ℕ) → states (policyOf reading f) ≤ length m → states (policyOf reading g) ≤ length n →
+            HopelessTogether reading f m g n ⊎ ReleaseTheSame reading f m g n
+        together m n k l =
+            ⊎-elim (λ h. inl (h .1, hopeless-exactly reading g n second l .1 (equally .hopeless .0 (h .0))))
+            (λ h.
+            let e = prepared-otherwise reading g n second l .0 (λ d. not-both (Permits (policyOf reading f)) [] (h .0) (equally .hopeless .1 d)) in
+            inr (h .1, e, answers m n (h .1) e)) (judged reading f m first k)
+
+module _ (reading : ℕ) where
+  all-permitted : (a : List ℕ) → refusalOf a ≡ 0 → Permits (policyOf reading a) ⊆ Permits (policyOf reading (permitsAll a))
+  unfolding policyOf
+  all-permitted a e =
+      subst (λ (p : Policy). Permits (policyOf reading a) ⊆ Permits p) (sym (free-read reading (policyOf reading a) (checked-file reading a e)))
+      (all-free (policyOf reading a))
+
+  -- Any such policy over the signals of a permits all that a permits; a join of the two is made only over the same signals.
+  permits-more : (a b : List ℕ) → tags a ≡ tags b → PermitsAll reading b → Permits (policyOf reading a) ⊆ Permits (policyOf reading b)
+  unfolding Runs policyOf
+  permits-more a b same free =
+      let first = ap (λ (t : List ℕ × List ℕ). t .0) same in
+      let second = ap (λ (t : List ℕ × List ℕ). t .1) same in
+      record {
+        permits = λ w p. free .permitted w (fits-same (policyOf reading a) (policyOf reading b) first second (p .0));
+        rests = λ w r. free .rested w;
+      }
+
+-- The laws, for each reading that 22 does not refuse.
+module _ (reading : ℕ) (named : readingRefusal reading ≡ 0) where
+  alike-by : {f g : List ℕ} → refusalOf f ≡ 0 → refusalOf g ≡ 0 → tags f ≡ tags g →
+      Permits (policyOf reading f) ≋ Permits (policyOf reading g) → Alike reading f g
+  alike-by {f} {g} d e = permits-alike reading f g (under-none reading f .1 (named, d)) (under-none reading g .1 (named, e))
+
+  -- "A with B or B with A"
+  pub order : {a b f g : List ℕ} → Joined a b f → Joined b a g → Alike reading f g
+  order j k =
+      let s = made j in
+      let t = made k in
+      alike-by (s .passed) (t .passed) (cc) (≋-trans (s .permits reading) (≋-trans (∩-swap _ _) (≋-sym (t .permits reading))))
+
+  -- "grouped either way with C"
+  pub grouping : {a b c f g h k : List ℕ} → Joined a b f → Joined f c h → Joined b c g → Joined a g k → Alike reading h k
+  grouping i j m n =
+      let s = made j in
+      let t = made n in
+      alike-by (s .passed) (t .passed) (cc (made i .tags-first)) (≋-trans (permits-left reading i j) (≋-sym (permits-right reading m n)))
+
+  -- "A with itself"
+  pub repetition : {a f : List ℕ} → Joined a a f → Alike reading f a
+  repetition j = let s = made j in alike-by (s .passed) (s .first) (s .tags-first) (to-first reading j, into reading j (⊆-refl _) (⊆-refl _))
+
+  -- "A with the policy that permits all": with any policy that permits all that A permits and rests wherever A rests, on either side.
+  module _ {a b f : List ℕ} (more : Permits (policyOf reading a) ⊆ Permits (policyOf reading b)) where
+    pub unit-any : Joined a b f → Alike reading f a
+    unit-any j =
+        let s = made j in alike-by (s .passed) (s .first) (s .tags-first) (to-first reading j, into reading j (⊆-refl _) more)
+
+    pub unit-any-first : Joined b a f → Alike reading f a
+    unit-any-first j =
+        let s = made j in alike-by (s .passed) (s .second) (s .tags-second) (to-second reading j, into reading j more (⊆-refl _))
+
+  pub unit : {a b f : List ℕ} → PermitsAll reading b → Joined a b f → Alike reading f a
+  unit {a} {b} free j = let s = made j in unit-any (permits-more reading a b (sym (s .tags-first) ∙ s .tags-second) free) j
+
+  pub unit-first : {a b f : List ℕ} → PermitsAll reading b → Joined b a f → Alike reading f a
+  unit-first {a} {b} free j = let s = made j in unit-any-first (permits-more reading a b (sym (s .tags-second) ∙ s .tags-first) free) j
+
+  -- The file that permits all, over the signals of a, is one.
+  pub unit-law : {a f : List ℕ} → Joined a (permitsAll a) f → Alike reading f a
+  unit-law {a} j = unit-any (all-permitted reading a (made j .first)) j
+
+  pub unit-law-first : {a f : List ℕ} → Joined (permitsAll a) a f → Alike reading f a
+  unit-law-first {a} j = unit-any-first (all-permitted reading a (made j .second)) j
+
+pub demand-3 : Demand3
+demand-3 =
+    record {
+      joined-reads = joined-reads;
+      permits-exactly = permits-exactly;
+      permits-all = permits-all;
+      order = order;
+      grouping = grouping;
+      repetition = repetition;
+      unit = unit;
+      unit-first = unit-first;
+    }
+
+-- "Forwarding everything would meet demand 3's repeat and order laws, so demand 3 is stated over demand 2's streams."
+abbrev pub forward : Run
+forward reading file marks s events out = record { refusal = 0; count = length events; state = s; out = events ++ drop (length events) out }
+
+-- Whatever the reading and the two files are, it answers the same,
+pub forward-alike :
+    (reading : ℕ) (f m g n events out : List ℕ) (s t : Place) → SameAnswer (forward reading f m s events out) (forward reading g n t events out)
+forward-alike reading f m g n events out s t = record { refusal = refl; count = refl; out = refl }
+
+-- and what it released comes back unchanged;
+pub forward-back :
+    (reading : ℕ) (file marks events out again : List ℕ) (s : Place) →
+    let released = take (length events) (forward reading file marks s events out .out) in
+    forward reading file marks s released again .out ≡ released ++ drop (length events) again
+forward-back reading file marks events out again s = rw (take-at events _ _ refl)
+
+-- but it does not release the streams of demand 2, as `SameReleased` asks.
+pub forward-wrong : ¬ Right forward
+forward-wrong right = not-forwarding forward right refl
+
+-- Such joins are made: sample T with itself.
+pub T-joined : Joined T T (take 40 (joinedOut T T (replicate 40 0)))
+unfolding
+    joinOf joinRefusal joinedFile sameSignals sameTags joinFits join rows cell each pair both agree target of alike leftAt leftBelow bytesOf
+    countsBytes pairsBytes rulesBytes ruleBytes boundsBytes refusalOf inputsRefusal outputsRefusal clocksRefusal locationsRefusal rulesSectionRefusal
+    sectionRefusal tagsGood among all rulesRefusal ruleRefusal headGood maskGood boundsGood boundGood policyOf outputsAt clocksAt locationsAt rulesAt
+    rulesStart rulesEnd pairsFrom rulesFrom ruleFrom boundsFrom statesOf Rules.rests
+T-joined = record { slice = replicate 40 0; size = 40; given = refl; written = refl }
