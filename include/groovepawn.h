@@ -64,9 +64,10 @@
  *   28  the index is not that of the file, or not 128 numbers
  *   29  a stream to be written as a wave has over 16,384 events
  *
- * Where several hold, the first in this order is given: 22, 1 to 9 as they come in the file, 26 or 28, 10, 23 or 24, 11, 14, 16, 15, 17, 27. A join asks 1 to 9 of its first
- * file, then of its second, then 12, 13, 14. A conversion asks 18, then 19. After 1 to 9 the writer of waves asks 29, 15, 14, their reader 21, 14.
- * With the marks of groovepawn_prepare under the same reading and a live state, groovepawn_input and groovepawn_run never give 17.
+ * Where several hold, the first in this order is given: 22, 1 to 9 as they come in the file, 26 or 28, 10, 23 or 24, 11, 14, 16, 15, 17, 27. A join
+ * asks 1 to 9 of its first file, then of its second, then 12, 13, 14. A conversion asks 18, then 19. After 1 to 9 the writer of waves asks 29, 15,
+ * 14, their reader 21, 14. With the marks of groovepawn_prepare under the same reading and a live state, groovepawn_input and groovepawn_run never
+ * give 17.
  *
  * Stack use: less than 2 KiB for each call, in the archive as it is compiled for x86-64. No heap and no global data.
  */
@@ -88,6 +89,10 @@ extern "C" {
 #define GROOVEPAWN_VERDICT(answer) (((answer) >> 8) & 0xff)
 #define GROOVEPAWN_STATES(answer) (((answer) >> 16) & 0xffffff)
 #define GROOVEPAWN_LIVE(answer) ((answer) >> 40)
+
+/* The two lengths of groovepawn_clean. */
+#define GROOVEPAWN_LENGTH(answer) (((answer) >> 8) & 0xffffff)
+#define GROOVEPAWN_LIST_LENGTH(answer) ((answer) >> 32)
 
 /*
  * Checks the policy and writes one mark for each state, under the reading named. Refusals 22, 1 to 11.
@@ -211,6 +216,22 @@ uint32_t groovepawn_meter_output(uint8_t reading, const uint8_t *file, size_t fi
 uint64_t groovepawn_prepare_fast(uint8_t reading, const uint8_t *file, size_t file_len, uint8_t *marks, size_t marks_len, uint16_t *work_1,
                                  size_t work_1_len, uint16_t *work_2, size_t work_2_len, uint16_t *work_3, size_t work_3_len, uint16_t *work_4,
                                  size_t work_4_len, uint16_t *work_5, size_t work_5_len);
+
+/*
+ * Cleans a policy under the reading named: writes it without the locations that cannot be entered and the rules that never decide, and a list of what
+ * went. Locations that stay keep their order, the start stays, and targets are renumbered. The cleaned policy is hopeless exactly when the old one is,
+ * and releases the same for every stream under that reading. An entry of the list is three bytes, the kind and the old number from 0, high byte first;
+ * locations come first, then rules, each in file order:
+ *
+ *   1  a location that no permitted stream from the start leads to
+ *   2  a rule of such a location
+ *   3  another rule that decides no event in any state that such a stream leads to
+ *
+ * Refusals 22, 1 to 9, 14 (either slice is too short; both are then left as given). Returns refusal | length << 8 | length of the list << 32. Bytes
+ * past both lengths stay. 5,974 bytes are always enough for cleaned, and 957 for struck.
+ */
+uint64_t groovepawn_clean(uint8_t reading, const uint8_t *file, size_t file_len, uint8_t *cleaned, size_t cleaned_len, uint8_t *struck,
+                          size_t struck_len);
 
 #ifdef __cplusplus
 }

@@ -193,4 +193,14 @@ extern "C" {
         work_5: *mut u16,
         work_5_len: usize,
     ) -> u64;
+
+    pub fn groovepawn_clean(
+        reading: u8,
+        file: *const u8,
+        file_len: usize,
+        cleaned: *mut u8,
+        cleaned_len: usize,
+        struck: *mut u8,
+        struck_len: usize,
+    ) -> u64;
 }

@@ -9,6 +9,8 @@ mod bays;
 mod call;
 #[path = "../../independent/src/cases.rs"]
 mod cases;
+#[path = "../../independent/src/clean.rs"]
+mod clean;
 #[path = "../../independent/src/compare.rs"]
 mod compare;
 #[path = "../../independent/src/damage.rs"]
@@ -236,5 +238,9 @@ impl Engine for PlainSide {
 
     fn prepare_fast(&mut self, reading: u8, file: &[u8], marks: &mut [u8], work: &mut Work) -> u64 {
         Model.prepare_fast(reading, file, marks, work)
+    }
+
+    fn clean(&mut self, reading: u8, file: &[u8], cleaned: &mut [u8], struck: &mut [u8]) -> u64 {
+        Model.clean(reading, file, cleaned, struck)
     }
 }

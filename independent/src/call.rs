@@ -123,13 +123,19 @@ pub enum Call {
         marks: Vec<u8>,
         work: Work,
     },
+    Clean {
+        reading: u8,
+        file: Vec<u8>,
+        cleaned: Vec<u8>,
+        struck: Vec<u8>,
+    },
 }
 
 /// The work slices of the second engine. What they hold afterwards is not said.
 pub type Work = [Vec<u16>; 5];
 
 /// The functions, in the order of `Call::kind`.
-pub const FUNCTIONS: [&str; 18] = [
+pub const FUNCTIONS: [&str; 19] = [
     "prepare",
     "input",
     "output",
@@ -148,6 +154,7 @@ pub const FUNCTIONS: [&str; 18] = [
     "meter_input",
     "meter_output",
     "prepare_fast",
+    "clean",
 ];
 
 /// One thing that a function is given.
@@ -170,13 +177,16 @@ pub enum Given<'a> {
 pub struct Outcome {
     pub answer: u64,
     /// The marks of both prepares, the released events of run, the file of join,
-    /// the text of the wave writer, the events of its reader; otherwise empty.
+    /// the text of the wave writer, the events of its reader, the cleaned file;
+    /// otherwise empty.
     pub bytes: Vec<u8>,
     /// The state of output and run, the index, the states of the bays, the
     /// station of a meter; otherwise empty.
     pub state: Vec<u16>,
     /// The totals of a meter; otherwise empty.
     pub totals: Vec<u32>,
+    /// The list of what a cleaning struck out; otherwise empty.
+    pub struck: Vec<u8>,
     /// A byte not lent for writing was changed.
     pub strayed: bool,
 }
@@ -203,6 +213,7 @@ impl Call {
             Call::MeterInput { .. } => 15,
             Call::MeterOutput { .. } => 16,
             Call::PrepareFast { .. } => 17,
+            Call::Clean { .. } => 18,
         }
     }
 
@@ -412,6 +423,17 @@ impl Call {
                 ("work 4", Numbers(&work[3])),
                 ("work 5", Numbers(&work[4])),
             ],
+            Call::Clean {
+                reading,
+                file,
+                cleaned,
+                struck,
+            } => vec![
+                ("reading", Byte(*reading)),
+                ("file", Policy(file)),
+                ("cleaned before", Policy(cleaned)),
+                ("struck before", Policy(struck)),
+            ],
         }
     }
 
@@ -436,7 +458,8 @@ impl Call {
             | Call::BayOutput { reading, .. }
             | Call::MeterInput { reading, .. }
             | Call::MeterOutput { reading, .. }
-            | Call::PrepareFast { reading, .. } => *reading = other,
+            | Call::PrepareFast { reading, .. }
+            | Call::Clean { reading, .. } => *reading = other,
             Call::Join { .. }
             | Call::Ticks { .. }
             | Call::WaveWrite { .. }
@@ -464,7 +487,8 @@ impl Call {
             | Call::BayOutput { file, .. }
             | Call::MeterInput { file, .. }
             | Call::MeterOutput { file, .. }
-            | Call::PrepareFast { file, .. } => *file = other,
+            | Call::PrepareFast { file, .. }
+            | Call::Clean { file, .. } => *file = other,
             Call::Join { a, .. } => *a = other,
             Call::Ticks { .. } | Call::BaysNew { .. } | Call::MeterNew { .. } => {}
         }
@@ -475,6 +499,7 @@ impl Call {
         let mut bytes = self.lent_bytes().to_vec();
         let mut lent_state = self.lent_state().to_vec();
         let mut lent_totals = self.lent_totals().to_vec();
+        let mut struck = self.lent_list().to_vec();
         let answer = match self {
             Call::Prepare { reading, file, .. } => engine.prepare(*reading, file, &mut bytes),
             Call::Input {
@@ -578,12 +603,16 @@ impl Call {
                 work,
                 ..
             } => engine.prepare_fast(*reading, file, &mut bytes, &mut work.clone()),
+            Call::Clean { reading, file, .. } => {
+                engine.clean(*reading, file, &mut bytes, &mut struck)
+            }
         };
         Outcome {
             answer,
             bytes,
             state: lent_state,
             totals: lent_totals,
+            struck,
             strayed: engine.strayed(),
         }
     }
@@ -596,6 +625,15 @@ impl Call {
             Call::Join { out, .. } => out,
             Call::WaveWrite { text, .. } => text,
             Call::WaveRead { events, .. } => events,
+            Call::Clean { cleaned, .. } => cleaned,
+            _ => &[],
+        }
+    }
+
+    /// The list lent for writing, as it is before.
+    pub fn lent_list(&self) -> &[u8] {
+        match self {
+            Call::Clean { struck, .. } => struck,
             _ => &[],
         }
     }
@@ -652,6 +690,7 @@ impl fmt::Display for Outcome {
         writeln!(out, "bytes after {}", hex(&self.bytes))?;
         writeln!(out, "state after {:?}", self.state)?;
         writeln!(out, "totals after {:?}", self.totals)?;
+        writeln!(out, "struck after {}", hex(&self.struck))?;
         writeln!(
             out,
             "changed what was not lent for writing: {}",

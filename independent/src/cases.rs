@@ -4,11 +4,13 @@
 
 use crate::bays::MOST_BAYS;
 use crate::call::Call;
+use crate::clean::{self, LONGEST_LIST};
 use crate::damage;
 use crate::index::{self, INDEX_LENGTH};
 use crate::join;
 use crate::meter::{self, STATION_LENGTH, TOTALS};
 use crate::moment::STATE_LENGTH;
+use crate::parse;
 use crate::policies::{self, Family, Size};
 use crate::policy::*;
 use crate::random::Random;
@@ -67,6 +69,7 @@ fn around_policy(random: &mut Random) -> Vec<Call> {
         made.push(bay_call(random, &subject));
     }
     made.push(bays_new_call(random));
+    made.push(clean_call(random, &subject));
     made
 }
 
@@ -82,6 +85,20 @@ fn around_engines(random: &mut Random) -> Vec<Call> {
         }
     }
     made
+}
+
+fn clean_call(random: &mut Random, subject: &Subject) -> Call {
+    let (mut out, mut list) = (vec![0; 6_000], vec![0; LONGEST_LIST]);
+    let reading = some_reading(random, subject);
+    let needed = clean::clean(reading, &subject.file, &mut out, &mut list);
+    let (length, listed) = needed.unwrap_or((30, 6));
+    let (length, listed) = (lent_length(random, length), lent_length(random, listed));
+    Call::Clean {
+        reading,
+        file: subject.file.clone(),
+        cleaned: filler(random, length),
+        struck: filler(random, listed),
+    }
 }
 
 /// The work slices hold anything before.
@@ -291,7 +308,8 @@ fn around_damage(random: &mut Random) -> Vec<Call> {
         made.push(index_call(random, &subject).with_file(file.clone()));
         made.push(indexed_call(random, &subject).with_file(file.clone()));
         made.push(bay_call(random, &subject).with_file(file.clone()));
-        made.push(prepare_fast_call(random, &subject).with_file(file));
+        made.push(prepare_fast_call(random, &subject).with_file(file.clone()));
+        made.push(clean_call(random, &subject).with_file(file));
     }
     made
 }
@@ -336,6 +354,12 @@ fn around_join(random: &mut Random) -> Vec<Call> {
         }
         _ => join_call(random, &a, &a),
     });
+    // Joined tables are those that are cleaned.
+    let mut out = vec![0; 6_000];
+    if let Ok(length) = join::join(&a, &b, &mut out) {
+        let joined = parse::check(&out[..length]).expect("a join is a policy");
+        made.push(clean_call(random, &Subject::new(joined, reading)));
+    }
     if random.percent(20) {
         made.push(join_at_limit(random));
     }
@@ -800,6 +824,7 @@ pub fn refusals_of(function: &str) -> Vec<usize> {
         "ticks" => return vec![0, 18, 19],
         "prepare" => &[10, 11, 22],
         "prepare_fast" => &[10, 11, 22, 23],
+        "clean" => &[14, 22],
         "input" | "output" => &[10, 15, 16, 17, 22],
         "run" => &[10, 14, 15, 16, 17, 22],
         "join" => &[12, 13, 14],

@@ -3,6 +3,7 @@
 
 use crate::bays;
 use crate::call::Work;
+use crate::clean;
 use crate::enforce;
 use crate::index;
 use crate::join;
@@ -138,6 +139,9 @@ pub trait Engine {
 
     /// As prepare. What the work slices hold afterwards is not said.
     fn prepare_fast(&mut self, reading: u8, file: &[u8], marks: &mut [u8], work: &mut Work) -> u64;
+
+    /// refusal | length << 8 | length of the list << 32
+    fn clean(&mut self, reading: u8, file: &[u8], cleaned: &mut [u8], struck: &mut [u8]) -> u64;
 
     /// Whether, since this was last asked, a byte was changed that was not
     /// lent for writing.
@@ -309,6 +313,13 @@ impl Engine for Model {
     fn prepare_fast(&mut self, reading: u8, file: &[u8], marks: &mut [u8], work: &mut Work) -> u64 {
         let room = work.each_ref().map(Vec::len);
         prepared(enforce::prepare_with_room(reading, file, marks, room))
+    }
+
+    fn clean(&mut self, reading: u8, file: &[u8], cleaned: &mut [u8], struck: &mut [u8]) -> u64 {
+        match clean::clean(reading, file, cleaned, struck) {
+            Ok((length, listed)) => (length as u64) << 8 | (listed as u64) << 32,
+            Err(refusal) => u64::from(refusal.number()),
+        }
     }
 }
 

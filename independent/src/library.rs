@@ -473,6 +473,25 @@ impl Engine for Library {
         answer
     }
 
+    fn clean(&mut self, reading: u8, file: &[u8], cleaned: &mut [u8], struck: &mut [u8]) -> u64 {
+        let (mut f, mut c, mut s) = (bytes(file), bytes(cleaned), bytes(struck));
+        let answer = unsafe {
+            groovepawn_clean(
+                reading,
+                f.pointer(),
+                f.length,
+                c.pointer(),
+                c.length,
+                s.pointer(),
+                s.length,
+            )
+        };
+        self.expect(f.is_still(file));
+        self.expect(c.give_back(cleaned));
+        self.expect(s.give_back(struck));
+        answer
+    }
+
     fn strayed(&mut self) -> bool {
         std::mem::take(&mut self.strayed)
     }

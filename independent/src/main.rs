@@ -3,6 +3,7 @@
 mod bays;
 mod call;
 mod cases;
+mod clean;
 mod compare;
 mod damage;
 mod enforce;

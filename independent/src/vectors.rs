@@ -115,12 +115,20 @@ fn body(call: &Call, outcome: &Outcome) -> Vec<u8> {
     if writes_totals(call.kind()) {
         put_totals(&mut body, &outcome.totals);
     }
+    if writes_list(call.kind()) {
+        put_string(&mut body, &outcome.struck);
+    }
     body
 }
 
-/// Both prepares, run, join and both functions of waves.
+/// Both prepares, run, join, both functions of waves and clean.
 pub fn writes_bytes(kind: usize) -> bool {
-    [0, 3, 4, 6, 7, 17].contains(&kind)
+    [0, 3, 4, 6, 7, 17, 18].contains(&kind)
+}
+
+/// Clean.
+pub fn writes_list(kind: usize) -> bool {
+    kind == 18
 }
 
 /// Output, run, index, the output half with an index, of the bays the list and
@@ -363,6 +371,12 @@ impl<'a> Reader<'a> {
                     self.numbers()?,
                 ],
             },
+            19 => Call::Clean {
+                reading: self.byte()?,
+                file: self.string()?,
+                cleaned: self.string()?,
+                struck: self.string()?,
+            },
             _ => return Err(BROKEN.to_string()),
         })
     }
@@ -381,11 +395,16 @@ impl<'a> Reader<'a> {
             true => self.totals()?,
             false => vec![],
         };
+        let struck = match writes_list(kind) {
+            true => self.string()?,
+            false => vec![],
+        };
         Ok(Outcome {
             answer,
             bytes,
             state,
             totals,
+            struck,
             ..Outcome::default()
         })
     }

@@ -3,6 +3,7 @@
 
 mod annex;
 mod bays;
+mod clean;
 mod fast;
 mod files;
 mod halves;
@@ -41,6 +42,12 @@ impl Written {
         self
     }
 
+    /// The same, with the list that is then expected.
+    fn with_list(mut self, struck: &[u8]) -> Written {
+        self.expected.struck = struck.to_vec();
+        self
+    }
+
     /// The same call under another reading, with what is then expected.
     fn under(self, reading: u8) -> Written {
         Written {
@@ -64,6 +71,7 @@ pub fn all() -> Vec<Written> {
         meter::all(),
         fast::all(),
         annex::all(),
+        clean::all(),
         wrong_files::all(),
         times::all(),
         waves::all(),
@@ -117,7 +125,7 @@ mod tests {
             assert!(seen.iter().any(|function| function[number]), "{number}");
         }
         // Those that take a reading.
-        for kind in [0, 1, 2, 3, 9, 10, 12, 13, 15, 16, 17] {
+        for kind in [0, 1, 2, 3, 9, 10, 12, 13, 15, 16, 17, 18] {
             assert!(seen[kind][22]);
         }
         // Those a half or a run can give beside the nine of a file.

@@ -4,7 +4,9 @@
 use crate::call::{Outcome, FUNCTIONS};
 use crate::engine::refusal_in;
 use crate::random::Random;
-use crate::vectors::{chosen, file_of, record, writes_bytes, writes_state, writes_totals};
+use crate::vectors::{
+    chosen, file_of, record, writes_bytes, writes_list, writes_state, writes_totals,
+};
 
 /// A call whose record is longer than this is left out.
 const LONGEST_RECORD: usize = 700;
@@ -16,9 +18,16 @@ enum Part {
     Bytes,
     State,
     Totals,
+    List,
 }
 
-const PARTS: [Part; 4] = [Part::Answer, Part::Bytes, Part::State, Part::Totals];
+const PARTS: [Part; 5] = [
+    Part::Answer,
+    Part::Bytes,
+    Part::State,
+    Part::Totals,
+    Part::List,
+];
 
 impl Part {
     fn is_compared(self, kind: usize) -> bool {
@@ -27,6 +36,7 @@ impl Part {
             Part::Bytes => writes_bytes(kind),
             Part::State => writes_state(kind),
             Part::Totals => writes_totals(kind),
+            Part::List => writes_list(kind),
         }
     }
 
@@ -37,6 +47,7 @@ impl Part {
             Part::Bytes => outcome.bytes.len(),
             Part::State => outcome.state.len(),
             Part::Totals => outcome.totals.len(),
+            Part::List => outcome.struck.len(),
         }
     }
 
@@ -47,6 +58,7 @@ impl Part {
             Part::Bytes => outcome.bytes[place] ^= 1 << random.below(8),
             Part::State => outcome.state[place] ^= 1 << random.below(16),
             Part::Totals => outcome.totals[place] ^= 1 << random.below(32),
+            Part::List => outcome.struck[place] ^= 1 << random.below(8),
         }
     }
 }
@@ -103,11 +115,14 @@ mod tests {
         assert_eq!(one.totals.len(), other.totals.len());
         let state = one.state.iter().zip(&other.state);
         let totals = one.totals.iter().zip(&other.totals);
+        assert_eq!(one.struck.len(), other.struck.len());
+        let struck = one.struck.iter().zip(&other.struck);
         [
             (one.answer ^ other.answer).count_ones(),
             bytes.map(|(a, b)| (a ^ b).count_ones()).sum(),
             state.map(|(a, b)| (a ^ b).count_ones()).sum(),
             totals.map(|(a, b)| (a ^ b).count_ones()).sum(),
+            struck.map(|(a, b)| (a ^ b).count_ones()).sum(),
         ]
     }
 
@@ -169,6 +184,9 @@ mod tests {
             "meter_output Totals",
             "prepare_fast Answer",
             "prepare_fast Bytes",
+            "clean Answer",
+            "clean Bytes",
+            "clean List",
         ];
         assert_eq!(named, expected);
     }

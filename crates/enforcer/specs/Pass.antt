@@ -80,6 +80,21 @@ module _ (s : Place) where
       Changed (λ x. bitXor (getD left x 0) (takes s r x (getD left x 0))) n left rest
   parts-taken {left = left} k c = changed-by (λ x h. rw (k .same x (getD left x 0))) c
 
+  -- What the rule r takes of the first n sets, and whether that is something.
+  pub record Took (r : Rule) (n : ℕ) (left rest : List ℕ) (some : Bool) : Type 0 where
+    pub changed : Changed (λ x. bitXor (getD left x 0) (takes s r x (getD left x 0))) n left rest
+    pub says : some ≡ any (λ x. ltb 0 (takes s r x (getD left x 0))) n
+
+  pub took-not : {r : Rule} {n : ℕ} {left : List ℕ} {care value set : ℕ} → Parted r n left false care value set → Took r n left left false
+  took-not k = record { changed = parted-not k; says = k .says }
+
+  pub took-so : {r : Rule} {n : ℕ} {left rest : List ℕ} {care value set : ℕ} → Parted r n left true care value set →
+      Changed (λ x. bitXor (getD left x 0) (agreed care value set x (getD left x 0))) n left rest → Took r n left rest true
+  took-so k c = record { changed = parts-taken (k .parts refl) c; says = k .says }
+
+  pub took-as : {r : Rule} {n m : ℕ} {left rest : List ℕ} {some : Bool} → n ≡ m → Took r n left rest some → Took r m left rest some
+  took-as {r} {left = left} {rest = rest} {some = some} e w = subst (λ (k : ℕ). Took r k left rest some) e w
+
 module _ (s : Place) (p : Policy) (marks : List ℕ) where
   -- What the rule r takes of the first n sets, and whether it takes something and leads to a marked place.
   pub record Went (r : Rule) (n : ℕ) (left rest : List ℕ) (found : Bool) : Type 0 where
@@ -231,13 +246,11 @@ module _ (s : Place) (p : Policy) where
   pub turned-as : {r : Rule} {n m : ℕ} {left rest : List ℕ} {some : Bool} {to : ℕ} → n ≡ m → Turned r n left rest some to → Turned r m left rest some to
   turned-as {r} {left = left} {rest = rest} {some = some} {to = to} e w = subst (λ (k : ℕ). Turned r k left rest some to) e w
 
-  pub turned-not : {r : Rule} {n : ℕ} {left : List ℕ} {care value set to : ℕ} → Parted (looked stopped p s) r n left false care value set → Turned r n left left false to
-  turned-not k = record { went = λ marks. record { changed = parted-not (looked stopped p s) k; says = rw (← k .says) }; below = λ q. absurd (false≢true q) }
+  pub turned-not : {r : Rule} {n : ℕ} {left rest : List ℕ} {to : ℕ} → Took (looked stopped p s) r n left rest false → Turned r n left rest false to
+  turned-not k = record { went = λ marks. record { changed = k .changed; says = rw (← k .says) }; below = λ q. absurd (false≢true q) }
 
-  pub turned-took : {r : Rule} {n : ℕ} {left rest : List ℕ} {care value set : ℕ} {some : Bool} {to : ℕ} → Parted (looked stopped p s) r n left true care value set →
-      Changed (λ x. bitXor (getD left x 0) (agreed care value set x (getD left x 0))) n left rest → Led r some to → Turned r n left rest some to
-  turned-took k c w =
-      record { went = λ marks. record { changed = parts-taken (looked stopped p s) (k .parts refl) c; says = rw (← k .says, w .mark marks) }; below = w .below }
+  pub turned-took : {r : Rule} {n : ℕ} {left rest : List ℕ} {some : Bool} {to : ℕ} → Took (looked stopped p s) r n left rest true → Led r some to → Turned r n left rest some to
+  turned-took k w = record { went = λ marks. record { changed = k .changed; says = rw (← k .says, w .mark marks) }; below = w .below }
 
   -- What is known with the rules rs still to come, if the states of the kind F are found: no rule passed leads to another.
   pub record Passing (F : ℕ → Type 0) (rs : List Rule) (left : List ℕ) : Type 0 where

@@ -26,6 +26,7 @@ pub use pass::goes_on;
 pub use pass::lead_of;
 pub use pass::next_of;
 pub use pass::part_of;
+pub use pass::take_by;
 pub use pass::way_by;
 pub use reach::Here;
 pub use reach::here_by;

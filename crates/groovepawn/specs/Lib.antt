@@ -8,3 +8,4 @@ pub mod Indexed
 pub mod Bays
 pub mod Fast
 pub mod Meter
+pub mod Clean

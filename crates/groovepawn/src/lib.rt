@@ -1,6 +1,7 @@
 // The entries for a controller in C: each answer is one number, and a state is five numbers, the location and then the four clock values.
 // What each call promises stands in specs/.
 mod bay_calls;
+mod clean_call;
 mod meter_calls;
 mod second;
 mod viewer;
@@ -12,6 +13,7 @@ use bays::five::NUMBERS;
 use bays::five::odd_refusal;
 use bays::five::put_state;
 use bays::five::state_of;
+pub use clean_call::groovepawn_clean;
 use enforcer::Answer;
 use enforcer::Output;
 use enforcer::State;

@@ -30,9 +30,8 @@ use Rattle.join.specs.Again.{sameTags-is}
 use Rattle.join.specs.declared.Joined.the-variants.{Length, Refused}
 use Rattle.join.specs.Promise.{JoinPromise}
 use Rattle.join.specs.Limits.{states-join}
-use Rattle.join.proofs.RuleLaws.{bytes-length, pairs-copied}
-use Rattle.join.proofs.Laws.{laid-parts}
 use Rattle.join.specs.Lay.{Laid, bytesFrom, Joinable, Section, rulesIn, rowsBytes, LayoutOf, limits, Ready, joinedCount, joinedRules, clocksFor, countsFrom, countsLength}
+use Rattle.join.specs.Laying.{bytes-length, pairs-copied, laid-parts, signals-laid}
 
 -- The tags from i on: the first, and the rest.
 pub same-turn : (xs ys : List ℕ) (i : ℕ) → i < length xs → i < length ys →
@@ -180,40 +179,10 @@ module _ {f g : List ℕ} {x y : Layout} (r : Ready f x g y) where
       let k = each-weak (λ s h. h .bounds) (join-sound (said f) (said g) a b .rules) in
       rw (r .first .is, r .second .is) (rw (clocks-joined f g) at (rules-length _ k))
 
--- The bytes of a file, part by part.
-bytes-add : (f : List ℕ) (at n m : ℕ) → bytesFrom f at (n + m) ≡ bytesFrom f at n ++ bytesFrom f (at + n) m
-unfolding bytesFrom
-bytes-add f at zero m =
-    let e : 0 + m ≡ m = omega arith in
-    let s : at + 0 ≡ at = omega arith in rw (e, s)
-bytes-add f at (suc n) m =
-    let e : suc n + m ≡ suc (n + m) = omega arith in
-    let s : at + 1 + n ≡ at + suc n = omega arith in rw (e, bytes-add f (at + 1) n m, s)
-
-bytes-part : (f : List ℕ) (at n : ℕ) → at + n ≤ length f → bytesFrom f at n ≡ part f at n
-unfolding bytesFrom
-bytes-part f at zero h = refl
-bytes-part f at (suc n) h =
-    let l : at < length f = omega arith in rw (drop-cons f at 0 l, ← add-one at, bytes-part f (at + 1) n (omega arith))
-
 pairs-append : (cs ds : List ℕ) → pairsBytes (cs ++ ds) ≡ pairsBytes cs ++ pairsBytes ds
 unfolding pairsBytes
 pairs-append [] ds = refl
 pairs-append (c ∷ cs) ds = rw (pairs-append cs ds)
-
--- Counts and tags.
-signals-laid : (f : List ℕ) → Framed f → bytesFrom f 0 (2 + inputCount f + outputCount f) ≡ (inputCount f ∷ inputTags f) ++ (outputCount f ∷ outputTags f)
-unfolding bytesFrom
-signals-laid f k =
-    let n : 2 + inputCount f + outputCount f ≡ suc (inputCount f) + suc (outputCount f) = omega arith in
-    let s : 0 + suc (inputCount f) ≡ outputsAt f = omega arith in
-    rw (
-      n,
-      bytes-add f 0 (suc (inputCount f)) (suc (outputCount f)),
-      s,
-      bytes-part f 1 (inputCount f) (omega arith),
-      bytes-part f (outputsAt f + 1) (outputCount f) (omega arith),
-    )
 
 module _ {f g : List ℕ} {x y : Layout} (r : Ready f x g y) where
   -- The bytes before the rules are those of the joined policy.

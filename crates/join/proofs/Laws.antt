@@ -1,98 +1,11 @@
--- What the proofs of the writers cite: bytes laid one part after the other, and a turn of each loop.
-use mathlib.Core.Path.{_≡_, refl, ap, ap₂, sym, _∙_}
-use mathlib.Core.List.{List, [], _∷_, _++_, append-assoc, append-nil}
+-- What the proofs of the writers cite of bytes with the bits of either.
+use mathlib.Core.Path.{_≡_, ap, ap₂, _∙_}
+use mathlib.Core.List.{List, [], _∷_, _++_}
 use Prim.Native.Nat.{ℕ, suc, _+_, _-_, _≤_, _<_}
 use native.Mathlib.Omega.{arith}
 use lib.Bits.{bitOr}
-use lib.ListN.{length, take, drop, set, length-append, length-drop, drop-of-length-le}
-use lib.Seq.{set-out, sets, length-sets, sets-eq, take-all, take-append-seam, drop-append-seam, drop-drop}
 use Rattle.policy.specs.File.{byteAt}
-use Rattle.join.specs.Lay.{Laid, bytesFrom, eitherFrom}
-
-sets-append : (l : List ℕ) (i : ℕ) (xs ys : List ℕ) → sets l i (xs ++ ys) ≡ sets (sets l i xs) (i + length xs) ys
-sets-append l i [] ys = ap (λ (k : ℕ). sets l k ys) (omega arith)
-sets-append l i (x ∷ xs) ys = sets-append (set l i x) (suc i) xs ys ∙ ap (λ (k : ℕ). sets (sets (set l i x) (suc i) xs) k ys) (omega arith)
-
-pub laid-none : (l : List ℕ) (at : ℕ) → Laid [] l at l at
-laid-none l at = record { ends = omega arith; lies = refl }
-
-pub laid-more : {xs ys l m n : List ℕ} {at i j : ℕ} → Laid xs l at m i → Laid ys m i n j → Laid (xs ++ ys) l at n j
-laid-more {xs} {ys} {l} {m} {n} {at} {i} {j} g h =
-    record {
-      ends = rw length-append (omega arith);
-      lies = h .lies ∙ rw (g .lies, g .ends) (sym (sets-append l at xs ys));
-    }
-
-pub laid-as : {xs ys l m : List ℕ} {at i : ℕ} → xs ≡ ys → Laid xs l at m i → Laid ys l at m i
-laid-as e g = rw e at g
-
-pub laid-length : {xs l m : List ℕ} {at i : ℕ} → Laid xs l at m i → length m ≡ length l
-laid-length {xs} {l} {m} {at} g = rw (g .lies) (length-sets l at xs)
-
--- Two parts, the second laid into the part of the slice that begins after the first, and put back.
-pub laid-parts : {xs ys l m n : List ℕ} {i j : ℕ} → length xs + length ys ≤ length l → Laid xs l 0 m i →
-    Laid ys (take (length m - length xs) (drop (length xs) m)) 0 n j →
-    take (length xs) m ++ (n ++ drop (length m - length xs) (drop (length xs) m)) ≡ (xs ++ ys) ++ drop (length (xs ++ ys)) l
-laid-parts {xs} {ys} {l} {m} {n} h g k =
-    let t : length (drop (length xs) m) ≤ length m - length xs = simp length-drop (omega arith) in
-    let e : m ≡ xs ++ drop (length xs) l = g .lies ∙ front xs l (omega arith) in
-    let d : take (length m - length xs) (drop (length xs) m) ≡ drop (length xs) l = take-all _ _ t ∙ rw e (drop-append-seam xs _) in
-    let w : n ≡ ys ++ drop (length ys) (drop (length xs) l) = k .lies ∙ rw d (front ys (drop (length xs) l) (simp length-drop (omega arith))) in
-    rw (drop-of-length-le (drop (length xs) m) t, append-nil, w, e, take-append-seam, drop-drop, length-append, append-assoc)
-  where
-    front : (vs rs : List ℕ) → length vs ≤ length rs → sets rs 0 vs ≡ vs ++ drop (length vs) rs
-    front vs rs b = let z : 0 + length vs ≡ length vs = omega arith in sets-eq vs rs 0 (omega arith) ∙ rw z
-
--- Bytes past the slice's end change nothing, and a slice with no bytes stays so.
-sets-out : (l : List ℕ) (i : ℕ) (xs : List ℕ) → length l ≤ i → sets l i xs ≡ l
-sets-out l i [] h = refl
-sets-out l i (x ∷ xs) h = rw (set-out l i x h) (sets-out l (suc i) xs (omega arith))
-
-pub laid-past : (xs l : List ℕ) (at : ℕ) → length l ≤ at → {end : ℕ} → end ≡ at + length xs → Laid xs l at l end
-laid-past xs l at h e = record { ends = e; lies = sym (sets-out l at xs h) }
-
-pub laid-nowhere : {xs m : List ℕ} {at i : ℕ} → Laid xs [] at m i → m ≡ []
-laid-nowhere {xs} {m} {at} g = g .lies ∙ sets-out [] at xs (omega arith)
-
--- In the midst of laying the whole: what is left, laid from here on, gives what the whole gives.
-pub record Left (whole rest l : List ℕ) (at : ℕ) (m : List ℕ) (i : ℕ) : Type 0 where
-  pub ends : i + length rest ≡ at + length whole
-  pub lies : sets m i rest ≡ sets l at whole
-
-pub left-start : (whole l : List ℕ) (at : ℕ) → Left whole whole l at l at
-left-start whole l at = record { ends = refl; lies = refl }
-
-module _ {whole rest l m : List ℕ} {at i : ℕ} (g : Left whole rest l at m i) where
-  pub left-turn : {xs ys n : List ℕ} {j : ℕ} → rest ≡ xs ++ ys → Laid xs m i n j → Left whole ys l at n j
-  left-turn {xs} {ys} {n} {j} e h =
-      record {
-        ends = omega (arith, simp length-append at (ap length e));
-        lies = rw (h .lies, h .ends) (sym (sets-append m i xs ys) ∙ rw (← e) (g .lies));
-      }
-
-  pub left-same : {ys : List ℕ} → rest ≡ ys → Left whole ys l at m i
-  left-same e = rw (← e) g
-
-  pub left-end : rest ≡ [] → Laid whole l at m i
-  left-end e = record { ends = omega (arith, ap length e, g .ends); lies = sym (sym (g .lies) ∙ rw e) }
-
-  pub left-length : length m ≡ length l
-  left-length = sym (length-sets m i rest) ∙ ap length (g .lies) ∙ length-sets l at whole
-
--- What is left of n bytes after i of them; a turn, and the end.
-pub bytes-start : (f : List ℕ) (at n : ℕ) → bytesFrom f at n ≡ bytesFrom f (at + 0) (n - 0)
-bytes-start f at n = ap₂ (bytesFrom f) (omega arith) (omega arith)
-
-pub bytes-turn : (f : List ℕ) (at n i : ℕ) {v : ℕ} → i < n → v ≡ byteAt f (at + i) →
-    bytesFrom f (at + i) (n - i) ≡ (v ∷ []) ++ bytesFrom f (at + (i + 1)) (n - (i + 1))
-unfolding bytesFrom
-bytes-turn f at n i h v =
-    let e : n - i ≡ suc (n - (i + 1)) = omega arith in
-    let s : at + i + 1 ≡ at + (i + 1) = omega arith in rw (v, e, s)
-
-pub bytes-end : (f : List ℕ) (at n i : ℕ) → n ≤ i → bytesFrom f at (n - i) ≡ []
-unfolding bytesFrom
-bytes-end f at n i h = let e : n - i ≡ 0 = omega arith in rw e
+use Rattle.join.specs.Lay.{eitherFrom}
 
 pub either-start : (f : List ℕ) (p : ℕ) (g : List ℕ) (q n : ℕ) → eitherFrom f p g q n ≡ eitherFrom f (p + 0) g (q + 0) (n - 0)
 either-start f p g q n =

@@ -143,7 +143,7 @@ module _ (i o : ℕ) (cs : List ℕ) (l : ℕ) where
         bounds-pass (g .lawful) (g .ordered),
       )
 
-  rules-pass : {before : ℕ} {rs : List Rule} → Rising before rs → Each (Ruled i o cs l) rs → rulesRefusal i o cs l before rs ≡ 0
+  pub rules-pass : {before : ℕ} {rs : List Rule} → Rising before rs → Each (Ruled i o cs l) rs → rulesRefusal i o cs l before rs ≡ 0
   unfolding rulesRefusal
   rules-pass rising-none each-none = refl
   rules-pass {before} (rising-more {r = r} b bs) (each-more g gs) = rw (rule-passes before r b g) (rules-pass bs gs)

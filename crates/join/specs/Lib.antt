@@ -12,4 +12,5 @@ pub mod Limits
 pub mod Written
 pub mod Examples
 pub mod Lay
+pub mod Laying
 pub mod Promise

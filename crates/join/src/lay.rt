@@ -6,7 +6,7 @@ ghost use lib.ListN.{length};
 ghost use Rattle.policy.specs.Bytes.{pairBytes};
 ghost use Rattle.join.specs.Lay.{Laid, bytesFrom, eitherFrom};
 
-pub(crate) fn put(byte: usize, out: &mut [u8], at: usize) -> usize
+pub fn put(byte: usize, out: &mut [u8], at: usize) -> usize
     requires { ⌜ (byte < 256) × (at < 2 ^ 32) ⌝ }
     ensures { λ r. ⌜ Laid (byte ∷ []) (now (out .entry)) at (now (out .exit)) r ⌝ }
 {
@@ -17,7 +17,7 @@ pub(crate) fn put(byte: usize, out: &mut [u8], at: usize) -> usize
 }
 
 // A two-byte number, the high byte first.
-pub(crate) fn put_pair(n: usize, out: &mut [u8], at: usize) -> usize
+pub fn put_pair(n: usize, out: &mut [u8], at: usize) -> usize
     requires { ⌜ (n < 65536) × (at < 2 ^ 31) ⌝ }
     ensures { λ r. ⌜ Laid (pairBytes n) (now (out .entry)) at (now (out .exit)) r ⌝ }
 {
@@ -26,7 +26,7 @@ pub(crate) fn put_pair(n: usize, out: &mut [u8], at: usize) -> usize
 }
 
 // n bytes from `start` on.
-pub(crate) fn copy(from: &[u8], start: usize, n: usize, out: &mut [u8], at: usize) -> usize
+pub fn copy(from: &[u8], start: usize, n: usize, out: &mut [u8], at: usize) -> usize
     requires { ⌜ (start + n ≤ length (now from)) × (n < 2 ^ 16) × (at < 2 ^ 31) ⌝ }
     ensures { λ r. ⌜ Laid (bytesFrom (now (from .entry)) start n) (now (out .entry)) at (now (out .exit)) r ⌝ }
 {

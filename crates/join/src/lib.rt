@@ -1,6 +1,6 @@
 // Two policies are joined into one. What the join answers stands in specs/.
 mod counts;
-mod lay;
+pub mod lay;
 mod rules;
 
 use crate::counts::counts_length;

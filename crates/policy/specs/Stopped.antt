@@ -58,7 +58,7 @@ mins [] vs = []
 mins (c ∷ cs) [] = []
 mins (c ∷ cs) (v ∷ vs) = min v c ∷ mins cs vs
 
-hold-same : {cs : List ℕ} {bs : List Bound} → AllLawful cs bs → (vs : List ℕ) → hold bs (mins cs vs) ≡ hold bs vs
+pub hold-same : {cs : List ℕ} {bs : List Bound} → AllLawful cs bs → (vs : List ℕ) → hold bs (mins cs vs) ≡ hold bs vs
 unfolding hold mins
 hold-same lawful-none vs = refl
 hold-same (lawful-more l ls) [] = refl
@@ -92,7 +92,7 @@ module _ (p : Policy) where
   decides-same (checked-more {r = r} {rs = rs} l ls) s e = rw (hold-same l (s .clocks), decides-same ls s e)
 
   -- Under either reading the values looked at are the stopped ones of those looked at without limit.
-  tested-same : (vs : List ℕ) → tested stopped p (mins (p .ceilings) vs) ≡ mins (p .ceilings) (tested unlimited p vs)
+  pub tested-same : (vs : List ℕ) → tested stopped p (mins (p .ceilings) vs) ≡ mins (p .ceilings) (tested unlimited p vs)
   unfolding tested
   tested-same vs = go (eqb (p .reading) 2)
     where

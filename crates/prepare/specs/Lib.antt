@@ -2,6 +2,7 @@ pub mod Table
 pub mod Entry
 pub mod Live
 pub mod Alone
+pub mod Located
 pub mod Enforces
 pub mod Engine
 pub mod Search

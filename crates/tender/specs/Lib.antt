@@ -21,3 +21,4 @@ pub mod InARow
 pub mod Bays
 pub mod Metered
 pub mod Story
+pub mod Clean

@@ -7,6 +7,7 @@ pub enum Differs {
     Bytes,
     State,
     Totals,
+    List,
 }
 
 // What differs, and where the record ends.
@@ -35,6 +36,19 @@ fn first_of_station(answer: bool, station: bool, totals: bool) -> Differs {
         Differs::State
     } else if !totals {
         Differs::Totals
+    } else {
+        Differs::Nothing
+    }
+}
+
+// Of a cleaning, which writes a policy and a list.
+fn first_of_cleaned(answer: bool, cleaned: bool, list: bool) -> Differs {
+    if !answer {
+        Differs::Answer
+    } else if !cleaned {
+        Differs::Bytes
+    } else if !list {
+        Differs::List
     } else {
         Differs::Nothing
     }
@@ -431,6 +445,27 @@ pub(crate) fn prepare_fast(
     let next = bytes.next;
     Outcome {
         differs: first_of(got == answer.value, bytes.same, true),
+        next,
+    }
+}
+
+pub(crate) fn clean(
+    cases: &[u8],
+    at: Cursor,
+    reading: u8,
+    file: &[u8],
+    cleaned: &mut [u8],
+    struck: &mut [u8],
+) -> Outcome {
+    let got = groovepawn::groovepawn_clean(reading, file, cleaned, struck);
+    let answer = at.long(cases);
+    let next = answer.next;
+    let bytes = next.same_string(cases, cleaned);
+    let next = bytes.next;
+    let list = next.same_string(cases, struck);
+    let next = list.next;
+    Outcome {
+        differs: first_of_cleaned(got == answer.value, bytes.same, list.same),
         next,
     }
 }

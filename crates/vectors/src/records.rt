@@ -367,6 +367,31 @@ fn meter_new_record(cases: &[u8], at: Cursor) -> Outcome {
     calls::meter_new(cases, next, &mut station[..numbers], &mut totals[..count])
 }
 
+fn clean_record(cases: &[u8], at: Cursor) -> Outcome {
+    let mut file = [0u8; 8192];
+    let mut cleaned = [0u8; 8192];
+    let mut struck = [0u8; 8192];
+    let reading = at.byte(cases);
+    let next = reading.next;
+    let taken = next.string(cases, &mut file);
+    let file_length = taken.count;
+    let next = taken.next;
+    let taken = next.string(cases, &mut cleaned);
+    let room = taken.count;
+    let next = taken.next;
+    let taken = next.string(cases, &mut struck);
+    let list_room = taken.count;
+    let next = taken.next;
+    calls::clean(
+        cases,
+        next,
+        reading.value,
+        &file[..file_length],
+        &mut cleaned[..room],
+        &mut struck[..list_room],
+    )
+}
+
 // The body of a record.
 fn body(cases: &[u8], kind: Kind, at: Cursor) -> Outcome {
     match kind {
@@ -377,6 +402,7 @@ fn body(cases: &[u8], kind: Kind, at: Cursor) -> Outcome {
         Kind::Index => index_record(cases, at),
         Kind::BaysNew => bays_new_record(cases, at),
         Kind::MeterNew => meter_new_record(cases, at),
+        Kind::Clean => clean_record(cases, at),
         Kind::Unknown => Outcome {
             differs: Differs::Nothing,
             next: at.lose(),

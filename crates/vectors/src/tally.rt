@@ -22,6 +22,7 @@ pub enum Kind {
     MeterInput,
     MeterOutput,
     PrepareFast,
+    Clean,
     Unknown,
 }
 
@@ -46,6 +47,7 @@ impl Kind {
             16 => Kind::MeterInput,
             17 => Kind::MeterOutput,
             18 => Kind::PrepareFast,
+            19 => Kind::Clean,
             _ => Kind::Unknown,
         }
     }
@@ -70,6 +72,7 @@ impl Kind {
             Kind::MeterInput => print(b"meter_input"),
             Kind::MeterOutput => print(b"meter_output"),
             Kind::PrepareFast => print(b"prepare_fast"),
+            Kind::Clean => print(b"clean"),
             Kind::Unknown => print(b"unknown"),
         }
     }
@@ -95,6 +98,7 @@ struct Counts {
     meter_input: u64,
     meter_output: u64,
     prepare_fast: u64,
+    clean: u64,
 }
 
 impl Counts {
@@ -118,6 +122,7 @@ impl Counts {
             Kind::MeterInput => self.meter_input = one_more(self.meter_input),
             Kind::MeterOutput => self.meter_output = one_more(self.meter_output),
             Kind::PrepareFast => self.prepare_fast = one_more(self.prepare_fast),
+            Kind::Clean => self.clean = one_more(self.clean),
             Kind::Unknown => {}
         }
         self
@@ -142,6 +147,7 @@ impl Counts {
         print_count(b"meter_input ", self.meter_input);
         print_count(b"meter_output ", self.meter_output);
         print_count(b"prepare_fast ", self.prepare_fast);
+        print_count(b"clean ", self.clean);
     }
 }
 
@@ -199,6 +205,7 @@ impl Tally {
                 meter_input: 0,
                 meter_output: 0,
                 prepare_fast: 0,
+                clean: 0,
             },
             different: 0,
             first: First::None,
@@ -265,5 +272,6 @@ fn print_differs(differs: Differs) {
         Differs::Bytes => print(b" bytes\n"),
         Differs::State => print(b" state\n"),
         Differs::Totals => print(b" totals\n"),
+        Differs::List => print(b" list\n"),
     }
 }

@@ -141,6 +141,12 @@ fn calls() -> Vec<Call> {
             marks: vec![FILLER; 2],
             work: [0, 1, 2, 3, 4].map(|_| vec![7; 2]),
         },
+        Call::Clean {
+            reading,
+            file: file.clone(),
+            cleaned: vec![FILLER; 60],
+            struck: vec![FILLER; 9],
+        },
     ]
 }
 
@@ -148,7 +154,9 @@ fn refused(number: u64, call: Call) -> Written {
     let name = format!("{number}: a wrong file");
     let (bytes, state) = (call.lent_bytes().to_vec(), call.lent_state().to_vec());
     let totals = call.lent_totals().to_vec();
-    written(&name, call, number, bytes, state).with_totals(&totals)
+    let list = call.lent_list().to_vec();
+    let refused = written(&name, call, number, bytes, state);
+    refused.with_totals(&totals).with_list(&list)
 }
 
 #[cfg(test)]

@@ -1,6 +1,6 @@
 -- `join::lay_joined` meets its contract: the parts of the files that the rules are.
 use native.Mathlib.Omega.{arith}
-use Rattle.join.proofs.Laws.{laid-as}
+use Rattle.join.specs.Laying.{laid-as}
 use Rattle.join.proofs.FileLaws.{sizes, rules-section, joinable, rules-joined}
 use borrow.Author.Needs.{needs}
 use Rattle.join.proofs.lay_joined.Statement.{statement}

@@ -7,7 +7,7 @@ use denote.Ref.{now}
 use borrow.Rule.Slice.PartMut.{same-len-mid}
 use Rattle.policy.specs.File.{byteAt}
 use Rattle.join.specs.Lay.{countsLength}
-use Rattle.join.proofs.Laws.{laid-length}
+use Rattle.join.specs.Laying.{laid-length}
 use Rattle.join.proofs.FileLaws.{sizes, few, counts-long, file-length, file-laid}
 use Rattle.join.proofs.write_joined.Statement.{statement}
 use Rattle.join.proofs.write_joined.Tie as tie

@@ -2,9 +2,8 @@
 use Prim.Native.Nat.{_+_, _*_}
 use native.Mathlib.Omega.{arith}
 use denote.Ref.{now}
-use Rattle.join.proofs.Laws.{laid-more}
-use Rattle.join.proofs.RuleLaws.{bytes-length}
 use borrow.Author.Needs.{needs}
+use Rattle.join.specs.Laying.{laid-more, bytes-length}
 use Rattle.join.proofs.counts.lay_clocks.Statement.{statement}
 use Rattle.join.proofs.counts.lay_clocks.Tie as tie
 

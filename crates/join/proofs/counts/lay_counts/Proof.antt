@@ -3,8 +3,7 @@ use native.Mathlib.Omega.{arith}
 use denote.Ref.{now}
 use borrow.Author.Needs.{needs}
 use Rattle.join.specs.Lay.{clocksFor}
-use Rattle.join.proofs.Laws.{laid-more}
-use Rattle.join.proofs.RuleLaws.{bytes-length}
+use Rattle.join.specs.Laying.{laid-more, bytes-length}
 use Rattle.join.proofs.FileLaws.{sizes, few}
 use Rattle.join.proofs.counts.lay_counts.Statement.{statement}
 use Rattle.join.proofs.counts.lay_counts.Tie as tie

@@ -7,7 +7,7 @@ use borrow.Author.Needs.{needs}
 use Rattle.join.specs.Entry.{said}
 use Rattle.join.specs.Join.{leftBelow}
 use Rattle.join.specs.Lay.{Laid}
-use Rattle.join.proofs.Laws.{laid-none, laid-more, laid-as, laid-length}
+use Rattle.join.specs.Laying.{laid-none, laid-more, laid-as, laid-length}
 use Rattle.join.proofs.RuleLaws.{left-none, left-more}
 use Rattle.join.proofs.FileLaws.{few}
 use Rattle.join.proofs.counts.lay_left.Statement.{statement}

@@ -4,7 +4,7 @@ use Prim.Native.Nat.{_+_, _-_, _≤_}
 use native.Mathlib.Omega.{arith}
 use borrow.Author.Needs.{needs}
 use Rattle.join.specs.Lay.{bytesFrom}
-use Rattle.join.proofs.Laws.{Left, left-start, left-same, left-turn, left-end, left-length, bytes-start, bytes-turn, bytes-end}
+use Rattle.join.specs.Laying.{Left, left-start, left-same, left-turn, left-end, left-length, bytes-start, bytes-turn, bytes-end}
 use Rattle.join.proofs.lay.copy.Statement.{statement}
 use Rattle.join.proofs.lay.copy.Tie as tie
 

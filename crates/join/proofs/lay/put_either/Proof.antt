@@ -5,7 +5,8 @@ use native.Mathlib.Omega.{arith}
 use lib.Bits.{or-lt}
 use borrow.Author.Needs.{needs}
 use Rattle.join.specs.Lay.{eitherFrom}
-use Rattle.join.proofs.Laws.{Left, left-start, left-same, left-turn, left-end, left-length, either-start, either-turn, either-end}
+use Rattle.join.specs.Laying.{Left, left-start, left-same, left-turn, left-end, left-length}
+use Rattle.join.proofs.Laws.{either-start, either-turn, either-end}
 use Rattle.join.proofs.lay.put_either.Statement.{statement}
 use Rattle.join.proofs.lay.put_either.Tie as tie
 

@@ -1,6 +1,6 @@
 -- `join::lay::put_pair` meets its contract.
 use borrow.Author.Needs.{needs}
-use Rattle.join.proofs.Laws.{laid-more}
+use Rattle.join.specs.Laying.{laid-more}
 use Rattle.join.proofs.lay.put_pair.Statement.{statement}
 use Rattle.join.proofs.lay.put_pair.Tie as tie
 

@@ -1,0 +1,4 @@
+pub mod UseLaws
+pub mod FlagLaws
+pub mod LayLaws
+pub mod PromiseLaws

@@ -1,0 +1,86 @@
+-- `groovepawn::clean_call::groovepawn_clean` meets its contract: the answer of clean in one number, whose fields are small enough not to meet.
+use mathlib.Core.Path.{_≡_, sym, _∙_}
+use native.Mathlib.Omega.{arith}
+use denote.Ref.{now}
+use borrow.Author.Needs.{needs}
+use Rattle.streams.specs.Answer.{gives}
+use Rattle.cleaning.specs.Entry.{cleanOf}
+use Rattle.cleaning.specs.Short.{Few, lengths-few}
+use Rattle.groovepawn.specs.Clean.{cleanWord}
+use Rattle.groovepawn.proofs.clean_call.groovepawn_clean.Statement.{statement}
+use Rattle.groovepawn.proofs.clean_call.groovepawn_clean.Tie as tie
+
+clean-requires : tie.Need-clean-requires
+clean-requires c κs = search needs
+
+enum-known-l : tie.Need-enum-known-l
+enum-known-l c = search needs
+
+-- The lengths are those of the entry, and they are small.
+given : (c : tie.After-l) →
+    let a = c .before .before .before .before .before .before .before .before .before .before .before .before .args in
+    let l = c .l .given .0 .0 in
+    cleanOf (a .reading) (now (a .file)) (now (a .cleaned)) (now (a .struck)) ≡ gives (record { cleaned = l .cleaned; struck = l .struck })
+given c = sym (c .before .before .before .before .before .before .clean .ensures .said) ∙ rw (c .l .given .1)
+
+few : (c : tie.After-l) → let l = c .l .given .0 .0 in Few (record { cleaned = l .cleaned; struck = l .struck })
+few c = lengths-few _ _ _ _ _ (given c)
+
+mul-result : tie.Need-mul-result
+mul-result c = omega (arith, few (c .before))
+
+mul-result-2 : tie.Need-mul-result-2
+mul-result-2 c = omega (arith, few (c .before))
+
+add-result : tie.Need-add-result
+add-result c = omega (arith, few (c .before))
+
+enum-known-n : tie.Need-enum-known-n
+enum-known-n c = search needs
+
+cast-result : tie.Need-cast-result
+cast-result c = search needs
+
+same-length : tie.Need-same-length
+same-length c = search needs
+
+same-length-2 : tie.Need-same-length-2
+same-length-2 c = search needs
+
+returns : tie.Need-returns
+unfolding cleanWord
+returns c =
+    let l = c .before in
+    let e = l .before .before .before .before .before .before .clean .ensures in
+    record { said = rw (given l); cleaned = e .cleaned; struck = e .struck }
+
+same-length-3 : tie.Need-same-length-3
+same-length-3 c = search needs
+
+same-length-4 : tie.Need-same-length-4
+same-length-4 c = search needs
+
+returns-2 : tie.Need-returns-2
+unfolding cleanWord
+returns-2 c =
+    let n = c .before in
+    let e = n .before .before .before .before .before .before .clean .ensures in
+    record { said = rw (← e .said, n .n .given .1); cleaned = e .cleaned; struck = e .struck }
+
+pub groovepawn-clean-spec : {M : Type 1} → statement M
+groovepawn-clean-spec =
+    tie.close
+    (tie.spec
+    clean-requires
+    enum-known-l
+    mul-result
+    mul-result-2
+    add-result
+    enum-known-n
+    cast-result
+    same-length
+    same-length-2
+    returns
+    same-length-3
+    same-length-4
+    returns-2)
