@@ -27,7 +27,10 @@ fn write_cleaned(cleaned: &[u8]) {
         os::fail(&path[..length]);
         return;
     }
-    io::write_all(file, cleaned);
+    let is_written = io::write_all(file, cleaned);
+    if !is_written {
+        os::fail(&path[..length]);
+    }
     libc::close(file);
 }
 

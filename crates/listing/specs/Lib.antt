@@ -1,2 +1,3 @@
 pub mod Listed
 pub mod Ways
+pub mod Told
