@@ -12,7 +12,7 @@ use choice::standing;
 use policy::Layout;
 ghost use mathlib.Core.Path.{_≡_};
 ghost use Prim.Native.Nat.{_<_};
-ghost use Rattle.policy.specs.Rules.{inputValues, outputValues};
+ghost use Rattle.policy.specs.Rules.{inputValues};
 ghost use Rattle.policy.specs.File.{policyOf};
 ghost use Rattle.enforcer.specs.Tick.{inputChoice, outputChoice};
 ghost use Rattle.enforcer.specs.Code.{place};
@@ -38,7 +38,7 @@ pub(crate) fn choose_input(
     nearest(standing(sets), x, values(layout.inputs))
 }
 
-// The output as read is asked about alone too; if it may not stand with x, one is chosen from the outputs that may.
+// The output as read is asked about alone too, if it is one; if it may not stand with x, one is chosen from the outputs that may.
 pub(crate) fn choose_output(
     file: &[u8],
     layout: Layout,
@@ -48,15 +48,14 @@ pub(crate) fn choose_output(
     x: u8,
     y: u8,
 ) -> Choice
-    requires { ⌜ Ready (now file) layout here (now marks) state × (y < outputValues (policyOf (layout .reading) (now file))) ⌝ }
+    requires { ⌜ Ready (now file) layout here (now marks) state ⌝ }
     ensures { λ r. ⌜ choiceSaid r ≡ outputChoice (policyOf (layout .reading) (now (file .entry))) (now (marks .entry)) (place (layout .clocks) state) x y ⌝ }
 {
-    if reaches(file, layout, here, marks, state, x, y) {
-        return Choice::Value(y);
+    let n = values(layout.outputs);
+    if (y as usize) < n {
+        if reaches(file, layout, here, marks, state, x, y) {
+            return Choice::Value(y);
+        }
     }
-    nearest(
-        row(file, layout, here, marks, state, x),
-        y,
-        values(layout.outputs),
-    )
+    nearest(row(file, layout, here, marks, state, x), y, n)
 }

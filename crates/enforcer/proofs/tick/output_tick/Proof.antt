@@ -9,7 +9,7 @@ use Rattle.enforcer.proofs.tick.output_tick.Statement.{statement}
 use Rattle.enforcer.proofs.tick.output_tick.Tie as tie
 
 choose-output-requires : tie.Need-choose-output-requires
-choose-output-requires c κs = search needs
+choose-output-requires c κs = c .before .before .pre .0
 
 enum-told : tie.Need-enum-told
 enum-told c = search needs
