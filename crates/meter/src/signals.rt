@@ -1,8 +1,8 @@
 // The two signals that a meter goes by: the input P and the output D.
+use policy::bytes::byte_at;
 use policy::limits::SIGNALS;
 ghost use mathlib.Core.Path.{_≡_};
 ghost use Prim.Native.Nat.{_≤_};
-ghost use Rattle.policy.specs.File.{byteAt};
 ghost use Rattle.policy.specs.Check.{refusalUnder};
 ghost use Rattle.streams.specs.Answer.{_orElse_};
 ghost use Rattle.meter.specs.Meter.{withPulse};
@@ -14,19 +14,12 @@ pub(crate) struct Signals {
     pub dispense: u8,
 }
 
-// The byte at a position. Past the end stands 0.
-fn byte_at(file: &[u8], at: usize) -> u8
-    ensures { λ r. ⌜ r ≡ byteAt (now (file .entry)) at ⌝ }
-{
-    if at < file.len() { file[at] } else { 0 }
-}
-
 // The weight of the signal with this tag in the section whose count stands at `at`. No more than four signals are looked at, so that any bytes will do.
 fn weight_at(file: &[u8], at: usize, tag: u8) -> u8
     requires { ⌜ at ≤ 256 ⌝ }
     ensures { λ r. ⌜ r ≡ weightAt (now (file .entry)) at tag ⌝ }
 {
-    let count = byte_at(file, at) as usize;
+    let count = byte_at(file, at);
     let start = at + 1;
     let mut weight = 1u8;
     let mut i = 0;
@@ -49,7 +42,7 @@ fn weight_at(file: &[u8], at: usize, tag: u8) -> u8
 pub(crate) fn signals_of(file: &[u8]) -> Signals
     ensures { λ r. ⌜ r ≡ signalsIn (now (file .entry)) ⌝ }
 {
-    let inputs = byte_at(file, 0) as usize;
+    let inputs = byte_at(file, 0);
     Signals {
         pulse: weight_at(file, 0, b'P'),
         dispense: weight_at(file, 1 + inputs, b'D'),

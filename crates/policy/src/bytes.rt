@@ -4,7 +4,7 @@ ghost use Prim.Native.Nat.{_+_, _<_};
 ghost use lib.ListN.{length};
 ghost use Rattle.policy.specs.File.{byteAt, pairAt};
 
-pub(crate) fn byte_at(file: &[u8], at: usize) -> usize
+pub fn byte_at(file: &[u8], at: usize) -> usize
     ensures { λ r. ⌜ (r ≡ byteAt (now (file .entry)) at) × (r < 256) ⌝ }
 {
     if at < file.len() {

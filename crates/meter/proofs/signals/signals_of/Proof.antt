@@ -12,9 +12,6 @@ use Rattle.meter.proofs.signals.signals_of.Tie as tie
 byte-at-requires : tie.Need-byte-at-requires
 byte-at-requires c κs = search needs
 
-cast-inputs : tie.Need-cast-inputs
-cast-inputs c = search needs
-
 weight-at-requires : tie.Need-weight-at-requires
 weight-at-requires c κs = search needs
 
@@ -28,14 +25,13 @@ returns : tie.Need-returns
 returns c =
     let f = now (c .before .before .before .before .args .file) in
     ap₂ {C = Signals} (λ (p d : ℕ). record { pulse = p; dispense = d }) (c .before .weight-at .ensures)
-    (c .weight-at2 .ensures ∙ ap (λ (n : ℕ). weightAt f (1 + n) tagD) (c .before .before .byte-at .ensures))
+    (c .weight-at2 .ensures ∙ ap (λ (n : ℕ). weightAt f (1 + n) tagD) (c .before .before .byte-at .ensures .0))
 
 pub signals-of-spec : {M : Type 1} → statement M
 signals-of-spec =
     tie.close
     (tie.spec
     byte-at-requires
-    cast-inputs
     weight-at-requires
     add-weight-at
     weight-at-requires-2

@@ -27,14 +27,11 @@ abbrev μ-loop : tie.MeasureT-loop
 byte-at-requires : tie.Need-byte-at-requires Inv-loop μ-loop
 byte-at-requires c κs = search needs
 
-cast-count : tie.Need-cast-count Inv-loop μ-loop
-cast-count c = search needs
-
 add-start : tie.Need-add-start Inv-loop μ-loop
 add-start c = search needs
 
 loop-holds : tie.Need-loop-holds Inv-loop μ-loop
-loop-holds c = (zero-le, refl, one-mul _, c .byte-at .ensures, refl)
+loop-holds c = (zero-le, refl, one-mul _, c .byte-at .ensures .0, refl)
 
 -- Where the tag is not among the tags from i on, it is not among all.
 none : (w k t : ℕ) → k ≡ 0 → w * k ≡ t → 0 ≡ t
@@ -117,7 +114,6 @@ weight-at-spec =
     Inv-loop
     μ-loop
     byte-at-requires
-    cast-count
     add-start
     loop-holds
     returns
