@@ -36,9 +36,13 @@ use ticks::Rounding;
 pub use viewer::groovepawn_wave_read;
 pub use viewer::groovepawn_wave_write;
 ghost use mathlib.Core.Path.{_≡_};
+ghost use Rattle.streams.specs.Answer.{gives};
 ghost use Rattle.enforcer.specs.Promises.{answerSaid, OutputPromise};
+ghost use Rattle.prepare.specs.Entry.{Summary};
+ghost use Rattle.prepare.specs.Promise.{preparedSaid};
+ghost use Rattle.groovepawn.specs.Bounds.{Small};
 ghost use Rattle.groovepawn.specs.Indexed.{oddIndexed, IndexCall, InputIndexedCall, OutputIndexedCall};
-ghost use Rattle.groovepawn.specs.Words.{answerWord};
+ghost use Rattle.groovepawn.specs.Words.{answerWord, summaryWord};
 ghost use Rattle.groovepawn.specs.Calls.{PrepareCall, InputCall, OutputCall, RunCall, JoinCall, TicksCall};
 
 pub(crate) fn answer_word(answer: Answer) -> u32
@@ -47,6 +51,19 @@ pub(crate) fn answer_word(answer: Answer) -> u32
     match answer {
         Answer::Value(v) => v as u32 * 256,
         Answer::Refused(n) => n as u32,
+    }
+}
+
+// Of both engines. The numbers of a summary are small, so that no field reaches into the next.
+pub(crate) fn summary_word(prepared: Prepared) -> u64
+    requires { ⌜ ((s : Summary) → preparedSaid prepared ≡ gives s → Small s) ⌝ }
+    ensures { λ r. ⌜ r ≡ summaryWord (preparedSaid prepared) ⌝ }
+{
+    match prepared {
+        Prepared::Gives(s) => s.verdict as u64 * 256
+            + s.states as u64 * 65536
+            + s.live as u64 * 1099511627776,
+        Prepared::Refused(n) => n as u64,
     }
 }
 
@@ -66,12 +83,7 @@ fn lend(given: State, reading: u8, file: &[u8], marks: &[u8], x: u8, y: u8) -> O
 pub extern "C" fn groovepawn_prepare(reading: u8, file: &[u8], marks: &mut [u8]) -> u64
     ensures { λ r. ⌜ PrepareCall reading (now (file .entry)) (now (marks .entry)) r (now (marks .exit)) ⌝ }
 {
-    match prepare::prepare(reading, file, marks) {
-        Prepared::Gives(s) => s.verdict as u64 * 256
-            + s.states as u64 * 65536
-            + s.live as u64 * 1099511627776,
-        Prepared::Refused(n) => n as u64,
-    }
+    summary_word(prepare::prepare(reading, file, marks))
 }
 
 #[no_mangle]

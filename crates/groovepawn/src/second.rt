@@ -1,5 +1,5 @@
 // The second engine, for a controller in C: it works in slices that the caller lends.
-use prepare::Prepared;
+use crate::summary_word;
 ghost use Rattle.groovepawn.specs.Fast.{FastCall};
 
 #[no_mangle]
@@ -15,10 +15,5 @@ pub extern "C" fn groovepawn_prepare_fast(
 ) -> u64
     ensures { λ r. ⌜ FastCall reading (now (file .entry)) (now (marks .entry)) (record { stack = now (stack .entry); from = now (from .entry); ways = now (ways .entry); bound = now (bound .entry); place = now (place .entry) }) r (now (marks .exit)) (record { stack = now (stack .exit); from = now (from .exit); ways = now (ways .exit); bound = now (bound .exit); place = now (place .exit) }) ⌝ }
 {
-    match fast::prepare_fast(reading, file, marks, stack, from, ways, bound, place) {
-        Prepared::Gives(s) => s.verdict as u64 * 256
-            + s.states as u64 * 65536
-            + s.live as u64 * 1099511627776,
-        Prepared::Refused(n) => n as u64,
-    }
+    summary_word(fast::prepare_fast(reading, file, marks, stack, from, ways, bound, place))
 }
