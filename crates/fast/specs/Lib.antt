@@ -1,6 +1,7 @@
 pub mod Onward
 pub mod Ways
 pub mod Cursor
+pub mod Fallen
 pub mod Path
 pub mod Code
 pub mod Lists
