@@ -1,6 +1,7 @@
 #!/usr/bin/env bash
 # Counts the instructions of one tick on both sides, of one call of each half
-# at the worst ticks, and of waves written and read, with callgrind.
+# at the worst ticks, of waves written and read, and of prepare with its verdict
+# and without it, with callgrind.
 set -euo pipefail
 shopt -s inherit_errexit
 cd "$(dirname "$0")"
@@ -29,6 +30,22 @@ waves=(
     "one changes in sixteen"
 )
 
+policies=(
+    "1,024 states"
+    "10,000 states"
+    "65,536 states"
+    "most must be left"
+    "none dies"
+    "a third dies"
+    "most die"
+    "all die"
+    "the dead not reached"
+    "the longest file"
+    "65,536 states, reading 2"
+    "most must be left, reading 2"
+    "most die, reading 2"
+)
+
 sides=(plain)
 features=()
 if [[ -f "${GROOVEPAWN_LIB:-../target/staticlib/libgroovepawn.a}" ]]; then
@@ -44,9 +61,10 @@ trap 'rm -rf "$work"' EXIT
 
 # Instructions of the whole program: side, how many times, stream, and nothing
 # for ticks of a run, the half that is called, or what is done with a wave.
+options=()
 instructions() {
     valgrind --tool=callgrind --log-file="$work/log" --callgrind-out-file="$work/counts" \
-        target/release/bench instructions "$@"
+        ${options[@]+"${options[@]}"} target/release/bench instructions "$@"
     awk '$1 == "totals:" { print $2 }' "$work/counts"
 }
 
@@ -99,3 +117,23 @@ for wave in "${waves[@]}"; do
         row 1 3 "$wave" "$way"
     done
 done
+
+# The library's search for the verdict is one function, and only what is counted
+# within it is the verdict's.
+search=prepare::reach::search
+if [[ ${sides[-1]} == library ]]; then
+    if ! nm target/release/bench | grep " $search\$" >/dev/null; then
+        echo "no function $search: the verdict cannot be counted apart" >&2
+        exit 1
+    fi
+    echo "instructions a call of prepare, without its verdict and with it"
+    printf '%-44s %12s %12s %8s\n' policy without with ratio
+    for policy in "${policies[@]}"; do
+        whole=$(per_time library 1 2 "$policy" prepare)
+        options=("--toggle-collect=$search")
+        verdict=$(per_time library 1 2 "$policy" prepare)
+        options=()
+        awk -v policy="$policy" -v whole="$whole" -v verdict="$verdict" \
+            'BEGIN { printf "%-44s %12d %12d %8.2f\n", policy, whole - verdict, whole, whole / (whole - verdict) }'
+    done
+fi

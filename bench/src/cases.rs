@@ -19,27 +19,54 @@ pub struct Case {
     pub work: Box<dyn Work>,
 }
 
+/// A policy that is prepared, under a reading.
+pub struct Preparation {
+    pub name: &'static str,
+    reading: u8,
+    policy: fn() -> Policy,
+}
+
+impl Preparation {
+    pub fn named(name: &str) -> Option<&'static Preparation> {
+        PREPARED.iter().find(|preparation| preparation.name == name)
+    }
+
+    pub fn work(&self) -> PrepareWork {
+        PrepareWork::new(self.reading, &(self.policy)())
+    }
+}
+
+const fn prepared(name: &'static str, reading: u8, policy: fn() -> Policy) -> Preparation {
+    Preparation {
+        name,
+        reading,
+        policy,
+    }
+}
+
+pub static PREPARED: [Preparation; 13] = [
+    prepared("1,024 states", 1, policies::thousand),
+    prepared("10,000 states", 1, policies::ten_thousand),
+    prepared("65,536 states", 1, policies::full),
+    prepared("most must be left", 1, policies::leaving),
+    prepared("none dies", 1, policies::lasting),
+    prepared("a third dies", 1, policies::third_dies),
+    prepared("most die", 1, policies::most_die),
+    prepared("all die", 1, policies::all_die),
+    prepared("the dead not reached", 1, policies::apart),
+    prepared("the longest file", 1, policies::long),
+    prepared("65,536 states, reading 2", 2, policies::full),
+    prepared("most must be left, reading 2", 2, policies::leaving),
+    prepared("most die, reading 2", 2, policies::most_die),
+];
+
 pub fn all() -> Vec<Case> {
     let runs = STREAMS.iter().map(run);
     let halves = STREAMS
         .iter()
         .filter(|stream| stream.reading == 1 || stream.edits == Edits::Many)
         .flat_map(|stream| [input(stream), output(stream)]);
-    let prepares = [
-        prepare("1,024 states", policies::thousand()),
-        prepare("10,000 states", policies::ten_thousand()),
-        prepare("65,536 states", policies::full()),
-        prepare("most must be left", policies::leaving()),
-        prepare("none dies", policies::lasting()),
-        prepare("a third dies", policies::third_dies()),
-        prepare("most die", policies::most_die()),
-        prepare("all die", policies::all_die()),
-        prepare("the dead not reached", policies::apart()),
-        prepare("the longest file", policies::long()),
-        prepare_counted("65,536 states, reading 2", policies::full()),
-        prepare_counted("most must be left, reading 2", policies::leaving()),
-        prepare_counted("most die, reading 2", policies::most_die()),
-    ];
+    let prepares = PREPARED.iter().map(prepare);
     let joins = [
         join("small", policies::small_pair()),
         join("the largest", policies::largest_pair()),
@@ -66,13 +93,8 @@ fn output(stream: &Stream) -> Case {
     case("output half", stream.name, OutputWork::new(ready, &events))
 }
 
-fn prepare(size: &str, policy: Policy) -> Case {
-    case("prepare", size, PrepareWork::new(1, &policy))
-}
-
-/// Under reading 2.
-fn prepare_counted(size: &str, policy: Policy) -> Case {
-    case("prepare", size, PrepareWork::new(2, &policy))
+fn prepare(preparation: &Preparation) -> Case {
+    case("prepare", preparation.name, preparation.work())
 }
 
 fn join(size: &str, pair: (Policy, Policy)) -> Case {

@@ -1,11 +1,12 @@
 //! A number of ticks or calls on one side only, for a tool that counts
 //! instructions.
 
+use crate::cases::Preparation;
 use crate::engine::{found_in, refusal_in, Engine};
 use crate::policies;
 use crate::ready::Ready;
 use crate::streams::{Stream, Wave};
-use crate::work::{InputWork, OutputWork, WaveReadWork, WaveWriteWork};
+use crate::work::{InputWork, OutputWork, WaveReadWork, WaveWriteWork, Work};
 
 /// This many events are always made, however many are run, so that all that
 /// is done before the first tick is the same for every number of ticks.
@@ -60,6 +61,13 @@ pub fn write(engine: &dyn Engine, wave: &Wave, calls: usize) -> Result<(), Strin
 pub fn read(engine: &dyn Engine, wave: &Wave, calls: usize) -> Result<(), String> {
     let mut work = WaveReadWork::new(&policies::short(), wave.events(EVENTS));
     (0..calls).try_for_each(|_| not_refused(work.read(engine)))
+}
+
+/// So many calls of prepare. That a policy is hopeless is an answer too.
+pub fn prepare(engine: &dyn Engine, preparation: &Preparation, calls: usize) -> Result<(), String> {
+    let mut work = preparation.work();
+    (0..calls).for_each(|_| work.pass(engine));
+    Ok(())
 }
 
 fn not_refused(answer: u64) -> Result<(), String> {

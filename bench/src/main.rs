@@ -1,6 +1,7 @@
 //! Measures the library against the plain program, or runs ticks or calls on
 //! one side.
 
+use bench::cases::{Preparation, PREPARED};
 use bench::engine::{Engine, Plain};
 use bench::streams::{Stream, Wave, STREAMS, WAVES};
 use bench::{cases, engines, instructions, measure, report, work};
@@ -37,6 +38,7 @@ fn perform(words: &[&str]) -> Result<(), String> {
         ["instructions", side, calls, wave, "read"] => {
             count_wave(side, calls, wave, instructions::read)
         }
+        ["instructions", side, calls, policy, "prepare"] => count_prepare(side, calls, policy),
         _ => Err(usage()),
     }
 }
@@ -44,13 +46,16 @@ fn perform(words: &[&str]) -> Result<(), String> {
 fn usage() -> String {
     let streams: Vec<&str> = STREAMS.iter().map(|stream| stream.name).collect();
     let waves: Vec<&str> = WAVES.iter().map(|wave| wave.name).collect();
+    let policies: Vec<&str> = PREPARED.iter().map(|policy| policy.name).collect();
     format!(
         "usage:\n  bench\n  bench engines [POLICY]\n  bench instructions plain|library TICKS [STREAM]\n  \
          bench instructions plain|library CALLS STREAM input|output\n  \
-         bench instructions plain|library CALLS WAVE write|read\n\
-         streams: {}\nwaves: {}",
+         bench instructions plain|library CALLS WAVE write|read\n  \
+         bench instructions plain|library CALLS POLICY prepare\n\
+         streams: {}\nwaves: {}\npolicies: {}",
         streams.join("; "),
-        waves.join("; ")
+        waves.join("; "),
+        policies.join("; ")
     )
 }
 
@@ -107,6 +112,12 @@ fn count_wave(side: &str, calls: &str, wave: &str, counted: CountedWave) -> Resu
     let calls = calls.parse().map_err(|_| usage())?;
     let wave = Wave::named(wave).ok_or_else(usage)?;
     counted(engine(side)?, wave, calls)
+}
+
+fn count_prepare(side: &str, calls: &str, policy: &str) -> Result<(), String> {
+    let calls = calls.parse().map_err(|_| usage())?;
+    let preparation = Preparation::named(policy).ok_or_else(usage)?;
+    instructions::prepare(engine(side)?, preparation, calls)
 }
 
 fn engine(side: &str) -> Result<&'static dyn Engine, String> {

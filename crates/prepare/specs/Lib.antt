@@ -2,6 +2,8 @@ pub mod Table
 pub mod Entry
 pub mod Live
 pub mod Alone
+pub mod Ways
+pub mod Along
 pub mod Located
 pub mod Enforces
 pub mod Engine
