@@ -3,8 +3,11 @@ use crate::calls;
 use crate::calls::Differs;
 use crate::calls::Outcome;
 use crate::numbers::Cursor;
+use crate::tally::KINDS;
 use crate::tally::Kind;
 use crate::tally::Tally;
+use crate::tally::count;
+use crate::tally::print_counts;
 
 // The rest of a record of a run.
 fn run_record(
@@ -211,6 +214,26 @@ fn prepare_fast_record(
     other_work(cases, next, reading, file, marks, &mut work[..room])
 }
 
+// The rest of a record that has a policy and marks.
+fn marks_record(
+    cases: &[u8],
+    kind: Kind,
+    at: Cursor,
+    reading: u8,
+    file: &[u8],
+    marks: &mut [u8],
+) -> Outcome {
+    match kind {
+        Kind::Prepare => calls::prepare(cases, at, reading, file, marks),
+        Kind::PrepareFast => prepare_fast_record(cases, at, reading, file, marks),
+        Kind::BayInput => bay_record(cases, kind, at, reading, file, marks),
+        Kind::BayOutput => bay_record(cases, kind, at, reading, file, marks),
+        Kind::MeterInput => meter_record(cases, kind, at, reading, file, marks),
+        Kind::MeterOutput => meter_record(cases, kind, at, reading, file, marks),
+        _ => state_record(cases, kind, at, reading, file, marks),
+    }
+}
+
 // A record that begins with a reading, a policy and marks.
 fn policy_record(cases: &[u8], kind: Kind, at: Cursor) -> Outcome {
     let mut file = [0u8; 8192];
@@ -223,62 +246,14 @@ fn policy_record(cases: &[u8], kind: Kind, at: Cursor) -> Outcome {
     let taken = next.string(cases, &mut marks);
     let marks_length = taken.count;
     let next = taken.next;
-    match kind {
-        Kind::Prepare => calls::prepare(
-            cases,
-            next,
-            reading.value,
-            &file[..file_length],
-            &mut marks[..marks_length],
-        ),
-        Kind::PrepareFast => prepare_fast_record(
-            cases,
-            next,
-            reading.value,
-            &file[..file_length],
-            &mut marks[..marks_length],
-        ),
-        Kind::BayInput => bay_record(
-            cases,
-            kind,
-            next,
-            reading.value,
-            &file[..file_length],
-            &marks[..marks_length],
-        ),
-        Kind::BayOutput => bay_record(
-            cases,
-            kind,
-            next,
-            reading.value,
-            &file[..file_length],
-            &marks[..marks_length],
-        ),
-        Kind::MeterInput => meter_record(
-            cases,
-            kind,
-            next,
-            reading.value,
-            &file[..file_length],
-            &marks[..marks_length],
-        ),
-        Kind::MeterOutput => meter_record(
-            cases,
-            kind,
-            next,
-            reading.value,
-            &file[..file_length],
-            &marks[..marks_length],
-        ),
-        _ => state_record(
-            cases,
-            kind,
-            next,
-            reading.value,
-            &file[..file_length],
-            &marks[..marks_length],
-        ),
-    }
+    marks_record(
+        cases,
+        kind,
+        next,
+        reading.value,
+        &file[..file_length],
+        &mut marks[..marks_length],
+    )
 }
 
 fn join_record(cases: &[u8], at: Cursor) -> Outcome {
@@ -425,10 +400,11 @@ fn ended(next: Cursor, start: usize, length: usize) -> Cursor {
 }
 
 // The record at the tally's cursor.
-fn record(cases: &[u8], tally: Tally, number: u32) -> Tally {
+fn record(cases: &[u8], counts: &mut [u64; KINDS], tally: Tally, number: u32) -> Tally {
     let at = tally.next;
     let head = at.byte(cases);
     let kind = Kind::of(head.value);
+    count(counts, head.value);
     let next = head.next;
     let length = next.word(cases);
     let start = length.next;
@@ -444,11 +420,11 @@ fn record(cases: &[u8], tally: Tally, number: u32) -> Tally {
 }
 
 // All the records.
-fn tallied(cases: &[u8], start: Cursor, total: u32) -> Tally {
+fn tallied(cases: &[u8], counts: &mut [u64; KINDS], start: Cursor, total: u32) -> Tally {
     let mut tally = Tally::new(start);
     let mut i = 0;
     while i < total && !tally.is_lost() {
-        tally = record(cases, tally, i);
+        tally = record(cases, counts, tally, i);
         i += 1;
     }
     tally
@@ -465,5 +441,8 @@ pub(crate) fn report(cases: &[u8]) {
     } else {
         next.lose()
     };
-    tallied(cases, start, total.value).print(cases.len());
+    let mut counts = [0u64; KINDS];
+    let tally = tallied(cases, &mut counts, start, total.value);
+    print_counts(&counts);
+    tally.print(cases.len());
 }

@@ -3,6 +3,9 @@ use crate::calls::Differs;
 use crate::numbers::Cursor;
 use libc::STDOUT_FILENO;
 
+// The kinds of records have the numbers from 1 to below this.
+pub const KINDS: usize = 20;
+
 pub enum Kind {
     Prepare,
     Input,
@@ -78,79 +81,6 @@ impl Kind {
     }
 }
 
-// How many records of each kind.
-struct Counts {
-    prepare: u64,
-    input: u64,
-    output: u64,
-    run: u64,
-    join: u64,
-    ticks: u64,
-    wave_write: u64,
-    wave_read: u64,
-    index: u64,
-    input_indexed: u64,
-    output_indexed: u64,
-    bays_new: u64,
-    bay_input: u64,
-    bay_output: u64,
-    meter_new: u64,
-    meter_input: u64,
-    meter_output: u64,
-    prepare_fast: u64,
-    clean: u64,
-}
-
-impl Counts {
-    fn add(mut self, kind: Kind) -> Self {
-        match kind {
-            Kind::Prepare => self.prepare = one_more(self.prepare),
-            Kind::Input => self.input = one_more(self.input),
-            Kind::Output => self.output = one_more(self.output),
-            Kind::Run => self.run = one_more(self.run),
-            Kind::Join => self.join = one_more(self.join),
-            Kind::Ticks => self.ticks = one_more(self.ticks),
-            Kind::WaveWrite => self.wave_write = one_more(self.wave_write),
-            Kind::WaveRead => self.wave_read = one_more(self.wave_read),
-            Kind::Index => self.index = one_more(self.index),
-            Kind::InputIndexed => self.input_indexed = one_more(self.input_indexed),
-            Kind::OutputIndexed => self.output_indexed = one_more(self.output_indexed),
-            Kind::BaysNew => self.bays_new = one_more(self.bays_new),
-            Kind::BayInput => self.bay_input = one_more(self.bay_input),
-            Kind::BayOutput => self.bay_output = one_more(self.bay_output),
-            Kind::MeterNew => self.meter_new = one_more(self.meter_new),
-            Kind::MeterInput => self.meter_input = one_more(self.meter_input),
-            Kind::MeterOutput => self.meter_output = one_more(self.meter_output),
-            Kind::PrepareFast => self.prepare_fast = one_more(self.prepare_fast),
-            Kind::Clean => self.clean = one_more(self.clean),
-            Kind::Unknown => {}
-        }
-        self
-    }
-
-    fn print(self) {
-        print_count(b"prepare ", self.prepare);
-        print_count(b"input ", self.input);
-        print_count(b"output ", self.output);
-        print_count(b"run ", self.run);
-        print_count(b"join ", self.join);
-        print_count(b"ticks ", self.ticks);
-        print_count(b"wave_write ", self.wave_write);
-        print_count(b"wave_read ", self.wave_read);
-        print_count(b"index ", self.index);
-        print_count(b"input_indexed ", self.input_indexed);
-        print_count(b"output_indexed ", self.output_indexed);
-        print_count(b"bays_new ", self.bays_new);
-        print_count(b"bay_input ", self.bay_input);
-        print_count(b"bay_output ", self.bay_output);
-        print_count(b"meter_new ", self.meter_new);
-        print_count(b"meter_input ", self.meter_input);
-        print_count(b"meter_output ", self.meter_output);
-        print_count(b"prepare_fast ", self.prepare_fast);
-        print_count(b"clean ", self.clean);
-    }
-}
-
 // The first record that came out different.
 enum First {
     None,
@@ -177,7 +107,6 @@ impl First {
 }
 
 pub struct Tally {
-    counts: Counts,
     different: u64,
     first: First,
     pub next: Cursor,
@@ -186,27 +115,6 @@ pub struct Tally {
 impl Tally {
     pub(crate) fn new(next: Cursor) -> Self {
         Self {
-            counts: Counts {
-                prepare: 0,
-                input: 0,
-                output: 0,
-                run: 0,
-                join: 0,
-                ticks: 0,
-                wave_write: 0,
-                wave_read: 0,
-                index: 0,
-                input_indexed: 0,
-                output_indexed: 0,
-                bays_new: 0,
-                bay_input: 0,
-                bay_output: 0,
-                meter_new: 0,
-                meter_input: 0,
-                meter_output: 0,
-                prepare_fast: 0,
-                clean: 0,
-            },
             different: 0,
             first: First::None,
             next,
@@ -219,17 +127,14 @@ impl Tally {
     }
 
     pub(crate) fn add(self, number: u32, kind: Kind, differs: Differs, next: Cursor) -> Self {
-        let counts = self.counts.add(kind);
         let first = self.first;
         match differs {
             Differs::Nothing => Self {
-                counts,
                 different: self.different,
                 first,
                 next,
             },
             _ => Self {
-                counts,
                 different: one_more(self.different),
                 first: first.or(number, kind, differs),
                 next,
@@ -237,12 +142,10 @@ impl Tally {
         }
     }
 
-    // The counts, the first difference, and whether the file was one of stored cases to its end.
+    // How many differ, the first of them, and whether the file was one of stored cases to its end.
     pub(crate) fn print(self, end: usize) {
-        let counts = self.counts;
         let first = self.first;
         let next = self.next;
-        counts.print();
         print_count(b"different ", self.different);
         first.print();
         if next.lost || next.at != end {
@@ -263,6 +166,24 @@ fn print_count(name: &[u8], n: u64) {
     print(name);
     io::print_decimal(STDOUT_FILENO, n);
     print(b"\n");
+}
+
+// One record more of the kind with the number. A number that is no kind's is not counted.
+pub(crate) fn count(counts: &mut [u64; KINDS], number: u8) {
+    let kind = number as usize;
+    if kind < KINDS {
+        counts[kind] = one_more(counts[kind]);
+    }
+}
+
+// A line for each kind.
+pub(crate) fn print_counts(counts: &[u64; KINDS]) {
+    let mut kind = 1;
+    while kind < KINDS {
+        Kind::of(kind as u8).print();
+        print_count(b" ", counts[kind]);
+        kind += 1;
+    }
 }
 
 fn print_differs(differs: Differs) {

@@ -5,10 +5,10 @@ use Rattle.vectors.proofs.records.tallied.Statement.{statement}
 use Rattle.vectors.proofs.records.tallied.Tie as tie
 
 abbrev Inv-loop : tie.InvT-loop
-Inv-loop cases total tally₀ i₀ tally i = Unit {0}
+Inv-loop cases counts₀ total tally₀ i₀ counts tally i = Unit {0}
 
 abbrev μ-loop : tie.MeasureT-loop
-μ-loop cases total tally₀ i₀ tally i = total - i
+μ-loop cases counts₀ total tally₀ i₀ counts tally i = total - i
 
 new-requires : tie.Need-new-requires Inv-loop μ-loop
 new-requires c κs = search needs
