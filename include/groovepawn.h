@@ -54,6 +54,7 @@
  *   17  no input, or for the given x' no output, reaches a state marked 1
  *   18  the tick length is 0
  *   19  the tick count is above 1,000
+ *   20  the marks are not those of groovepawn_prepare under this reading
  *   21  a text is not one that groovepawn_wave_write makes, or holds a time above 16,384
  *   22  the reading is neither 1 nor 2
  *   23  a work slice has fewer entries than there are states
@@ -64,7 +65,7 @@
  *   28  the index is not that of the file, or not 128 numbers
  *   29  a stream to be written as a wave has over 16,384 events
  *
- * Where several hold, the first in this order is given: 22, 1 to 9 as they come in the file, 26 or 28, 10, 23 or 24, 11, 14, 16, 15, 17, 27. A join
+ * Where several hold, the first in this order is given: 22, 1 to 9 as they come in the file, 26 or 28, 10, 23 or 24, 11, 14, 16, 20, 15, 17, 27. A join
  * asks 1 to 9 of its first file, then of its second, then 12, 13, 14. A conversion asks 18, then 19. After 1 to 9 the writer of waves asks 29, 15,
  * 14, their reader 21, 14. With the marks of groovepawn_prepare under the same reading and a live state, groovepawn_input and groovepawn_run never
  * give 17.
@@ -89,6 +90,12 @@ extern "C" {
 #define GROOVEPAWN_VERDICT(answer) (((answer) >> 8) & 0xff)
 #define GROOVEPAWN_STATES(answer) (((answer) >> 16) & 0xffffff)
 #define GROOVEPAWN_LIVE(answer) ((answer) >> 40)
+
+/* The reasons of groovepawn_why: for the input, for the output. */
+#define GROOVEPAWN_INPUT_KIND(answer) (((answer) >> 8) & 0xff)
+#define GROOVEPAWN_INPUT_NUMBER(answer) (((answer) >> 16) & 0xffff)
+#define GROOVEPAWN_OUTPUT_KIND(answer) (((answer) >> 32) & 0xff)
+#define GROOVEPAWN_OUTPUT_NUMBER(answer) ((answer) >> 40)
 
 /* The two lengths of groovepawn_clean. */
 #define GROOVEPAWN_LENGTH(answer) (((answer) >> 8) & 0xffffff)
@@ -232,6 +239,24 @@ uint64_t groovepawn_prepare_fast(uint8_t reading, const uint8_t *file, size_t fi
  */
 uint64_t groovepawn_clean(uint8_t reading, const uint8_t *file, size_t file_len, uint8_t *cleaned, size_t cleaned_len, uint8_t *struck,
                           size_t struck_len);
+
+/*
+ * Why an event as read, x and y, is edited in a state: a reason for each half that is. The output is judged with the x' that the input half gives.
+ * A reason is a kind and a number:
+ *
+ *   0  the half is not edited; the number is 0
+ *   1  the rule of this number, counted from 0 in the file, sent it to 255
+ *   2  no rule matched; the number is 0
+ *   3  the stream could have gone on for at most so many more ticks after it
+ *   4  the stream could have gone on for ever, with at most so many later events ending at rest
+ *
+ * For an input: 4 with the greatest number over all outputs, if with some output the stream could have gone on for ever; else 3 with the greatest
+ * number, if some output is no violation; else the reason for the output 0. Each number is exact: some permitted stream has it, and none has more.
+ * Refusals 22, 1 to 10, 16, 20 (a byte for a state is not the mark of groovepawn_prepare under this reading), 15. 17 never comes.
+ * Returns refusal | input's kind << 8 | its number << 16 | output's kind << 32 | its number << 40.
+ */
+uint64_t groovepawn_why(uint8_t reading, const uint8_t *file, size_t file_len, const uint8_t *marks, size_t marks_len, const uint16_t *state,
+                        size_t state_len, uint8_t x, uint8_t y);
 
 #ifdef __cplusplus
 }

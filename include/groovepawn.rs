@@ -203,4 +203,16 @@ extern "C" {
         struck: *mut u8,
         struck_len: usize,
     ) -> u64;
+
+    pub fn groovepawn_why(
+        reading: u8,
+        file: *const u8,
+        file_len: usize,
+        marks: *const u8,
+        marks_len: usize,
+        state: *const u16,
+        state_len: usize,
+        x: u8,
+        y: u8,
+    ) -> u64;
 }

@@ -11,7 +11,7 @@
 #include <stdio.h>
 #include <string.h>
 
-enum { STACK = 1 << 20, PAINT = 0xA5, RULES = 256, STATES = 65536, EVENTS = 16384, TEXT = 497013 };
+enum { STACK = 1 << 21, PAINT = 0xA5, RULES = 256, STATES = 65536, EVENTS = 16384, TEXT = 497013 };
 
 static _Alignas(4096) uint8_t stack[STACK];
 static uint8_t file[5974], joined[5974], cleaned[5974], struck[957], marks[STATES], quiet[EVENTS], restless[EVENTS], events[EVENTS], released[EVENTS], text[TEXT];
@@ -62,6 +62,7 @@ static void output(void) { answer = groovepawn_output(reading, file, length, mar
 static void run(void) { answer = groovepawn_run(reading, file, length, marks, STATES, state, 5, quiet, EVENTS, released, EVENTS); }
 static void join(void) { answer = groovepawn_join(file, length, any, sizeof any, joined, sizeof joined); }
 static void clean(void) { answer = groovepawn_clean(reading, file, length, cleaned, sizeof cleaned, struck, sizeof struck); }
+static void why(void) { answer = groovepawn_why(reading, file, length, marks, STATES, state, 5, 0, 0); }
 static void ticks(void) { answer = groovepawn_ticks(12345, 100, 1); }
 static void wave_write(void) { text_length = (answer = groovepawn_wave_write(file, length, restless, EVENTS, text, TEXT)) >> 8; }
 static void wave_read(void) { answer = groovepawn_wave_read(file, length, text, text_length, events, EVENTS); }
@@ -82,7 +83,7 @@ static const struct { const char *name; void (*call)(void); } calls[] = {
     {"groovepawn_input_indexed", input_indexed}, {"groovepawn_output_indexed", output_indexed},
     {"groovepawn_bays_new", bays_new}, {"groovepawn_bay_input", bay_input}, {"groovepawn_bay_output", bay_output},
     {"groovepawn_meter_new", meter_new}, {"groovepawn_meter_input", meter_input}, {"groovepawn_meter_output", meter_output},
-    {"groovepawn_join", join}, {"groovepawn_clean", clean}, {"groovepawn_ticks", ticks},
+    {"groovepawn_join", join}, {"groovepawn_clean", clean}, {"groovepawn_why", why}, {"groovepawn_ticks", ticks},
     {"groovepawn_wave_write", wave_write}, {"groovepawn_wave_read", wave_read},
 };
 enum { CALLS = sizeof calls / sizeof *calls };

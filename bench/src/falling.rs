@@ -30,6 +30,98 @@ pub fn all() -> Vec<Falling> {
     ]
 }
 
+/// The same, with a start that lives where none did: `why` asks about a live
+/// state.
+pub fn living() -> Vec<Falling> {
+    let of = |name, policy: Policy| Falling {
+        name,
+        file: policy.encode(),
+    };
+    vec![
+        of("none falls", policies::lasting()),
+        of("none falls, violations first", barred()),
+        of("a quarter cannot be left", policies::leaving()),
+        joined("joined", 0, 11),
+        joined("joined, some must be left", 3, 13),
+        of("fall in rising order, 65,536 states", longest_chain()),
+        of(
+            "fall in rising order, 2 events",
+            started(chain(1, 0, |_| 0)),
+        ),
+        of(
+            "fall in rising order, 256 events",
+            started(chain(4, 4, |_| 0)),
+        ),
+        of("long ways to rest", long_ways()),
+        of("stuck loops", started(stuck())),
+        of("nested, in rising order", started(nested())),
+        of(
+            "255 rules, an event each",
+            started(crowd(|event| event & 15)),
+        ),
+        of("255 rules, all inputs each", started(crowd(|_| 16))),
+    ]
+}
+
+/// A start before the other locations, where it stays for ever.
+fn started(mut policy: Policy) -> Policy {
+    for rule in &mut policy.rules {
+        rule.source += 1;
+        if rule.target != VIOLATION {
+            rule.target += 1;
+        }
+    }
+    let clocks = policy.ceilings.len();
+    let stay = Rule {
+        source: 0,
+        input: Condition::ANY,
+        output: Condition::ANY,
+        reset: (1 << clocks) - 1,
+        target: 0,
+        bounds: vec![OPEN; clocks],
+    };
+    policy.rules.insert(0, stay);
+    policy.locations.insert(0, 0);
+    policy
+}
+
+/// 255 rules in one location, all of which lead to the same state, and nowhere
+/// at the ceiling: each for the input given, or for any if there is none such.
+fn crowd(input: impl Fn(u8) -> u8) -> Policy {
+    let value = |value| match value < 16 {
+        true => Condition { care: 15, value },
+        false => Condition::ANY,
+    };
+    let rules = (0..255).map(|event| Rule {
+        output: value(event >> 4),
+        bounds: vec![(0, 179), OPEN],
+        ..rule(0, value(input(event)), 0, 0, OPEN)
+    });
+    Policy {
+        inputs: 4,
+        outputs: 4,
+        ceilings: vec![180, 180],
+        locations: vec![0],
+        rules: rules.collect(),
+    }
+}
+
+/// As many states as there can be. Two clocks: the first counts to 511, the
+/// second to 1.
+fn longest_chain() -> Policy {
+    let rules = (0..63).map(|l| Rule {
+        bounds: vec![(0, 510), OPEN],
+        ..rule(l, Condition::ANY, 0, (l + 62) % 63, OPEN)
+    });
+    started(Policy {
+        inputs: 2,
+        outputs: 2,
+        ceilings: vec![511, 1],
+        locations: vec![0; 63],
+        rules: rules.collect(),
+    })
+}
+
 fn rule(source: u8, input: Condition, reset: u8, target: u8, bound: Bound) -> Rule {
     Rule {
         source,

@@ -21,4 +21,5 @@ mod random;
 mod ready;
 pub mod report;
 pub mod streams;
+pub mod whys;
 pub mod work;

@@ -151,3 +151,20 @@ pub fn prepare_fast(reading: u8, file: &[u8], marks: &mut [u8], work: &mut [Vec<
         )
     }
 }
+
+/// Why the halves of an event are edited.
+pub fn why(reading: u8, file: &[u8], marks: &[u8], state: &[u16], x: u8, y: u8) -> u64 {
+    unsafe {
+        groovepawn_why(
+            reading,
+            file.as_ptr(),
+            file.len(),
+            marks.as_ptr(),
+            marks.len(),
+            state.as_ptr(),
+            state.len(),
+            x,
+            y,
+        )
+    }
+}

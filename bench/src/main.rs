@@ -4,7 +4,7 @@
 use bench::cases::{Preparation, PREPARED};
 use bench::engine::{Engine, Plain};
 use bench::streams::{Stream, Wave, STREAMS, WAVES};
-use bench::{cases, engines, instructions, measure, report, work};
+use bench::{cases, engines, instructions, measure, report, whys, work};
 use std::process::ExitCode;
 
 fn main() -> ExitCode {
@@ -24,6 +24,8 @@ fn perform(words: &[&str]) -> Result<(), String> {
         [] => measure_all(),
         ["engines"] => compare_engines(""),
         ["engines", policy] => compare_engines(policy),
+        ["why"] => compare_why(""),
+        ["why", policy] => compare_why(policy),
         ["instructions", side, ticks] => count(side, ticks, STREAMS[0].name, instructions::run),
         ["instructions", side, ticks, stream] => count(side, ticks, stream, instructions::run),
         ["instructions", side, calls, stream, "input"] => {
@@ -48,7 +50,7 @@ fn usage() -> String {
     let waves: Vec<&str> = WAVES.iter().map(|wave| wave.name).collect();
     let policies: Vec<&str> = PREPARED.iter().map(|policy| policy.name).collect();
     format!(
-        "usage:\n  bench\n  bench engines [POLICY]\n  bench instructions plain|library TICKS [STREAM]\n  \
+        "usage:\n  bench\n  bench engines [POLICY]\n  bench why [POLICY]\n  bench instructions plain|library TICKS [STREAM]\n  \
          bench instructions plain|library CALLS STREAM input|output\n  \
          bench instructions plain|library CALLS WAVE write|read\n  \
          bench instructions plain|library CALLS POLICY prepare\n\
@@ -74,6 +76,15 @@ fn second_side() -> (&'static str, &'static dyn Engine) {
 fn compare_engines(policy: &str) -> Result<(), String> {
     println!("{}", engines::heading());
     for row in engines::rows(policy)? {
+        println!("{row}");
+    }
+    Ok(())
+}
+
+/// The same for `why`, and the second engine alone.
+fn compare_why(policy: &str) -> Result<(), String> {
+    println!("{}", whys::heading());
+    for row in whys::rows(policy)? {
         println!("{row}");
     }
     Ok(())

@@ -129,13 +129,21 @@ pub enum Call {
         cleaned: Vec<u8>,
         struck: Vec<u8>,
     },
+    Why {
+        reading: u8,
+        file: Vec<u8>,
+        marks: Vec<u8>,
+        state: Vec<u16>,
+        x: u8,
+        y: u8,
+    },
 }
 
 /// The work slices of the second engine. What they hold afterwards is not said.
 pub type Work = [Vec<u16>; 5];
 
 /// The functions, in the order of `Call::kind`.
-pub const FUNCTIONS: [&str; 19] = [
+pub const FUNCTIONS: [&str; 20] = [
     "prepare",
     "input",
     "output",
@@ -155,6 +163,7 @@ pub const FUNCTIONS: [&str; 19] = [
     "meter_output",
     "prepare_fast",
     "clean",
+    "why",
 ];
 
 /// One thing that a function is given.
@@ -214,6 +223,7 @@ impl Call {
             Call::MeterOutput { .. } => 16,
             Call::PrepareFast { .. } => 17,
             Call::Clean { .. } => 18,
+            Call::Why { .. } => 19,
         }
     }
 
@@ -434,6 +444,21 @@ impl Call {
                 ("cleaned before", Policy(cleaned)),
                 ("struck before", Policy(struck)),
             ],
+            Call::Why {
+                reading,
+                file,
+                marks,
+                state,
+                x,
+                y,
+            } => vec![
+                ("reading", Byte(*reading)),
+                ("file", Policy(file)),
+                ("marks", Bytes(marks)),
+                ("state", Numbers(state)),
+                ("x", Byte(*x)),
+                ("y", Byte(*y)),
+            ],
         }
     }
 
@@ -459,7 +484,8 @@ impl Call {
             | Call::MeterInput { reading, .. }
             | Call::MeterOutput { reading, .. }
             | Call::PrepareFast { reading, .. }
-            | Call::Clean { reading, .. } => *reading = other,
+            | Call::Clean { reading, .. }
+            | Call::Why { reading, .. } => *reading = other,
             Call::Join { .. }
             | Call::Ticks { .. }
             | Call::WaveWrite { .. }
@@ -488,7 +514,8 @@ impl Call {
             | Call::MeterInput { file, .. }
             | Call::MeterOutput { file, .. }
             | Call::PrepareFast { file, .. }
-            | Call::Clean { file, .. } => *file = other,
+            | Call::Clean { file, .. }
+            | Call::Why { file, .. } => *file = other,
             Call::Join { a, .. } => *a = other,
             Call::Ticks { .. } | Call::BaysNew { .. } | Call::MeterNew { .. } => {}
         }
@@ -606,6 +633,14 @@ impl Call {
             Call::Clean { reading, file, .. } => {
                 engine.clean(*reading, file, &mut bytes, &mut struck)
             }
+            Call::Why {
+                reading,
+                file,
+                marks,
+                state,
+                x,
+                y,
+            } => engine.why(*reading, file, marks, state, *x, *y),
         };
         Outcome {
             answer,

@@ -17,7 +17,8 @@ use crate::random::Random;
 use crate::reading::READINGS;
 use crate::spoil;
 use crate::subject::{
-    filler, lent_length, marks_and_state, some_events, some_reading, some_value, Subject,
+    filler, lent_length, marks_and_state, some_events, some_reading, some_state, some_value,
+    Subject,
 };
 use crate::waves::{self, MOST_EVENTS};
 
@@ -30,7 +31,8 @@ pub fn group(seed: u64, number: u64) -> Vec<Call> {
     let mut random = Random::for_group(seed, number);
     match random.below(121) {
         0..=55 => around_policy(&mut random),
-        56..=59 => around_edits(&mut random),
+        56..=57 => around_edits(&mut random),
+        58..=59 => around_reasons(&mut random),
         60..=77 => around_damage(&mut random),
         78 => around_prefixes(&mut random),
         79..=94 => around_join(&mut random),
@@ -67,10 +69,19 @@ fn around_policy(random: &mut Random) -> Vec<Call> {
     for _ in 0..calls.min(2) {
         made.push(indexed_call(random, &subject));
         made.push(bay_call(random, &subject));
+        made.push(why_call(random, &subject));
     }
     made.push(bays_new_call(random));
     made.push(clean_call(random, &subject));
     made
+}
+
+/// Questions about edits, of policies in which much is edited for what comes
+/// later.
+fn around_reasons(random: &mut Random) -> Vec<Call> {
+    let reading = random.pick(&READINGS);
+    let subject = Subject::new(policies::trap(random), reading);
+    (0..6).map(|_| why_call(random, &subject)).collect()
 }
 
 /// Both engines on policies that are hard on one of them.
@@ -83,8 +94,37 @@ fn around_engines(random: &mut Random) -> Vec<Call> {
             made.push(prepare_call(random, &subject));
             made.push(prepare_fast_call(random, &subject));
         }
+        made.push(why_call(random, &subject));
+        made.push(why_call(random, &subject));
     }
     made
+}
+
+/// Mostly with the marks of prepare, and bytes past them that say nothing.
+fn why_call(random: &mut Random, subject: &Subject) -> Call {
+    let state = some_state(random, subject);
+    let mut marks = subject.liveness.marks();
+    match random.below(20) {
+        0..=1 => {
+            let place = random.between(0, marks.len() - 1);
+            marks[place] = match marks[place] {
+                0 => random.pick(&[1, 2, 255]),
+                _ => random.pick(&[0, 2, 255]),
+            };
+        }
+        2..=4 => marks.extend(random.bytes(3)),
+        5 => marks = vec![1; marks.len()],
+        6 => marks.truncate(marks.len() - 1),
+        _ => {}
+    }
+    Call::Why {
+        reading: some_reading(random, subject),
+        file: subject.file.clone(),
+        marks,
+        state,
+        x: some_value(random, subject.policy.input_mask()),
+        y: some_value(random, subject.policy.output_mask()),
+    }
 }
 
 fn clean_call(random: &mut Random, subject: &Subject) -> Call {
@@ -309,7 +349,8 @@ fn around_damage(random: &mut Random) -> Vec<Call> {
         made.push(indexed_call(random, &subject).with_file(file.clone()));
         made.push(bay_call(random, &subject).with_file(file.clone()));
         made.push(prepare_fast_call(random, &subject).with_file(file.clone()));
-        made.push(clean_call(random, &subject).with_file(file));
+        made.push(clean_call(random, &subject).with_file(file.clone()));
+        made.push(why_call(random, &subject).with_file(file));
     }
     made
 }
@@ -825,6 +866,7 @@ pub fn refusals_of(function: &str) -> Vec<usize> {
         "prepare" => &[10, 11, 22],
         "prepare_fast" => &[10, 11, 22, 23],
         "clean" => &[14, 22],
+        "why" => &[10, 15, 16, 20, 22],
         "input" | "output" => &[10, 15, 16, 17, 22],
         "run" => &[10, 14, 15, 16, 17, 22],
         "join" => &[12, 13, 14],

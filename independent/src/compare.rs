@@ -30,6 +30,8 @@ pub struct Tally {
     pub laws: LawTally,
     pub bays: BayTally,
     pub meter: MeterTally,
+    /// Reasons for inputs and for outputs, by kind.
+    pub reasons: [[u64; 5]; 2],
 }
 
 impl Tally {
@@ -49,6 +51,10 @@ impl Tally {
             }
             Call::Prepare { .. } | Call::PrepareFast { .. } if refusal == 0 => {
                 self.verdicts[usize::from((answer >> 8) as u8 & 1)] += 1;
+            }
+            Call::Why { .. } if refusal == 0 => {
+                self.reasons[0][usize::from((answer >> 8) as u8)] += 1;
+                self.reasons[1][usize::from((answer >> 32) as u8)] += 1;
             }
             _ => {}
         }
@@ -80,6 +86,11 @@ impl fmt::Display for Tally {
             out,
             "events forwarded {}, edited {}",
             self.forwarded, self.edited
+        )?;
+        writeln!(
+            out,
+            "reasons as not edited, rule, no rule, ticks, rests: for inputs {:?}, for outputs {:?}",
+            self.reasons[0], self.reasons[1]
         )?;
         writeln!(
             out,
@@ -278,9 +289,17 @@ mod tests {
         TargetsKeepTheirNumbers,
         RulesOfTwoAreThree,
         EveryRuleOfALocationStays,
+        MarksAreNotChecked,
+        MarksBeforeState,
+        OneTickMore,
+        RestsAsTicks,
+        RuleNumberInItsLocation,
+        LowestOutputOnly,
+        OutputJudgedWithXAsRead,
+        ReasonForWhatIsNotEdited,
     }
 
-    const FAULTS: [Fault; 72] = [
+    const FAULTS: [Fault; 80] = [
         Fault::RefuseAlways,
         Fault::ForwardEverything,
         Fault::SmallestAmongEquals,
@@ -353,6 +372,14 @@ mod tests {
         Fault::TargetsKeepTheirNumbers,
         Fault::RulesOfTwoAreThree,
         Fault::EveryRuleOfALocationStays,
+        Fault::MarksAreNotChecked,
+        Fault::MarksBeforeState,
+        Fault::OneTickMore,
+        Fault::RestsAsTicks,
+        Fault::RuleNumberInItsLocation,
+        Fault::LowestOutputOnly,
+        Fault::OutputJudgedWithXAsRead,
+        Fault::ReasonForWhatIsNotEdited,
     ];
 
     impl Spoilt {
@@ -898,6 +925,45 @@ mod tests {
                         false => answer,
                     }
                 }
+                _ => answer,
+            }
+        }
+
+        fn why(
+            &mut self,
+            reading: u8,
+            file: &[u8],
+            marks: &[u8],
+            state: &[u16],
+            x: u8,
+            y: u8,
+        ) -> u64 {
+            let answer = Model.why(reading, file, marks, state, x, y);
+            let (input, output) = (answer >> 8 & 0xFF, answer >> 32 & 0xFF);
+            if refusal_in(answer) != 0 {
+                return match self.fault {
+                    Fault::MarksAreNotChecked if answer == 20 => 0,
+                    Fault::MarksBeforeState if answer == 16 && marks.contains(&2) => 20,
+                    _ => answer,
+                };
+            }
+            match self.fault {
+                Fault::OneTickMore if output == 3 => answer + (1 << 40),
+                Fault::RestsAsTicks if input == 4 => answer - (1 << 8),
+                Fault::RuleNumberInItsLocation if output == 1 => {
+                    let policy = parse::check(file).expect("it was read");
+                    let first = index::index_of(&policy)[2 * usize::from(state[0])];
+                    answer - (u64::from(first) << 40)
+                }
+                Fault::LowestOutputOnly if input == 3 => {
+                    // As if the counts of all other outputs were not there.
+                    let number = answer >> 16 & 0xFFFF;
+                    answer & !0xFFFF_0000 | number.saturating_sub(1) << 16
+                }
+                Fault::OutputJudgedWithXAsRead if input != 0 => {
+                    answer & 0xFFFF_FFFF | input << 32 | (answer >> 16 & 0xFFFF) << 40
+                }
+                Fault::ReasonForWhatIsNotEdited if output == 0 => answer | 2 << 32,
                 _ => answer,
             }
         }

@@ -11,6 +11,7 @@ use crate::meter;
 use crate::refusal::Refusal;
 use crate::ticks::{self, Rounding};
 use crate::waves;
+use crate::why;
 
 /// Anything that answers as the library's C functions do: the refusal in the
 /// lowest byte, 0 for none, and above it what the function found.
@@ -142,6 +143,10 @@ pub trait Engine {
 
     /// refusal | length << 8 | length of the list << 32
     fn clean(&mut self, reading: u8, file: &[u8], cleaned: &mut [u8], struck: &mut [u8]) -> u64;
+
+    /// refusal | input's kind << 8 | its number << 16 | output's kind << 32 |
+    /// its number << 40
+    fn why(&mut self, reading: u8, file: &[u8], marks: &[u8], state: &[u16], x: u8, y: u8) -> u64;
 
     /// Whether, since this was last asked, a byte was changed that was not
     /// lent for writing.
@@ -318,6 +323,16 @@ impl Engine for Model {
     fn clean(&mut self, reading: u8, file: &[u8], cleaned: &mut [u8], struck: &mut [u8]) -> u64 {
         match clean::clean(reading, file, cleaned, struck) {
             Ok((length, listed)) => (length as u64) << 8 | (listed as u64) << 32,
+            Err(refusal) => u64::from(refusal.number()),
+        }
+    }
+
+    fn why(&mut self, reading: u8, file: &[u8], marks: &[u8], state: &[u16], x: u8, y: u8) -> u64 {
+        match why::why(reading, file, marks, state, x, y) {
+            Ok(reasons) => {
+                let [input, output] = reasons.map(|reason| reason.kind() | reason.number() << 8);
+                input << 8 | output << 32
+            }
             Err(refusal) => u64::from(refusal.number()),
         }
     }

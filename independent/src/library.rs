@@ -492,6 +492,27 @@ impl Engine for Library {
         answer
     }
 
+    fn why(&mut self, reading: u8, file: &[u8], marks: &[u8], state: &[u16], x: u8, y: u8) -> u64 {
+        let (mut f, mut m, mut s) = (bytes(file), bytes(marks), numbers(state));
+        let answer = unsafe {
+            groovepawn_why(
+                reading,
+                f.pointer(),
+                f.length,
+                m.pointer(),
+                m.length,
+                s.pointer(),
+                s.length,
+                x,
+                y,
+            )
+        };
+        self.expect(f.is_still(file));
+        self.expect(m.is_still(marks));
+        self.expect(s.is_still(state));
+        answer
+    }
+
     fn strayed(&mut self) -> bool {
         std::mem::take(&mut self.strayed)
     }

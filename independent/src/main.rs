@@ -35,6 +35,7 @@ mod subject;
 mod ticks;
 mod vectors;
 mod waves;
+mod why;
 mod written;
 mod wrong;
 
@@ -49,8 +50,8 @@ const USAGE: &str = "usage:
   independent selfcheck
   independent compare SECONDS SEED [trace]   (needs the feature `library`)
   independent rehearse SECONDS SEED
-  independent program enforce|wave SECONDS SEED WORD...   (the words run it)
-  independent prints enforce|wave < INPUT
+  independent program enforce|wave|why SECONDS SEED WORD...   (the words run it)
+  independent prints enforce|wave|why < INPUT
   independent show SEED GROUP
   independent vectors COUNT SEED > FILE
   independent wrong EACH SEED > FILE

@@ -157,9 +157,10 @@ pub fn picky(random: &mut Random) -> Policy {
 /// their numbers, or one by one along the clock, or in loops that must be left;
 /// or it is a join.
 pub fn adversarial(random: &mut Random) -> Policy {
-    match random.below(5) {
+    match random.below(6) {
         0..=1 => falling(random),
         2..=3 => ring(random),
+        4 => trap(random),
         _ => joined(random),
     }
 }
@@ -262,6 +263,53 @@ fn ring(random: &mut Random) -> Policy {
         if random.percent(40) {
             let target = random.between(0, locations - 1);
             policy.rules.push(rules::open(location, target));
+        }
+    }
+    policy
+}
+
+/// The start stays, and some of its events lead into what has no future: on and
+/// on through locations of which some rest, to one without rules or to one that
+/// must be left and never is. Some that must be left have a loop of their own.
+pub fn trap(random: &mut Random) -> Policy {
+    let locations = random.between(3, 8);
+    let mut policy = Policy {
+        must_leave: (0..locations).map(|_| random.percent(50)).collect(),
+        rules: vec![],
+        ..unit(b"A", b"BC")
+    };
+    policy.must_leave[0] = false;
+    let when = |care, value| Condition { care, value };
+    for output in 0..4 {
+        let target = match random.below(5) {
+            0 => usize::from(VIOLATION),
+            1 => continue,
+            _ => random.between(1, locations - 1),
+        };
+        policy.rules.push(Rule {
+            input: when(1, 1),
+            output: when(3, output),
+            ..rules::open(0, target)
+        });
+    }
+    policy.rules.push(Rule {
+        output: when(3, 3),
+        ..rules::open(0, random.between(1, locations - 1))
+    });
+    policy.rules.push(Rule {
+        input: when(1, 0),
+        ..rules::open(0, 0)
+    });
+    for location in 1..locations {
+        if policy.must_leave[location] && random.percent(60) {
+            policy.rules.push(Rule {
+                output: when(1, 1),
+                ..rules::open(location, location)
+            });
+        }
+        if location + 1 < locations {
+            let further = random.between(location + 1, (location + 2).min(locations - 1));
+            policy.rules.push(rules::open(location, further));
         }
     }
     policy

@@ -1,4 +1,4 @@
-//! What the programs `enforce` and `wave` print for an input, by the paper, and
+//! What the programs `enforce`, `wave` and `why` print for an input, by the paper, and
 //! a comparison of a program with that on random inputs.
 
 use crate::call::hex;
@@ -7,12 +7,14 @@ use crate::enforce::{self, Prepared};
 use crate::moment::STATE_LENGTH;
 use crate::parse;
 use crate::policies::{self, Size};
-use crate::policy::{Policy, MAX_STATES};
+use crate::policy::{Bound, Policy, Rule, MAX_STATES, NO_UPPER_BOUND};
 use crate::random::Random;
 use crate::reading::Reading;
 use crate::refusal::Refusal;
 use crate::subject::some_events;
 use crate::waves::{self, MOST_EVENTS};
+use crate::why::{self, Reason};
+use std::collections::HashMap;
 use std::fmt::Write as _;
 use std::io::{self, Write as _};
 use std::process::{Command, Stdio};
@@ -30,6 +32,9 @@ pub enum Program {
     /// Prints the released stream for a wave viewer. It takes the same input,
     /// and refuses what `enforce` refuses.
     Wave,
+    /// Prints what `enforce` prints, and after each tick a line with the reason
+    /// for each edited half.
+    Why,
 }
 
 impl Program {
@@ -37,6 +42,7 @@ impl Program {
         match name {
             "enforce" => Some(Program::Enforce),
             "wave" => Some(Program::Wave),
+            "why" => Some(Program::Why),
             _ => None,
         }
     }
@@ -46,6 +52,7 @@ impl Program {
         match (Ran::of(input), self) {
             (Ok(ran), Program::Enforce) => ran.lines(),
             (Ok(ran), Program::Wave) => ran.wave(),
+            (Ok(ran), Program::Why) => ran.told(),
             (Err(refusal), _) => format!("refused {}\n", refusal.number()),
         }
     }
@@ -54,6 +61,7 @@ impl Program {
 /// An input that is not refused, and what is released for it.
 struct Ran<'a> {
     file: &'a [u8],
+    marks: Vec<u8>,
     prepared: Prepared,
     events: &'a [u8],
     released: Vec<u8>,
@@ -82,6 +90,7 @@ impl Ran<'_> {
             Some(refusal) => Err(refusal),
             None => Ok(Ran {
                 file,
+                marks,
                 prepared,
                 events,
                 released,
@@ -110,10 +119,106 @@ impl Ran<'_> {
         lines
     }
 
+    fn told(&self) -> String {
+        let policy = parse::check(self.file).expect("it was prepared");
+        let lines = self.lines();
+        let mut lines = lines.lines();
+        let mut text = format!("{}\n", lines.next().expect("the verdict comes first"));
+        let mut state = [0; STATE_LENGTH];
+        // Streams go in circles: a reason is worked out once.
+        let mut known = HashMap::new();
+        for ((&event, &out), line) in self.events.iter().zip(&self.released).zip(lines) {
+            writeln!(text, "{line}").expect("a string takes all");
+            if event != out {
+                let reasons = known
+                    .entry((state, event))
+                    .or_insert_with(|| self.reasons(&state, event));
+                for (half, reason) in ["input", "output"].iter().zip(reasons) {
+                    if let Some(words) = words(&policy, *reason) {
+                        writeln!(text, "{half}: {words}").expect("a string takes all");
+                    }
+                }
+            }
+            // What is released is kept as it is, and moves the state.
+            enforce::output_half(
+                READING.number(),
+                self.file,
+                &self.marks,
+                &mut state,
+                out % 16,
+                out / 16,
+            )
+            .expect("it was released");
+        }
+        text
+    }
+
+    fn reasons(&self, state: &[u16], event: u8) -> [Reason; 2] {
+        why::why(
+            READING.number(),
+            self.file,
+            &self.marks,
+            state,
+            event % 16,
+            event / 16,
+        )
+        .expect("a run goes on from it")
+    }
+
     fn wave(&self) -> String {
         let policy = parse::check(self.file).expect("it was prepared");
         waves::text_of(&policy, &self.released)
     }
+}
+
+/// The words of a reason, if there is one.
+fn words(policy: &Policy, reason: Reason) -> Option<String> {
+    let counted = |most: usize, what: &str, end: &str| {
+        let s = if most == 1 { "" } else { "s" };
+        Some(format!("after it at most {most} more {what}{s}{end}"))
+    };
+    match reason {
+        Reason::NotEdited => None,
+        Reason::Rule(number) => Some(format!(
+            "rule {number} forbids it: {}",
+            asks(policy, &policy.rules[number])
+        )),
+        Reason::NoRule => Some("no rule allows it".to_string()),
+        Reason::Ticks(most) => counted(most, "tick", ""),
+        Reason::Rests(0) => Some("after it never at rest again".to_string()),
+        Reason::Rests(most) => counted(most, "time", " at rest"),
+    }
+}
+
+/// What a rule asks: where, which signals on, which off, and which clocks.
+fn asks(policy: &Policy, rule: &Rule) -> String {
+    let mut parts = vec![format!("at location {}", rule.source)];
+    for (on, word) in [(true, "on"), (false, "off")] {
+        let halves = [(&policy.inputs, rule.input), (&policy.outputs, rule.output)];
+        let named: Vec<String> = halves
+            .iter()
+            .flat_map(|(tags, condition)| {
+                let asked = |bit: usize| {
+                    condition.care >> bit & 1 == 1 && (condition.value >> bit & 1 == 1) == on
+                };
+                let tag = |bit: usize| char::from(tags[bit]).to_string();
+                (0..tags.len()).filter(move |&bit| asked(bit)).map(tag)
+            })
+            .collect();
+        if !named.is_empty() {
+            parts.push(format!("{} {word}", named.join(" ")));
+        }
+    }
+    for (clock, bound) in rule.bounds[..policy.ceilings.len()].iter().enumerate() {
+        match bound {
+            &Bound::OPEN => {}
+            Bound { low, high } if *high == NO_UPPER_BOUND => {
+                parts.push(format!("clock {clock} from {low} on"))
+            }
+            Bound { low, high } => parts.push(format!("clock {clock} from {low} to {high}")),
+        }
+    }
+    parts.join(", ")
 }
 
 /// The bytes after their two-byte count, and the rest.
@@ -151,6 +256,7 @@ fn some_policy(random: &mut Random) -> Policy {
     match random.below(100) {
         0 => policies::overfull(random),
         1 => policies::of_size(random, Size::Medium),
+        2..=21 => policies::trap(random),
         _ => {
             let size = random.pick(&[Size::Tiny, Size::Small]);
             policies::of_size(random, size)
@@ -296,6 +402,33 @@ mod tests {
         assert_eq!(Program::Wave.printed(&input), expected);
     }
 
+    /// In T the input 1 leads to a location without rules, with either output.
+    #[test]
+    fn the_reasons_of_the_sample() {
+        let expected = "verdict 1 states 2 live 1\n\
+            1 1 0 0 0 EF\ninput: after it at most 0 more ticks\n\
+            2 1 1 0 1 EF\ninput: after it at most 0 more ticks\n";
+        let input = input(samples::T, "00 02 01 11");
+        assert_eq!(Program::Why.printed(&input), expected);
+    }
+
+    /// Every kind of reason, and every part of what a rule asks.
+    #[test]
+    fn the_words_of_the_example() {
+        let input = include_bytes!("../../crates/why/stdin");
+        let lines = "output: rule 4 forbids it: at location 0, R on, A B off, clock 0 from 0 to 1\n\
+            input: rule 0 forbids it: at location 0, A B on, clock 0 from 1 on\n\
+            output: no rule allows it\n\
+            output: after it at most 2 more ticks\n\
+            input: after it never at rest again\n\
+            input: after it at most 1 more time at rest\n\
+            input: rule 0 forbids it: at location 0, A B on, clock 0 from 1 on\n\
+            output: after it at most 2 more ticks\n";
+        let text = Program::Why.printed(input);
+        let reasons: Vec<&str> = text.lines().filter(|line| line.contains(':')).collect();
+        assert_eq!(reasons, lines.lines().collect::<Vec<_>>());
+    }
+
     #[test]
     fn the_order_of_the_checks() {
         let cases = [
@@ -310,7 +443,7 @@ mod tests {
             (input(samples::T, "00 01 02"), 15),
         ];
         for (input, number) in cases {
-            for program in [Program::Enforce, Program::Wave] {
+            for program in [Program::Enforce, Program::Wave, Program::Why] {
                 assert_eq!(program.printed(&input), format!("refused {number}\n"));
             }
         }
@@ -332,8 +465,34 @@ mod tests {
     }
 
     #[test]
+    fn random_inputs_reach_every_reason() {
+        let texts: Vec<String> = (0..600)
+            .map(|number| Program::Why.printed(&some_input(1, number)))
+            .collect();
+        let parts = [
+            "input: rule ",
+            "output: rule ",
+            " forbids it: at location ",
+            " on, ",
+            " off, ",
+            " off\n",
+            ", clock 0 from ",
+            ", clock 1 from ",
+            "input: no rule allows it\n",
+            "output: no rule allows it\n",
+            " more tick\n",
+            " more ticks\n",
+            " more time at rest\n",
+            "output: after it never at rest again\n",
+        ];
+        for part in parts {
+            assert!(texts.iter().any(|text| text.contains(part)), "no {part}");
+        }
+    }
+
+    #[test]
     fn a_program_that_prints_something_else_is_noticed() {
-        for program in [Program::Enforce, Program::Wave] {
+        for program in [Program::Enforce, Program::Wave, Program::Why] {
             assert!(compare(program, &["true"], 1, |number| number < 1).is_err());
         }
     }

@@ -22,6 +22,7 @@ pub enum Refusal {
     NothingReachesLive = 17,
     TickLengthZero = 18,
     TooManyTicks = 19,
+    WrongMarks = 20,
     NotThisForm = 21,
     UnknownReading = 22,
     WorkTooShort = 23,

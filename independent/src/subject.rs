@@ -163,7 +163,7 @@ fn some_marks(random: &mut Random, subject: &Subject) -> Vec<u8> {
     marks
 }
 
-fn some_state(random: &mut Random, subject: &Subject) -> Vec<u16> {
+pub fn some_state(random: &mut Random, subject: &Subject) -> Vec<u16> {
     match random.below(100) {
         0..=19 => subject.state(subject.numbering.number(&Moment::START)),
         20..=49 => subject.state(mostly_live(random, subject, reached)),

@@ -377,6 +377,14 @@ impl<'a> Reader<'a> {
                 cleaned: self.string()?,
                 struck: self.string()?,
             },
+            20 => Call::Why {
+                reading: self.byte()?,
+                file: self.string()?,
+                marks: self.string()?,
+                state: self.numbers()?,
+                x: self.byte()?,
+                y: self.byte()?,
+            },
             _ => return Err(BROKEN.to_string()),
         })
     }
@@ -493,7 +501,7 @@ mod tests {
     #[test]
     fn every_refusal_of_every_function_is_stored() {
         let mut seen = [[false; LAST_REFUSAL + 1]; FUNCTIONS.len()];
-        for (call, outcome) in read(&vectors(650, 5)).expect("just written") {
+        for (call, outcome) in read(&vectors(600, 5)).expect("just written") {
             seen[call.kind()][usize::from(refusal_in(outcome.answer))] = true;
         }
         for (function, seen) in FUNCTIONS.iter().zip(seen) {

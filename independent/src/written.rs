@@ -15,6 +15,7 @@ mod readings;
 mod runs;
 mod times;
 mod waves;
+mod why;
 mod wrong_files;
 
 use crate::call::{from_hex, Call, Outcome};
@@ -72,6 +73,7 @@ pub fn all() -> Vec<Written> {
         fast::all(),
         annex::all(),
         clean::all(),
+        why::all(),
         wrong_files::all(),
         times::all(),
         waves::all(),
@@ -120,12 +122,11 @@ mod tests {
             let refusal = refusal_in(written.expected.answer);
             seen[written.call.kind()][usize::from(refusal)] = true;
         }
-        // The others are not given by any function.
-        for number in (0..=19).chain(21..=29) {
+        for number in 0..=LAST_REFUSAL {
             assert!(seen.iter().any(|function| function[number]), "{number}");
         }
         // Those that take a reading.
-        for kind in [0, 1, 2, 3, 9, 10, 12, 13, 15, 16, 17, 18] {
+        for kind in [0, 1, 2, 3, 9, 10, 12, 13, 15, 16, 17, 18, 19] {
             assert!(seen[kind][22]);
         }
         // Those a half or a run can give beside the nine of a file.

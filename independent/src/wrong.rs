@@ -187,6 +187,7 @@ mod tests {
             "clean Answer",
             "clean Bytes",
             "clean List",
+            "why Answer",
         ];
         assert_eq!(named, expected);
     }
@@ -195,7 +196,7 @@ mod tests {
     fn the_file_is_short() {
         for seed in 0..10 {
             let file = wrong(4, seed);
-            assert!(file.len() <= 40_000, "{}", file.len());
+            assert!(file.len() <= 50_000, "{}", file.len());
         }
     }
 }

@@ -7,4 +7,6 @@ pub use frame::Part;
 pub use frame::events_frame;
 pub use frame::policy_frame;
 pub use lines::put_refused;
+pub use lines::put_tick;
+pub use lines::put_verdict;
 pub use reply::respond;

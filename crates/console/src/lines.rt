@@ -38,13 +38,7 @@ pub fn put_refused(text: &mut [u8], at: usize, n: u8) -> usize
 }
 
 // The first line: at most 8 + 3 + 8 + 20 + 6 + 20 + 1 bytes.
-pub(crate) fn put_verdict(
-    text: &mut [u8],
-    at: usize,
-    verdict: u8,
-    states: usize,
-    live: usize,
-) -> usize
+pub fn put_verdict(text: &mut [u8], at: usize, verdict: u8, states: usize, live: usize) -> usize
     requires { ⌜ at + 66 ≤ length (now text) ⌝ }
     ensures { λ r. ⌜ Wrote (now (text .entry)) at (verdictLine verdict states live) r (now (text .exit)) × (r ≤ at + 66) ⌝ }
 {
@@ -71,7 +65,7 @@ fn put_halves(text: &mut [u8], at: usize, event: u8) -> usize
 }
 
 // The line of a tick: at most 21 bytes.
-pub(crate) fn put_tick(text: &mut [u8], at: usize, tick: usize, event: u8, released: u8) -> usize
+pub fn put_tick(text: &mut [u8], at: usize, tick: usize, event: u8, released: u8) -> usize
     requires { ⌜ (tick < 10 ^ 5) × (at + 21 ≤ length (now text)) ⌝ }
     ensures { λ r. ⌜ Wrote (now (text .entry)) at (eventLine tick event released) r (now (text .exit)) ⌝ }
 {

@@ -26,7 +26,7 @@ use Rattle.enforcer.specs.declared.reach.Here.{Here}
 use Rattle.enforcer.specs.declared.next.Step.{Step}
 use Rattle.enforcer.specs.declared.matcher.Found.{Found}
 use Rattle.enforcer.specs.declared.matcher.Found.the-variants as Found
-use Rattle.enforcer.proofs.RuleLaws.{decider-lt, decider-decides}
+use Rattle.enforcer.specs.Decider.{decider-lt, decider-decides}
 
 -- A violation takes the state nowhere.
 pub taken-violation : (p : Policy) (s : Place) (r : Rule) → r .target ≡ 255 → taken stopped p s r ≡ none

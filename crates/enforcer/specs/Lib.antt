@@ -3,6 +3,7 @@ pub mod Tick
 pub mod Ticks
 pub mod Entries
 pub mod Code
+pub mod Decider
 pub mod Ready
 pub mod Laid
 pub mod States

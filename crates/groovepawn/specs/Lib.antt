@@ -6,6 +6,7 @@ pub mod Fields
 pub mod Waves
 pub mod Indexed
 pub mod Bays
+pub mod Why
 pub mod Fast
 pub mod Meter
 pub mod Clean

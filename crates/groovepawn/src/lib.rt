@@ -5,6 +5,7 @@ mod clean_call;
 mod meter_calls;
 mod second;
 mod viewer;
+mod why_call;
 
 pub use bay_calls::groovepawn_bay_input;
 pub use bay_calls::groovepawn_bay_output;
@@ -35,6 +36,7 @@ use ticks::Milliseconds;
 use ticks::Rounding;
 pub use viewer::groovepawn_wave_read;
 pub use viewer::groovepawn_wave_write;
+pub use why_call::groovepawn_why;
 ghost use mathlib.Core.Path.{_≡_};
 ghost use Rattle.streams.specs.Answer.{gives};
 ghost use Rattle.enforcer.specs.Promises.{answerSaid, OutputPromise};

@@ -1,23 +1,10 @@
 // The lines that are printed.
 use policy::bytes::pair_at;
-use texts::put_bytes;
-use texts::put_decimal;
-ghost use mathlib.Core.List.{_++_};
+use texts::put_about;
 ghost use Prim.Native.Nat.{_+_, _*_, _^_, _≤_, _<_};
 ghost use lib.ListN.{length};
-ghost use Rattle.texts.specs.Text.{decimal};
 ghost use Rattle.texts.specs.Wrote.{Wrote};
 ghost use Rattle.listing.specs.Listed.{entryLine, bytesLines, leftLine};
-
-// Words, a number and words.
-fn put_about(text: &mut [u8], at: usize, before: &[u8], n: usize, after: &[u8]) -> usize
-    requires { ⌜ at + length (now before) + length (decimal n) + length (now after) ≤ length (now text) ⌝ }
-    ensures { λ r. ⌜ Wrote (now (text .entry)) at (now (before .entry) ++ decimal n ++ now (after .entry)) r (now (text .exit)) ⌝ }
-{
-    let number = put_bytes(text, at, before);
-    let rest = put_decimal(text, number, n);
-    put_bytes(text, rest, after)
-}
 
 // The line of an entry: at most 66 bytes.
 fn put_entry(text: &mut [u8], at: usize, kind: u8, number: usize) -> usize

@@ -4,6 +4,7 @@ pub mod Live
 pub mod Alone
 pub mod Ways
 pub mod Along
+pub mod Passed
 pub mod Located
 pub mod Enforces
 pub mod Engine

@@ -26,6 +26,7 @@ use Rattle.prepare.specs.Table.{marksOf}
 use Rattle.prepare.specs.Entry.{summaryOf, prepareOf, preparedMarks}
 use Rattle.prepare.specs.Entry as Entry
 use Rattle.prepare.specs.Promise.{prepared-one, said-past}
+use Rattle.reasons.specs.Entry.{whyRefusal}
 use Rattle.bays.specs.Bays.{bayCount, bayState}
 use Rattle.fast.specs.Entry.{fastOf, fastMarks}
 use Rattle.fast.specs.Promise.{first-refusals}
@@ -45,6 +46,8 @@ pub use Rattle.enforcer.specs.Promises.{InputPromise, input-one, OutputPromise,
 pub use Rattle.bays.specs.Promises.{NewPromise, new-one, BayInputPromise, bay-input-one, BayOutputPromise, bay-output-one}
 -- A station with a meter: setting it up, and the two halves.
 pub use Rattle.meter.specs.Promises.{MeterNewPromise, meter-new-one, MeterInputPromise, meter-input-one, MeterOutputPromise, meter-output-one}
+-- Why a half was edited.
+pub use Rattle.reasons.specs.Promise.{WhyPromise, why-one}
 -- The join.
 pub use Rattle.join.specs.Promise.{JoinPromise, join-one}
 -- Milliseconds to ticks.
@@ -68,6 +71,7 @@ pub use Rattle.groovepawn.specs.Calls.{
   ticks-one as c-ticks-one,
 }
 pub use Rattle.groovepawn.specs.Fast.{FastCall, fast-one as c-fast-one, fast-prepares}
+pub use Rattle.groovepawn.specs.Why.{WhyCall, why-one as c-why-one}
 pub use Rattle.groovepawn.specs.Waves.{WaveWriteCall, WaveReadCall, wave-write-one, wave-read-one}
 pub use Rattle.groovepawn.specs.Bays.{
   NewCall,
@@ -90,13 +94,15 @@ pub use Rattle.console.specs.Printed.{printed}
 pub use Rattle.console.specs.Reply.{Replied, replied-one}
 -- The program `wave`: `viewer::respond` writes the text `shown input` likewise.
 pub use Rattle.viewer.specs.Shown.{shown}
+-- The program `why`: `telling::respond` writes a text that it `Prints` for the input, of which there is one, and returns how many bytes it is.
+pub use Rattle.telling.specs.Prints.{Prints, prints-one, Writes, writes-one}
 use Rattle.prepare.specs.declared.Summary.{Summary}
 use Rattle.prepare.specs.declared.Prepared.{Prepared}
 use Rattle.prepare.specs.declared.Prepared.the-variants as Prepared
 use Rattle.tender.specs.Samples.{S, T}
 use Rattle.tender.specs.Granted.{each-reading}
 
--- "Callers name reading 1 or 2." "22 for any other number, before all else": whatever else they are given, prepare, the halves and the run answer 22,
+-- "Callers name reading 1 or 2." "22 for any other number, before all else": whatever else they are given, prepare, the halves, why and the run answer 22,
 -- and nothing is written or moved.
 module _ (reading : ℕ) (not-one : ¬ (reading ≡ 1)) (not-two : ¬ (reading ≡ 2)) (file marks : List ℕ) where
   first-22 : marksRefusal reading file marks ≡ 22
@@ -118,6 +124,10 @@ module _ (reading : ℕ) (not-one : ¬ (reading ≡ 1)) (not-two : ¬ (reading �
     pub output-22 : (x y : ℕ) → outputOf reading file marks s x y ≡ record { answer = refused 22; state = s }
     unfolding outputOf outputRefusal
     output-22 x y = rw first-22
+
+    pub why-22 : (x y : ℕ) → whyRefusal reading file marks s x y ≡ 22
+    unfolding whyRefusal
+    why-22 x y = rw first-22
 
     pub run-22 : (events out : List ℕ) → runOf reading file marks s events out ≡ record { refusal = 22; count = 0; state = s; out = out }
     unfolding runOf runRefusal

@@ -22,3 +22,4 @@ pub mod Bays
 pub mod Metered
 pub mod Story
 pub mod Clean
+pub mod Why

@@ -1,5 +1,5 @@
 // Bytes and numbers written into a text.
-ghost use mathlib.Core.List.{[], _∷_};
+ghost use mathlib.Core.List.{[], _∷_, _++_};
 ghost use Prim.Native.Nat.{_+_, _≤_, _<_};
 ghost use lib.ListN.{length};
 ghost use Rattle.texts.specs.Text.{digit, decimal};
@@ -37,4 +37,14 @@ pub fn put_decimal(text: &mut [u8], at: usize, n: usize) -> usize
     }
     let last = put_decimal(text, at, n / 10);
     put_digit(text, last, n)
+}
+
+// Words, a number and words.
+pub fn put_about(text: &mut [u8], at: usize, before: &[u8], n: usize, after: &[u8]) -> usize
+    requires { ⌜ at + length (now before) + length (decimal n) + length (now after) ≤ length (now text) ⌝ }
+    ensures { λ r. ⌜ Wrote (now (text .entry)) at (now (before .entry) ++ decimal n ++ now (after .entry)) r (now (text .exit)) ⌝ }
+{
+    let number = put_bytes(text, at, before);
+    let rest = put_decimal(text, number, n);
+    put_bytes(text, rest, after)
 }

@@ -469,3 +469,24 @@ pub(crate) fn clean(
         next,
     }
 }
+
+pub(crate) fn why(
+    cases: &[u8],
+    at: Cursor,
+    reading: u8,
+    file: &[u8],
+    marks: &[u8],
+    state: &[u16],
+) -> Outcome {
+    let x = at.byte(cases);
+    let next = x.next;
+    let y = next.byte(cases);
+    let next = y.next;
+    let got = groovepawn::groovepawn_why(reading, file, marks, state, x.value, y.value);
+    let answer = next.long(cases);
+    let next = answer.next;
+    Outcome {
+        differs: first_of(got == answer.value, true, true),
+        next,
+    }
+}

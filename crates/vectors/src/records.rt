@@ -86,6 +86,7 @@ fn state_record(
     match kind {
         Kind::Input => calls::input(cases, next, reading, file, marks, &state[..numbers]),
         Kind::Output => calls::output(cases, next, reading, file, marks, &mut state[..numbers]),
+        Kind::Why => calls::why(cases, next, reading, file, marks, &state[..numbers]),
         Kind::InputIndexed => {
             indexed_input_record(cases, next, reading, file, marks, &state[..numbers])
         }

@@ -4,7 +4,7 @@ use crate::numbers::Cursor;
 use libc::STDOUT_FILENO;
 
 // The kinds of records have the numbers from 1 to below this.
-pub const KINDS: usize = 20;
+pub const KINDS: usize = 21;
 
 pub enum Kind {
     Prepare,
@@ -26,6 +26,7 @@ pub enum Kind {
     MeterOutput,
     PrepareFast,
     Clean,
+    Why,
     Unknown,
 }
 
@@ -51,6 +52,7 @@ impl Kind {
             17 => Kind::MeterOutput,
             18 => Kind::PrepareFast,
             19 => Kind::Clean,
+            20 => Kind::Why,
             _ => Kind::Unknown,
         }
     }
@@ -76,6 +78,7 @@ impl Kind {
             Kind::MeterOutput => print(b"meter_output"),
             Kind::PrepareFast => print(b"prepare_fast"),
             Kind::Clean => print(b"clean"),
+            Kind::Why => print(b"why"),
             Kind::Unknown => print(b"unknown"),
         }
     }

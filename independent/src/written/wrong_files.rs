@@ -147,6 +147,14 @@ fn calls() -> Vec<Call> {
             cleaned: vec![FILLER; 60],
             struck: vec![FILLER; 9],
         },
+        Call::Why {
+            reading,
+            file: file.clone(),
+            marks: marks.clone(),
+            state: state.clone(),
+            x: 1,
+            y: 1,
+        },
     ]
 }
 

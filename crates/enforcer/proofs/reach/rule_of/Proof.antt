@@ -10,7 +10,7 @@ use Rattle.policy.specs.Rules.{Place}
 use Rattle.policy.specs.File.{part, ruleSize, rulesFrom}
 use Rattle.enforcer.specs.Code.{eventXY, place, decider, foundSaid}
 use Rattle.enforcer.specs.Laid.{laid-limits, own-fits, own-level}
-use Rattle.enforcer.proofs.RuleLaws.{decider-lt}
+use Rattle.enforcer.specs.Decider.{decider-lt}
 use Rattle.enforcer.proofs.DecidedLaws.{decided-none, decided-rule}
 use Rattle.enforcer.proofs.reach.rule_of.Statement.{statement}
 use Rattle.enforcer.proofs.reach.rule_of.Tie as tie

@@ -6,7 +6,8 @@ use lib.ListN.{length, getD, drop}
 use denote.Ref.{now}
 use borrow.Author.Needs.{needs}
 use Rattle.waves.specs.Wave.{valueLine, valueLines}
-use Rattle.waves.specs.Under.{Under, under-start, under-room, under-more, under-all, values-turn, values-end}
+use Rattle.texts.specs.Under.{Under, under-start, under-room, under-more, under-all}
+use Rattle.waves.specs.Under.{values-turn, values-end}
 use Rattle.waves.proofs.lines.put_values.Statement.{statement}
 use Rattle.waves.proofs.lines.put_values.Tie as tie
 

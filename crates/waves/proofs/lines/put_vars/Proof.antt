@@ -6,7 +6,8 @@ use lib.ListN.{length, getD, drop}
 use denote.Ref.{now}
 use borrow.Author.Needs.{needs}
 use Rattle.waves.specs.Wave.{varLine, varLines}
-use Rattle.waves.specs.Under.{Under, under-start, under-room, under-more, under-all, vars-turn, vars-end}
+use Rattle.texts.specs.Under.{Under, under-start, under-room, under-more, under-all}
+use Rattle.waves.specs.Under.{vars-turn, vars-end}
 use Rattle.waves.proofs.lines.put_vars.Statement.{statement}
 use Rattle.waves.proofs.lines.put_vars.Tie as tie
 

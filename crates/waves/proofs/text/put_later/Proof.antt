@@ -8,7 +8,7 @@ use lib.ListN.{length, getD, drop}
 use denote.Ref.{now}
 use borrow.Author.Needs.{needs}
 use Rattle.waves.specs.Wave.{timeLine, changeLines, laterLines}
-use Rattle.waves.specs.Under.{Under, under-start, under-room, under-more, under-all}
+use Rattle.texts.specs.Under.{Under, under-start, under-room, under-more, under-all}
 use Rattle.waves.specs.Lengths.{later-turn, later-end}
 use Rattle.waves.proofs.text.put_later.Statement.{statement}
 use Rattle.waves.proofs.text.put_later.Tie as tie

@@ -1,9 +1,9 @@
--- `listing::lines::put_about` meets its contract: the words, the digits, the words.
+-- `texts::put_about` meets its contract: the words, the digits, the words.
 use native.Mathlib.Omega.{arith}
 use borrow.Author.Needs.{needs}
 use Rattle.texts.specs.Wrote.{wrote-then}
-use Rattle.listing.proofs.lines.put_about.Statement.{statement}
-use Rattle.listing.proofs.lines.put_about.Tie as tie
+use Rattle.texts.proofs.put_about.Statement.{statement}
+use Rattle.texts.proofs.put_about.Tie as tie
 
 put-bytes-requires : tie.Need-put-bytes-requires
 put-bytes-requires c κs = search needs

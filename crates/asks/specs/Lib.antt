@@ -1,0 +1,4 @@
+pub mod Words
+pub mod Turns
+pub mod Short
+pub mod Cases

@@ -1,0 +1,58 @@
+-- `reasons::reason::with_ticks` meets its contract, by the reason so far.
+use mathlib.Core.Path.{sym, ap, _∙_}
+use Rattle.reasons.specs.Reasons.{ticks}
+use Rattle.reasons.specs.Better.{withTicks}
+use Rattle.reasons.specs.Promise.{reasonSaid}
+use Rattle.reasons.specs.declared.reason.Reason.{Reason}
+use borrow.Author.Needs.{needs}
+use Rattle.reasons.proofs.reason.with_ticks.Statement.{statement}
+use Rattle.reasons.proofs.reason.with_ticks.Tie as tie
+
+enum-known-best : tie.Need-enum-known-best
+enum-known-best c = search needs
+
+enum-known-best-2 : tie.Need-enum-known-best-2
+enum-known-best-2 c = search needs
+
+most-requires : tie.Need-most-requires
+most-requires c κs = search needs
+
+enum-told : tie.Need-enum-told
+enum-told c = search needs
+
+enum-told-2 : tie.Need-enum-told-2
+enum-told-2 c = search needs
+
+enum-told-3 : tie.Need-enum-told-3
+enum-told-3 c = search needs
+
+returns : tie.Need-returns
+returns c = sym (ap (λ (z : Reason). withTicks (c .before .before .before .args .j) (reasonSaid z)) (c .before .best .given .1))
+
+returns-2 : tie.Need-returns-2
+returns-2 c = ap ticks (c .most .ensures) ∙ sym (ap (λ (z : Reason). withTicks (c .before .before .before .before .args .j) (reasonSaid z)) (c .before .before .best2 .given .1))
+
+returns-3 : tie.Need-returns-3
+returns-3 c = sym (ap (λ (z : Reason). withTicks (c .before .before .args .j) (reasonSaid z)) (c .enum-told .given .1))
+
+returns-4 : tie.Need-returns-4
+returns-4 c = sym (ap (λ (z : Reason). withTicks (c .before .before .args .j) (reasonSaid z)) (c .enum-told2 .given .1))
+
+returns-5 : tie.Need-returns-5
+returns-5 c = sym (ap (λ (z : Reason). withTicks (c .before .before .args .j) (reasonSaid z)) (c .enum-told3 .given .1))
+
+pub with-ticks-spec : {M : Type 1} → statement M
+with-ticks-spec =
+    tie.close
+    (tie.spec
+    enum-known-best
+    enum-known-best-2
+    most-requires
+    enum-told
+    enum-told-2
+    enum-told-3
+    returns
+    returns-2
+    returns-3
+    returns-4
+    returns-5)

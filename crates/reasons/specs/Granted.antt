@@ -1,0 +1,142 @@
+-- What the refusals make sure of, and how the code finds them.
+use mathlib.Core.Path.{_≡_, refl, sym, ap, subst, _∙_}
+use mathlib.Core.Bool.{true, false, not, and-eq-true-iff}
+use mathlib.Core.List.{List}
+use Prim.Native.Nat.{ℕ, zero, suc, _≤_, _<_}
+use native.Mathlib.Omega.{arith}
+use lib.ListN.{getD, take}
+use lib.Seq.{getD-take}
+use borrow.Author.Tests.{lt-ltb, le-ltb, ltb-true, not-true}
+use Rattle.streams.specs.Answer.{refused, gives, unless, none-refused, none-unless}
+use Rattle.policy.specs.Rules.{Policy, Place, inputValues, outputValues}
+use Rattle.policy.specs.File.{policyOf}
+use Rattle.policy.specs.Number.{states, numberOf}
+use Rattle.policy.specs.Check.{refusalUnder}
+use Rattle.enforcer.specs.State.{placeIn, isMarked}
+use Rattle.enforcer.specs.Entries.{xGood, yGood, marksRefusal, stateRefusal}
+use Rattle.policy.specs.declared.Layout.{Layout}
+use Rattle.enforcer.specs.Code.{asPlace, place}
+use Rattle.enforcer.specs.Ready.{Standing}
+use Rattle.enforcer.specs.Laid.{laid-place}
+use Rattle.enforcer.specs.States.{Granted, marks-granted, state-granted, granted-standing}
+use Rattle.enforcer.specs.declared.state.State.{State}
+use Rattle.prepare.specs.Table.{marksOf}
+use Rattle.prepare.specs.Enforces.{Prepared}
+use Rattle.reasons.specs.Reasons.{Explained}
+use Rattle.reasons.specs.Entry.{Reasons, differ, differ-front, otherMarks, whyRefusal, Answers, refuses, explains}
+use Rattle.reasons.specs.Edited.{marks-prepared}
+use Rattle.reasons.specs.Halves.{BothTold}
+use Rattle.reasons.specs.Said.{Counts}
+
+-- Marks in a slice that is long enough: the comparison sees them alone.
+pub front-differ : (p : Policy) (marks after : List ℕ) → take (states p) after ≡ marksOf p → differ marks after (states p) ≡ otherMarks p marks
+front-differ p marks after e =
+    differ-front marks after (marksOf p) (states p) (λ i l. sym (getD-take (states p) after i 0 l) ∙ ap (λ (A : List ℕ). getD A i 0) e)
+
+-- The tables begin with the counts.
+abbrev pub CountsFront : Policy → (T R : List ℕ) → Type 0
+CountsFront p T R = Counts p (take (states p) T) (take (states p) R)
+
+-- The refusal that the code finds, and what its tables hold then.
+pub record Refuses (reading : ℕ) (file marks : List ℕ) (s : Place) (x y r : ℕ) (T R : List ℕ) : Type 0 where
+  pub is : r ≡ whyRefusal reading file marks s x y
+  pub left : r ≡ 0 → CountsFront (policyOf reading file) T R
+
+module _ (reading : ℕ) (file marks : List ℕ) (s : Place) (x y : ℕ) where
+  -- The first that is given, in their order.
+  module _ (T R : List ℕ) where
+    pub by-marks : {r : ℕ} → r ≡ marksRefusal reading file marks → (r ≡ 0 → ⊥) → Refuses reading file marks s x y r T R
+    unfolding whyRefusal
+    by-marks {r = zero} e n = absurd (n refl)
+    by-marks {r = suc r} e n = record { is = rw (← e); left = λ z. absurd (omega arith) }
+
+    pub by-state : {r : ℕ} → marksRefusal reading file marks ≡ 0 → r ≡ stateRefusal reading file marks s → (r ≡ 0 → ⊥) → Refuses reading file marks s x y r T R
+    unfolding whyRefusal
+    by-state {r = zero} m e n = absurd (n refl)
+    by-state {r = suc r} m e n = record { is = rw (m, ← e); left = λ z. absurd (omega arith) }
+
+    module _ (m : marksRefusal reading file marks ≡ 0) (t : stateRefusal reading file marks s ≡ 0) where
+      pub by-other : otherMarks (policyOf reading file) marks ≡ true → Refuses reading file marks s x y 20 T R
+      unfolding whyRefusal
+      by-other o = record { is = rw (m, t, o); left = λ z. absurd (omega arith) }
+
+      module _ (o : otherMarks (policyOf reading file) marks ≡ false) where
+        pub by-x : inputValues (policyOf reading file) ≤ x → Refuses reading file marks s x y 15 T R
+        unfolding whyRefusal
+        by-x l = record { is = rw (m, t, o, le-ltb x (inputValues (policyOf reading file)) l); left = λ z. absurd (omega arith) }
+
+        module _ (l : x < inputValues (policyOf reading file)) where
+          pub by-y : outputValues (policyOf reading file) ≤ y → Refuses reading file marks s x y 15 T R
+          unfolding whyRefusal
+          by-y u = record { is = rw (m, t, o, lt-ltb x (inputValues (policyOf reading file)) l, le-ltb y (outputValues (policyOf reading file)) u); left = λ z. absurd (omega arith) }
+
+          pub by-nothing : y < outputValues (policyOf reading file) → CountsFront (policyOf reading file) T R → Refuses reading file marks s x y 0 T R
+          unfolding whyRefusal
+          by-nothing u k = record { is = rw (m, t, o, lt-ltb x (inputValues (policyOf reading file)) l, lt-ltb y (outputValues (policyOf reading file)) u); left = λ z. k }
+
+  -- None is given.
+  pub record Allowed : Type 0 where
+    pub no-early : marksRefusal reading file marks ≡ 0
+    pub no-16 : stateRefusal reading file marks s ≡ 0
+    pub prepared : Prepared (policyOf reading file) marks
+    pub live : isMarked marks (numberOf (policyOf reading file) (placeIn (policyOf reading file) s)) ≡ true
+    pub x-fits : x < inputValues (policyOf reading file)
+    pub y-fits : y < outputValues (policyOf reading file)
+
+  pub allowed : whyRefusal reading file marks s x y ≡ 0 → Allowed
+  unfolding whyRefusal
+  allowed e =
+      let a = none-refused (marksRefusal reading file marks) _ .0 e in
+      let b = none-refused (stateRefusal reading file marks s) _ .0 (a .1) in
+      let c = none-refused (unless (not (otherMarks (policyOf reading file) marks)) 20) _ .0 (b .1) in
+      let d = and-eq-true-iff (xGood reading file x) (yGood reading file y) .0 (none-unless _ 14 .0 (c .1)) in
+      record {
+        no-early = a .0;
+        no-16 = b .0;
+        prepared = marks-prepared (policyOf reading file) marks (not-true _ (none-unless _ 19 .0 (c .0)));
+        live = state-granted reading file marks s .0 (b .0) .1;
+        x-fits = ltb-true x _ (d .0);
+        y-fits = ltb-true y _ (d .1);
+      }
+
+  -- What the entry answers.
+  pub answers-refused : {r : ℕ} {T R : List ℕ} → Refuses reading file marks s x y r T R → (r ≡ 0 → ⊥) → Answers reading file marks s x y (refused r)
+  answers-refused {r = zero} h n = absurd (n refl)
+  answers-refused {r = suc r} h n = refuses (sym (h .is))
+
+  pub answers-given : {r : ℕ} {T R : List ℕ} {q : Reasons} → Refuses reading file marks s x y r T R → r ≡ 0 →
+      Explained (policyOf reading file) marks (placeIn (policyOf reading file) s) x y (q .input) (q .output) → Answers reading file marks s x y (gives q)
+  answers-given h z e = explains (sym (h .is) ∙ z) e
+
+-- The same under the reading that the layout has.
+module _ {reading : ℕ} {file marks : List ℕ} {s : State} {x y : ℕ} {l : Layout} (k : Granted reading file marks l) (h : Allowed reading file marks (asPlace s) x y) where
+  pub at-standing : Standing file l marks s
+  at-standing = granted-standing (k .laid) (k .enough) (subst (λ (r : ℕ). stateRefusal r file marks (asPlace s) ≡ 0) (sym (k .named)) (h .no-16))
+
+  pub at-prepared : Prepared (policyOf (l .reading) file) marks
+  at-prepared = subst (λ (r : ℕ). Prepared (policyOf r file) marks) (sym (k .named)) (h .prepared)
+
+  pub at-live : isMarked marks (numberOf (policyOf (l .reading) file) (place (l .clocks) s)) ≡ true
+  at-live =
+      ap (λ (t : Place). isMarked marks (numberOf (policyOf (l .reading) file) t)) (laid-place (k .laid) s)
+      ∙ subst (λ (r : ℕ). isMarked marks (numberOf (policyOf r file) (placeIn (policyOf r file) (asPlace s))) ≡ true) (sym (k .named)) (h .live)
+
+  pub at-x : x < inputValues (policyOf (l .reading) file)
+  at-x = subst (λ (r : ℕ). x < inputValues (policyOf r file)) (sym (k .named)) (h .x-fits)
+
+  pub at-y : y < outputValues (policyOf (l .reading) file)
+  at-y = subst (λ (r : ℕ). y < outputValues (policyOf r file)) (sym (k .named)) (h .y-fits)
+
+  pub at-told : {q : Reasons} → BothTold (policyOf (l .reading) file) marks (place (l .clocks) s) x y q →
+      Explained (policyOf reading file) marks (placeIn (policyOf reading file) (asPlace s)) x y (q .input) (q .output)
+  at-told {q} t =
+      subst (λ (r : ℕ). Explained (policyOf r file) marks (placeIn (policyOf r file) (asPlace s)) x y (q .input) (q .output)) (k .named)
+      (subst (λ (z : Place). Explained (policyOf (l .reading) file) marks z x y (q .input) (q .output)) (laid-place (k .laid) s) (t .explained))
+
+pub at-counts : {reading : ℕ} {file marks : List ℕ} {l : Layout} (T R : List ℕ) → Granted reading file marks l → CountsFront (policyOf reading file) T R →
+    Counts (policyOf (l .reading) file) (take (l .states) T) (take (l .states) R)
+at-counts {file = file} {l = l} T R k e = rw (k .laid .states, k .named) e
+
+pub at-front : {reading : ℕ} {file marks : List ℕ} {l : Layout} (T R : List ℕ) → Granted reading file marks l →
+    Counts (policyOf (l .reading) file) (take (l .states) T) (take (l .states) R) → CountsFront (policyOf reading file) T R
+at-front {file = file} {l = l} T R k e = rw (k .laid .states, k .named) at e

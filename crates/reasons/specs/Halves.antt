@@ -1,0 +1,81 @@
+-- What is said of each half, with the bound on its number.
+use mathlib.Core.Path.{_≡_}
+use mathlib.Core.Bool.{true, false}
+use mathlib.Core.List.{List}
+use mathlib.Core.Option.{some}
+use Prim.Native.Nat.{ℕ, _<_}
+use native.Mathlib.Omega.{arith}
+use Rattle.streams.specs.Answer.{Answer, refused, gives}
+use Rattle.policy.specs.Rules.{Policy, Place, inputValues, outputValues}
+use Rattle.policy.specs.Number.{numberOf}
+use Rattle.policy.specs.Sound.{WellFormed, Inside}
+use Rattle.enforcer.specs.State.{isMarked}
+use Rattle.enforcer.specs.Tick.{reaches, inputChoice, outputChoice}
+use Rattle.enforcer.specs.Ticks.{input-stands}
+use Rattle.enforcer.specs.Code.{eventXY}
+use Rattle.prepare.specs.Table.{marksOf}
+use Rattle.prepare.specs.Enforces.{Prepared, Ready, input-found}
+use Rattle.reasons.specs.Reasons.{Reason, kept, countOf, Says, SaysIn, Given, forwarded, edited, Explained}
+use Rattle.reasons.specs.Said.{Told, ToldIn}
+use Rattle.reasons.specs.Entry.{Reasons}
+use Rattle.reasons.specs.Edited.{edited-output, edited-input, reaches-prepared, output-there}
+
+-- What an answer gives, or another value.
+abbrev pub valueOr : Answer ℕ → ℕ → ℕ
+valueOr (gives z) other = z
+valueOr (refused n) other = other
+
+pub record GivenIn (p : Policy) (s : Place) (x x' : ℕ) (r : Reason) : Type 0 where
+  pub given : Given (SaysIn p s (outputValues p) x) x x' r
+  pub few : countOf r < 65536
+
+pub record GivenOut (p : Policy) (s : Place) (x y y' : ℕ) (r : Reason) : Type 0 where
+  pub given : Given (Says p s (eventXY x y)) y y' r
+  pub few : countOf r < 65536
+
+pub record BothTold (p : Policy) (marks : List ℕ) (s : Place) (x y : ℕ) (r : Reasons) : Type 0 where
+  pub explained : Explained p marks s x y (r .input) (r .output)
+  pub few-input : countOf (r .input) < 65536
+  pub few-output : countOf (r .output) < 65536
+
+module _ {p : Policy} {s : Place} {x : ℕ} where
+  pub input-kept : {x' : ℕ} → x ≡ x' → GivenIn p s x x' kept
+  input-kept e = record { given = forwarded e; few = omega arith }
+
+  pub input-edited : {x' : ℕ} {r : Reason} → (x ≡ x' → ⊥) → ToldIn p s (outputValues p) x r → GivenIn p s x x' r
+  input-edited n t = record { given = edited n (t .says); few = t .few }
+
+  pub output-kept : {y y' : ℕ} → y ≡ y' → GivenOut p s x y y' kept
+  output-kept e = record { given = forwarded e; few = omega arith }
+
+  pub output-edited : {y y' : ℕ} {r : Reason} → (y ≡ y' → ⊥) → Told p s (eventXY x y) r → GivenOut p s x y y' r
+  output-edited n t = record { given = edited n (t .says); few = t .few }
+
+-- What the halves release, where 17 cannot come.
+module _ (p : Policy) (ok : WellFormed p) (marks : List ℕ) (by : Prepared p marks) (s : Place) (i : Inside p s) (m : isMarked marks (numberOf p s) ≡ true) (x y : ℕ) where
+  ready : Ready p marks s
+  ready = record { inside = i; marked = m }
+
+  pub passed : (z : ℕ) × (inputChoice p marks s x ≡ some z)
+  passed = input-found p ok marks by ready x
+
+  pub passed-in : passed .0 < inputValues p
+  passed-in = input-stands p marks s x (passed .0) (passed .1) .0
+
+  pub released : (z : ℕ) × (outputChoice p marks s (passed .0) y ≡ some z)
+  released = output-there p marks s (passed .0) y (input-stands p marks s x (passed .0) (passed .1) .1)
+
+  pub input-dead : x < inputValues p → (x ≡ passed .0 → ⊥) → (z : ℕ) → z < outputValues p → reaches p (marksOf p) s x z ≡ false
+  input-dead l n z u = reaches-prepared p marks s ok by i x z (edited-input p marks s x l (passed .1) n z u)
+
+  pub output-dead : y < outputValues p → (y ≡ released .0 → ⊥) → reaches p (marksOf p) s (passed .0) y ≡ false
+  output-dead l n = reaches-prepared p marks s ok by i (passed .0) y (edited-output p marks s (passed .0) y l (released .1) n)
+
+  pub both-told : {r : Reasons} → GivenIn p s x (passed .0) (r .input) → GivenOut p s (passed .0) y (released .0) (r .output) → BothTold p marks s x y r
+  both-told g h =
+      record {
+        explained =
+            record { x' = passed .0; y' = released .0; passed = passed .1; released = released .1; for-input = g .given; for-output = h .given };
+        few-input = g .few;
+        few-output = h .few;
+      }

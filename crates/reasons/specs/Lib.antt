@@ -1,0 +1,15 @@
+pub mod Reasons
+pub mod Exact
+pub mod Loops
+pub mod Tables
+pub mod Better
+pub mod Deciding
+pub mod Shown
+pub mod Said
+pub mod Entry
+pub mod Promise
+pub mod Edited
+pub mod Halves
+pub mod Granted
+pub mod Word
+pub mod Cases

@@ -1,0 +1,20 @@
+// Why a half of an event was edited.
+mod counts;
+mod entry;
+mod group;
+mod halves;
+mod marks;
+mod most;
+mod reason;
+mod refusals;
+mod table;
+mod tell;
+mod words;
+
+pub use counts::count;
+pub use entry::Answer;
+pub use entry::why;
+pub use halves::reasons;
+pub use reason::Reason;
+pub use reason::Reasons;
+pub use words::word;

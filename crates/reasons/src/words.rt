@@ -1,0 +1,39 @@
+// An answer as one number, for the C interface.
+use crate::entry::Answer;
+use crate::reason::Reason;
+use crate::reason::Reasons;
+use crate::reason::kind;
+use crate::reason::number;
+ghost use mathlib.Core.Path.{_≡_};
+ghost use Prim.Native.Nat.{_+_, _*_, _<_};
+ghost use Rattle.reasons.specs.Reasons.{kindOf, countOf};
+ghost use Rattle.reasons.specs.Promise.{reasonSaid, answerSaid, Small};
+ghost use Rattle.reasons.specs.Word.{whyWord};
+
+// A reason's number above its kind.
+fn field(reason: Reason) -> u64
+    requires { ⌜ countOf (reasonSaid reason) < 65536 ⌝ }
+    ensures { λ r. ⌜ (r ≡ kindOf (reasonSaid reason) + countOf (reasonSaid reason) * 256) × (r < 16777216) ⌝ }
+{
+    kind(reason) + number(reason) * 256
+}
+
+fn both(reasons: Reasons) -> u64
+    requires { ⌜ Small (answerSaid (Answer.Gives reasons)) ⌝ }
+    ensures { λ r. ⌜ r ≡ whyWord (answerSaid (Answer.Gives reasons)) ⌝ }
+{
+    let input = reasons.input;
+    let output = reasons.output;
+    field(input) * 256 + field(output) * 4294967296
+}
+
+// The refusal, or the two reasons.
+pub fn word(answer: Answer) -> u64
+    requires { ⌜ Small (answerSaid answer) ⌝ }
+    ensures { λ r. ⌜ r ≡ whyWord (answerSaid answer) ⌝ }
+{
+    match answer {
+        Answer::Gives(reasons) => both(reasons),
+        Answer::Refused(n) => n as u64,
+    }
+}

@@ -1,0 +1,85 @@
+-- `telling::reply::tell_all` meets its contract: the layout is the file's, the start may be asked about, and the tables have an entry for each state.
+use mathlib.Core.Path.{sym, subst, _∙_}
+use native.Mathlib.Omega.{arith}
+use lib.Seq.{length-take-le}
+use denote.Ref.{now}
+use borrow.Author.Needs.{needs}
+use Rattle.enforcer.specs.Laid.{laid-well}
+use Rattle.enforcer.specs.States.{Granted, granted-laid}
+use Rattle.telling.specs.Asked.{Asked}
+use Rattle.telling.specs.Prints.{start-marks, start-good, start-asked, start-told}
+use Rattle.telling.proofs.reply.tell_all.Statement.{statement}
+use Rattle.telling.proofs.reply.tell_all.Tie as tie
+
+granted : (c : tie.After-check-under) →
+    let a = c .before .before .before .before .before .before .before .args in Granted 1 (now (a .file)) (now (a .marks)) (c .check-under .result .layout)
+granted c = granted-laid _ (c .check-under .ensures) (c .before .before .before .before .before .before .before .pre .0 .early)
+
+check-under-requires : tie.Need-check-under-requires
+check-under-requires c κs = search needs
+
+start-requires : tie.Need-start-requires
+start-requires c κs = search needs
+
+slice-relend-prefix-tell-counted : tie.Need-slice-relend-prefix-tell-counted
+slice-relend-prefix-tell-counted c =
+    let k = granted (c .before .before) in
+    omega (arith, k .laid .states, laid-well (k .laid) .states, c .before .before .before .before .before .before .before .before .before .pre .1 .0)
+
+slice-aggregate-tell-counted : tie.Need-slice-aggregate-tell-counted
+slice-aggregate-tell-counted c = sym (length-take-le _ _ (slice-relend-prefix-tell-counted (c .before)))
+
+slice-relend-prefix-tell-counted-2 : tie.Need-slice-relend-prefix-tell-counted-2
+slice-relend-prefix-tell-counted-2 c =
+    let k = granted (c .before .before .before) in
+    omega (arith, k .laid .states, laid-well (k .laid) .states, c .before .before .before .before .before .before .before .before .before .before .pre .1 .1)
+
+slice-aggregate-tell-counted-2 : tie.Need-slice-aggregate-tell-counted-2
+slice-aggregate-tell-counted-2 c = sym (length-take-le _ _ (slice-relend-prefix-tell-counted-2 (c .before)))
+
+tell-counted-requires : tie.Need-tell-counted-requires
+tell-counted-requires c κs =
+    let s = c .before .before .before .before .before .before .before .before .before .before .before .before in
+    let k = granted (c .before .before .before .before .before) in
+    let h = s .pre .0 in (
+      (subst (Asked (now (s .args .file)) (c .before .before .before .before .before .check-under .result .layout) (now (s .args .marks))) (sym (c .before .before .before .before .start .ensures)) (start-asked k h), k .laid, start-marks k h),
+      (
+        (
+          length-take-le _ _ (slice-relend-prefix-tell-counted (c .before .before .before)) ∙ k .laid .states,
+          length-take-le _ _ (slice-relend-prefix-tell-counted-2 (c .before .before)) ∙ k .laid .states,
+        ),
+        (s .pre .1 .2, start-good k h, s .pre .1 .3),
+      ),
+    )
+
+same-length : tie.Need-same-length
+same-length c = search needs
+
+same-length-2 : tie.Need-same-length-2
+same-length-2 c = search needs
+
+same-length-3 : tie.Need-same-length-3
+same-length-3 c = search needs
+
+returns : tie.Need-returns
+returns c =
+    let t = c .before .before .before .before .before .before in
+    let s = t .before .before .before .before .before .before .before .before .before .before .before .before .before in
+    let k = granted (t .before .before .before .before .before .before) in
+    start-told k (s .pre .0) (rw (t .before .before .before .before .before .start .ensures) at (t .tell-counted .ensures))
+
+pub tell-all-spec : {M : Type 1} → statement M
+tell-all-spec =
+    tie.close
+    (tie.spec
+    check-under-requires
+    start-requires
+    slice-relend-prefix-tell-counted
+    slice-aggregate-tell-counted
+    slice-relend-prefix-tell-counted-2
+    slice-aggregate-tell-counted-2
+    tell-counted-requires
+    same-length
+    same-length-2
+    same-length-3
+    returns)

@@ -1,0 +1,70 @@
+-- `telling::tell::tell` meets its contract. The invariant: the first i events are told, and the state is the one after them.
+use mathlib.Core.Bool.{and-eq-true-iff}
+use Prim.Native.Nat.{_-_}
+use native.Mathlib.Omega.{arith}
+use lib.ListN.{length}
+use borrow.Author.Needs.{needs}
+use borrow.Author.Tests.{ltb-true}
+use Rattle.policy.specs.Checked.{all-at}
+use Rattle.telling.specs.Told.{Telling, telling-starts, telling-turn, telling-ends}
+use Rattle.telling.proofs.tell.tell.Statement.{statement}
+use Rattle.telling.proofs.tell.tell.Tie as tie
+
+abbrev Inv-loop : tie.InvT-loop
+Inv-loop file layout marks ticks rests events text₀ at state₀ next₀ i₀ text state next i = Telling file layout marks events text₀ at state₀ i text next state
+
+abbrev μ-loop : tie.MeasureT-loop
+μ-loop file layout marks ticks rests events text₀ at state₀ next₀ i₀ text state next i = length events - i
+
+loop-holds : tie.Need-loop-holds Inv-loop μ-loop
+loop-holds c = telling-starts _ _ _ (c .before .before .before .before .before .before .pre .0 .0)
+
+add-tell-tick : tie.Need-add-tell-tick Inv-loop μ-loop
+add-tell-tick c = search needs
+
+shared-slice-read-tell-tick : tie.Need-shared-slice-read-tell-tick Inv-loop μ-loop
+shared-slice-read-tell-tick c = search needs
+
+tell-tick-requires : tie.Need-tell-tick-requires Inv-loop μ-loop
+tell-tick-requires c κs =
+    let s = c .before .before .before .before .before .before .before .before .before .before in
+    let l = c .before .before .before .loop in
+    let i = c .before .before .loop-test .taken in
+    let g = and-eq-true-iff _ _ .0 (all-at _ _ (s .pre .1 .1) (l .i) i) in (
+      (l .inv .asked, s .pre .0 .1),
+      ((ltb-true _ _ (g .0), ltb-true _ _ (g .1)), (omega (arith, i, s .pre .1 .0), omega (arith, i, l .inv .room, l .inv .long, s .pre .1 .2))),
+    )
+
+add-i : tie.Need-add-i Inv-loop μ-loop
+add-i c = search needs
+
+loop-less : tie.Need-loop-less Inv-loop μ-loop
+loop-less c = search needs
+
+loop-again : tie.Need-loop-again Inv-loop μ-loop
+loop-again c =
+    let s = c .before .before .before .before .before .before .before .before .before .before .before .before .before .before in
+    let t = c .before .before .before .tell-tick in
+    telling-turn (c .before .before .before .before .before .before .before .loop .inv) (c .before .before .before .before .before .before .loop-test .taken) (omega (arith, s .pre .1 .2)) (t .kept .1 .1 .1 .1 .1 .1 .1 .1 .0) (t .ensures)
+
+same-length : tie.Need-same-length Inv-loop μ-loop
+same-length c = search needs
+
+returns : tie.Need-returns Inv-loop μ-loop
+returns c = telling-ends (c .before .loop .inv) (c .loop-test .left)
+
+pub tell-spec : {M : Type 1} → statement M
+tell-spec =
+    tie.close
+    (tie.spec
+    Inv-loop
+    μ-loop
+    loop-holds
+    add-tell-tick
+    shared-slice-read-tell-tick
+    tell-tick-requires
+    add-i
+    loop-less
+    loop-again
+    same-length
+    returns)

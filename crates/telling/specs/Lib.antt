@@ -1,0 +1,6 @@
+pub mod Text
+pub mod Named
+pub mod Asked
+pub mod Told
+pub mod Between
+pub mod Prints

@@ -1,0 +1,140 @@
+-- The lines of the reasons, as bytes.
+use mathlib.Core.Path.{_≡_}
+use mathlib.Core.Bool.{Bool, true, false, cond}
+use mathlib.Core.List.{List, [], _++_}
+use Prim.Native.Nat.{ℕ, _+_, _≤_, _<_}
+use native.Mathlib.Omega.{arith}
+use lib.Dec.{eqb}
+use lib.ListN.{length, getD, length-append}
+use borrow.Author.Tests.{eq-eqb, ne-eqb}
+use Rattle.policy.specs.Rules.{Rule, Policy}
+use Rattle.policy.specs.Sound.{WellFormed}
+use Rattle.texts.specs.Decimal.{decimal-short}
+use Rattle.texts.specs.Text.{ascii, decimal}
+use Rattle.asks.specs.Words.{asks}
+use Rattle.asks.specs.Turns.{three-length}
+use Rattle.asks.specs.Short.{asks-short}
+use Rattle.enforcer.specs.Entries.{byteOf}
+use Rattle.enforcer.specs.Tick.{Tick}
+use Rattle.console.specs.Text.{eventLine}
+use Rattle.reasons.specs.Reasons.{Reason, kept, rule, unmatched, ticks, rests, countOf}
+use Rattle.reasons.specs.Entry.{Reasons}
+
+-- Where there is no rule with a number.
+abbrev pub noRule : Rule
+noRule = record { source = 0; inCare = 0; inValue = 0; outCare = 0; outValue = 0; reset = 0; target = 0; bounds = [] }
+
+-- What the rule with a number asks.
+unfoldable pub asksOf : Policy → ℕ → List ℕ
+asksOf p i = asks (p .inputs) (p .outputs) (getD (p .rules) i noRule)
+
+-- "the number (from 0) of the rule that sent it to 255", and what it asks
+unfoldable pub ruleWords : Policy → ℕ → List ℕ
+ruleWords p i = ascii "rule " ++ decimal i ++ ascii " forbids it: " ++ asksOf p i ++ ascii "\n"
+
+-- "that the stream could have gone on for at most k more ticks after it"
+unfoldable pub ticksWords : ℕ → List ℕ
+ticksWords k = ascii "after it at most " ++ decimal k ++ cond (eqb k 1) (ascii " more tick\n") (ascii " more ticks\n")
+
+-- "with at most k later events ending at rest"
+unfoldable pub restsWords : ℕ → List ℕ
+restsWords k =
+    cond (eqb k 0) (ascii "after it never at rest again\n")
+    (ascii "after it at most " ++ decimal k ++ cond (eqb k 1) (ascii " more time at rest\n") (ascii " more times at rest\n"))
+
+-- In an operator's words. "It is .. given exactly for an edited half": a half that is kept has no line.
+abbrev pub reasonLine : Policy → (half : List ℕ) → Reason → List ℕ
+reasonLine p half kept = []
+reasonLine p half (rule i) = half ++ ruleWords p i
+reasonLine p half unmatched = half ++ ascii "no rule allows it\n"
+reasonLine p half (ticks k) = half ++ ticksWords k
+reasonLine p half (rests k) = half ++ restsWords k
+
+unfoldable pub reasonLines : Policy → Reasons → List ℕ
+reasonLines p q = reasonLine p (ascii "input: ") (q .input) ++ reasonLine p (ascii "output: ") (q .output)
+
+-- The line of `enforce` for the tick, then the reasons.
+abbrev pub tickText : Policy → (number event : ℕ) → Tick → Reasons → List ℕ
+tickText p number event t q = eventLine number event (byteOf (t .event)) ++ reasonLines p q
+
+-- ---- How long the words are.
+-- A tick's text at the most: its line, 21 bytes, and for each half its name and 169 bytes.
+abbrev pub tickRoom : ℕ
+tickRoom = 374
+
+-- A rule that is named is one of n.
+abbrev pub Named : ℕ → Reason → Type 0
+Named n kept = Unit {0}
+Named n (rule i) = i < n
+Named n unmatched = Unit {0}
+Named n (ticks k) = Unit {0}
+Named n (rests k) = Unit {0}
+
+module _ (p : Policy) (i : ℕ) where
+  pub rule-length : length (ruleWords p i) ≡ 19 + length (decimal i) + length (asksOf p i)
+  unfolding ruleWords
+  rule-length =
+      omega (
+        arith,
+        length-append (ascii "rule " ++ decimal i ++ ascii " forbids it: " ++ asksOf p i) (ascii "\n"),
+        length-append (ascii "rule " ++ decimal i ++ ascii " forbids it: ") (asksOf p i),
+        three-length (ascii "rule ") (decimal i) (ascii " forbids it: "),
+      )
+
+  rule-short : WellFormed p → i < length (p .rules) → length (ruleWords p i) ≤ 169
+  unfolding asksOf
+  rule-short k l = omega (arith, rule-length, decimal-short i 2 (omega (arith, k .ruleCount)), asks-short p k noRule i l)
+
+module _ (k : ℕ) where
+  pub ticks-one : k ≡ 1 → ticksWords k ≡ ascii "after it at most " ++ decimal k ++ ascii " more tick\n"
+  unfolding ticksWords
+  ticks-one e = rw (eq-eqb k 1 e)
+
+  pub ticks-more : (k ≡ 1 → ⊥) → ticksWords k ≡ ascii "after it at most " ++ decimal k ++ ascii " more ticks\n"
+  unfolding ticksWords
+  ticks-more h = rw (ne-eqb k 1 h)
+
+  pub rests-none : k ≡ 0 → restsWords k ≡ ascii "after it never at rest again\n"
+  unfolding restsWords
+  rests-none e = rw (eq-eqb k 0 e)
+
+  pub rests-one : k ≡ 1 → restsWords k ≡ ascii "after it at most " ++ decimal k ++ ascii " more time at rest\n"
+  unfolding restsWords
+  rests-one e = rw (ne-eqb k 0 (λ z. omega arith), eq-eqb k 1 e)
+
+  pub rests-more : (k ≡ 0 → ⊥) → (k ≡ 1 → ⊥) → restsWords k ≡ ascii "after it at most " ++ decimal k ++ ascii " more times at rest\n"
+  unfolding restsWords
+  rests-more h g = rw (ne-eqb k 0 h, ne-eqb k 1 g)
+
+  counted : k < 65536 → (words after : List ℕ) → length words + length after ≤ 37 → length (words ++ decimal k ++ after) ≤ 42
+  counted l words after m = omega (arith, three-length words (decimal k) after, decimal-short k 4 (omega arith))
+
+  pub ticks-short : k < 65536 → length (ticksWords k) ≤ 42
+  unfolding ticksWords
+  ticks-short l = go (eqb k 1)
+    where
+      go : (t : Bool) → length (ascii "after it at most " ++ decimal k ++ cond t (ascii " more tick\n") (ascii " more ticks\n")) ≤ 42
+      go true = counted l (ascii "after it at most ") (ascii " more tick\n") (omega arith)
+      go false = counted l (ascii "after it at most ") (ascii " more ticks\n") (omega arith)
+
+  pub rests-short : k < 65536 → length (restsWords k) ≤ 42
+  unfolding restsWords
+  rests-short l = go (eqb k 0) (eqb k 1)
+    where
+      go : (s t : Bool) →
+          length
+          (cond s (ascii "after it never at rest again\n")
+          (ascii "after it at most " ++ decimal k ++ cond t (ascii " more time at rest\n") (ascii " more times at rest\n")))
+          ≤ 42
+      go true t = omega arith
+      go false true = counted l (ascii "after it at most ") (ascii " more time at rest\n") (omega arith)
+      go false false = counted l (ascii "after it at most ") (ascii " more times at rest\n") (omega arith)
+
+-- A line has at most 169 bytes after its half.
+pub reason-short : (p : Policy) → WellFormed p → (half : List ℕ) (q : Reason) → Named (length (p .rules)) q → countOf q < 65536 →
+    length (reasonLine p half q) ≤ length half + 169
+reason-short p k half kept n l = omega arith
+reason-short p k half (rule i) n l = omega (arith, length-append half (ruleWords p i), rule-short p i k n)
+reason-short p k half unmatched n l = omega (arith, length-append half (ascii "no rule allows it\n"))
+reason-short p k half (ticks m) n l = omega (arith, length-append half (ticksWords m), ticks-short m l)
+reason-short p k half (rests m) n l = omega (arith, length-append half (restsWords m), rests-short m l)

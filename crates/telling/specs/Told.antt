@@ -1,0 +1,120 @@
+-- What is told of a stream of ticks, and that one text alone tells it.
+use mathlib.Core.Path.{_≡_, refl, sym, subst, _∙_}
+use mathlib.Core.List.{List, [], _∷_, _++_, append-nil, append-assoc}
+use mathlib.Core.Option.{some, Option·some-injective}
+use Prim.Native.Nat.{ℕ, _+_, _*_, _/_, _%_, _≤_, _<_}
+use native.Mathlib.Numerals.{add-one}
+use native.Mathlib.Omega.{arith}
+use lib.ListN.{length, getD, drop, drop-of-length-le}
+use lib.Seq.{drop-cons}
+use Rattle.policy.specs.Rules.{Policy, Place}
+use Rattle.policy.specs.File.{policyOf}
+use Rattle.policy.specs.declared.Layout.{Layout}
+use Rattle.enforcer.specs.Tick.{Tick}
+use Rattle.enforcer.specs.Tick as Spec
+use Rattle.enforcer.specs.Entries.{eventOf}
+use Rattle.enforcer.specs.Code.{place}
+use Rattle.enforcer.specs.declared.state.State.{State}
+use Rattle.console.specs.Text.{eventLine}
+use Rattle.texts.specs.Wrote.{Wrote, wrote-none, wrote-then}
+use Rattle.reasons.specs.Reasons.{Explained, explained-one}
+use Rattle.reasons.specs.Entry.{Reasons}
+use Rattle.telling.specs.Text.{reasonLines, tickText, tickRoom}
+use Rattle.telling.specs.Asked.{Asked, ReleasedBy, released-moves, released-asked}
+
+-- The lines of a stream from the place s, its first tick with the number `from`: of each tick what is released and why, then those of the rest from the place
+-- after it.
+pub data Told (p : Policy) (marks : List ℕ) : (from : ℕ) (s : Place) (events : List ℕ) → List ℕ → Type 0 where
+  nothing : {from : ℕ} {s : Place} → Told p marks from s [] []
+  one : {from e : ℕ} {s : Place} {events rest : List ℕ} {t : Tick} {q : Reasons} →
+      Spec.tick p marks s (eventOf e) ≡ some t → Explained p marks s (e % 16) (e / 16) (q .input) (q .output) →
+      Told p marks (from + 1) (t .place) events rest → Told p marks from s (e ∷ events) (tickText p from e t q ++ rest)
+
+pub told-one : {p : Policy} {marks : List ℕ} {from : ℕ} {s : Place} {events a b : List ℕ} → Told p marks from s events a → Told p marks from s events b → a ≡ b
+told-one nothing nothing = refl
+told-one {p} {marks} {from} {s} (one {e = e} {events = events} {rest = rest} {t = t} {q = q} h g m) (one {t = u} {q = v} k l n) =
+    let a = Option·some-injective t u (sym h ∙ k) in
+    let b = explained-one g l in
+    let c : q ≡ v = λ d. record { input = b .0 d; output = b .1 d } in
+    let r = told-one (subst (λ (z : Tick). Told p marks (from + 1) (z .place) events rest) a m) n in
+    λ d. tickText p from e (a d) (c d) ++ r d
+
+-- What a tick's function leaves: the text of the tick at `at`, and the state after it.
+pub record ToldTick (f : List ℕ) (l : Layout) (marks : List ℕ) (s : State) (number event : ℕ) (before : List ℕ) (at : ℕ) (next : State) (r : ℕ) (after : List ℕ) : Type 0 where
+  pub tick : Tick
+  pub reasons : Reasons
+  pub ticks : Spec.tick (policyOf (l .reading) f) marks (place (l .clocks) s) (eventOf event) ≡ some tick
+  pub explained : Explained (policyOf (l .reading) f) marks (place (l .clocks) s) (event % 16) (event / 16) (reasons .input) (reasons .output)
+  pub moved : place (l .clocks) next ≡ tick .place
+  pub again : Asked f l marks next
+  pub wrote : Wrote before at (tickText (policyOf (l .reading) f) number event tick reasons) r after
+  pub few : r ≤ at + tickRoom
+
+pub told-tick : {f : List ℕ} {l : Layout} {marks : List ℕ} {s next : State} {number event x y at r : ℕ} {q : Reasons} {before after : List ℕ} →
+    Asked f l marks s → (k : ReleasedBy f l marks s (event % 16) (event / 16) x y next) →
+    Explained (policyOf (l .reading) f) marks (place (l .clocks) s) (event % 16) (event / 16) (q .input) (q .output) →
+    Wrote before at (eventLine number event (x + y * 16) ++ reasonLines (policyOf (l .reading) f) q) r after → r ≤ at + tickRoom → ToldTick f l marks s number event before at next r after
+told-tick {number = number} {event = event} {at = at} {r = r} {q = q} {before = before} {after = after} h k g w n =
+    record {
+      tick = k .tick;
+      reasons = q;
+      ticks = k .ticks;
+      explained = g;
+      moved = released-moves h k;
+      again = released-asked h k;
+      wrote = rw (k .is-x, k .is-y) at w;
+      few = n;
+    }
+
+-- The text of all events stands at `at`.
+pub record ToldFrom (p : Policy) (marks : List ℕ) (s : Place) (events before : List ℕ) (at r : ℕ) (after : List ℕ) : Type 0 where
+  pub bytes : List ℕ
+  pub told : Told p marks 1 s events bytes
+  pub wrote : Wrote before at bytes r after
+
+-- The first i events are told, and the state is the one after them: what is told of the rest completes it.
+pub record Telling (f : List ℕ) (l : Layout) (marks events before : List ℕ) (at : ℕ) (s₀ : State) (i : ℕ) (text : List ℕ) (next : ℕ) (s : State) : Type 0 where
+  pub most : i ≤ length events
+  pub long : length text ≡ length before
+  pub room : next ≤ at + tickRoom * i
+  pub asked : Asked f l marks s
+  pub written : List ℕ
+  pub wrote : Wrote before at written next text
+  pub rest : (bytes : List ℕ) → Told (policyOf (l .reading) f) marks (i + 1) (place (l .clocks) s) (drop i events) bytes →
+      Told (policyOf (l .reading) f) marks 1 (place (l .clocks) s₀) events (written ++ bytes)
+
+pub telling-starts : {f : List ℕ} {l : Layout} {marks : List ℕ} (events before : List ℕ) (at : ℕ) {s : State} → Asked f l marks s → Telling f l marks events before at s 0 before at s
+telling-starts events before at k =
+    record { most = omega arith; long = refl; room = omega arith; asked = k; written = []; wrote = wrote-none before at; rest = λ bytes t. t }
+
+module _ {f : List ℕ} {l : Layout} {marks events before : List ℕ} {at : ℕ} {s₀ : State} {i : ℕ} {text : List ℕ} {next : ℕ} {s : State}
+    (g : Telling f l marks events before at s₀ i text next s) where
+  pub telling-ends : length events ≤ i → ToldFrom (policyOf (l .reading) f) marks (place (l .clocks) s₀) events before at next text
+  telling-ends h =
+      record {
+        bytes = g .written ++ [];
+        told = g .rest [] (subst (λ (es : List ℕ). Told (policyOf (l .reading) f) marks (i + 1) (place (l .clocks) s) es []) (sym (drop-of-length-le events h)) nothing);
+        wrote = rw append-nil (g .wrote);
+      }
+
+  pub telling-turn : {s' : State} {r : ℕ} {after : List ℕ} → i < length events → at ≤ length before → length after ≡ length text →
+      ToldTick f l marks s (i + 1) (getD events i 0) text next s' r after → Telling f l marks events before at s₀ (i + 1) after r s'
+  telling-turn {s'} {r} {after} h b n t =
+      record {
+        most = omega arith;
+        long = n ∙ g .long;
+        room = omega (arith, g .room, t .few);
+        asked = t .again;
+        written = g .written ++ tickText (policyOf (l .reading) f) (i + 1) (getD events i 0) (t .tick) (t .reasons);
+        wrote = wrote-then b (g .wrote) (t .wrote);
+        rest = more;
+      }
+    where
+      more : (bytes : List ℕ) → Told (policyOf (l .reading) f) marks (i + 1 + 1) (place (l .clocks) s') (drop (i + 1) events) bytes →
+          Told (policyOf (l .reading) f) marks 1 (place (l .clocks) s₀) events ((g .written ++ tickText (policyOf (l .reading) f) (i + 1) (getD events i 0) (t .tick) (t .reasons)) ++ bytes)
+      more bytes u =
+          let P = policyOf (l .reading) f in
+          let e : drop i events ≡ getD events i 0 ∷ drop (i + 1) events = rw add-one (drop-cons events i 0 h) in
+          let v = one {q = t .reasons} (t .ticks) (t .explained) (subst (λ (z : Place). Told P marks (i + 1 + 1) z (drop (i + 1) events) bytes) (t .moved) u) in
+          rw (append-assoc (g .written) (tickText (policyOf (l .reading) f) (i + 1) (getD events i 0) (t .tick) (t .reasons)) bytes)
+          (g .rest _ (subst (λ (es : List ℕ). Told P marks (i + 1) (place (l .clocks) s) es (tickText (policyOf (l .reading) f) (i + 1) (getD events i 0) (t .tick) (t .reasons) ++ bytes)) (sym e) v))

@@ -1,0 +1,115 @@
+// The line of a reason.
+use crate::asked::put_asked;
+use policy::Layout;
+use reasons::Reason;
+use reasons::Reasons;
+use texts::put_about;
+use texts::put_bytes;
+ghost use mathlib.Core.List.{_++_};
+ghost use Prim.Native.Nat.{_+_, _≤_, _<_};
+ghost use lib.ListN.{length};
+ghost use Rattle.policy.specs.File.{ruleCount, policyOf};
+ghost use Rattle.texts.specs.Wrote.{Wrote};
+ghost use Rattle.enforcer.specs.Ready.{Laid};
+ghost use Rattle.reasons.specs.Reasons.{countOf};
+ghost use Rattle.reasons.specs.Promise.{reasonSaid, bothSaid};
+ghost use Rattle.telling.specs.Text.{ruleWords, ticksWords, restsWords, Named, reasonLine, reasonLines};
+
+// A half and words.
+fn put_plain(text: &mut [u8], at: usize, half: &[u8], words: &[u8]) -> usize
+    requires { ⌜ at + length (now half) + length (now words) ≤ length (now text) ⌝ }
+    ensures { λ r. ⌜ Wrote (now (text .entry)) at (now (half .entry) ++ now (words .entry)) r (now (text .exit)) ⌝ }
+{
+    let half_end = put_bytes(text, at, half);
+    put_bytes(text, half_end, words)
+}
+
+// The rule, by its number and what it asks.
+fn put_rule(text: &mut [u8], at: usize, half: &[u8], file: &[u8], layout: Layout, i: usize) -> usize
+    requires { ⌜ Laid (now file) layout × (i < ruleCount (now file)) ⌝ }
+    requires { ⌜ at + length (now half) + length (ruleWords (policyOf (layout .reading) (now file)) i) ≤ length (now text) ⌝ }
+    ensures { λ r. ⌜ Wrote (now (text .entry)) at (now (half .entry) ++ ruleWords (policyOf (layout .reading) (now (file .entry))) i) r (now (text .exit)) ⌝ }
+{
+    let half_end = put_bytes(text, at, half);
+    let words = put_about(text, half_end, b"rule ", i, b" forbids it: ");
+    let end = put_asked(text, words, file, layout, i);
+    put_bytes(text, end, b"\n")
+}
+
+fn put_ticks(text: &mut [u8], at: usize, half: &[u8], k: usize) -> usize
+    requires { ⌜ at + length (now half) + length (ticksWords k) ≤ length (now text) ⌝ }
+    ensures { λ r. ⌜ Wrote (now (text .entry)) at (now (half .entry) ++ ticksWords k) r (now (text .exit)) ⌝ }
+{
+    let half_end = put_bytes(text, at, half);
+    if k == 1 {
+        return put_about(text, half_end, b"after it at most ", k, b" more tick\n");
+    }
+    put_about(text, half_end, b"after it at most ", k, b" more ticks\n")
+}
+
+fn put_rests(text: &mut [u8], at: usize, half: &[u8], k: usize) -> usize
+    requires { ⌜ at + length (now half) + length (restsWords k) ≤ length (now text) ⌝ }
+    ensures { λ r. ⌜ Wrote (now (text .entry)) at (now (half .entry) ++ restsWords k) r (now (text .exit)) ⌝ }
+{
+    let half_end = put_bytes(text, at, half);
+    if k == 0 {
+        return put_bytes(text, half_end, b"after it never at rest again\n");
+    }
+    if k == 1 {
+        return put_about(
+            text,
+            half_end,
+            b"after it at most ",
+            k,
+            b" more time at rest\n",
+        );
+    }
+    put_about(
+        text,
+        half_end,
+        b"after it at most ",
+        k,
+        b" more times at rest\n",
+    )
+}
+
+// The line of one half, at most 169 bytes after its name: none if it is kept.
+fn put_reason(
+    text: &mut [u8],
+    at: usize,
+    half: &[u8],
+    file: &[u8],
+    layout: Layout,
+    reason: Reason,
+) -> usize
+    requires { ⌜ Laid (now file) layout × Named (ruleCount (now file)) (reasonSaid reason) × (countOf (reasonSaid reason) < 65536) ⌝ }
+    requires { ⌜ at + length (now half) + 169 ≤ length (now text) ⌝ }
+    ensures { λ r. ⌜ Wrote (now (text .entry)) at (reasonLine (policyOf (layout .reading) (now (file .entry))) (now (half .entry)) (reasonSaid reason)) r (now (text .exit)) ⌝ }
+{
+    match reason {
+        Reason::Kept => at,
+        Reason::Rule(i) => put_rule(text, at, half, file, layout, i),
+        Reason::Unmatched => put_plain(text, at, half, b"no rule allows it\n"),
+        Reason::Ticks(k) => put_ticks(text, at, half, k),
+        Reason::Rests(k) => put_rests(text, at, half, k),
+    }
+}
+
+// The lines of both halves, at most 353 bytes.
+pub(crate) fn put_reasons(
+    text: &mut [u8],
+    at: usize,
+    file: &[u8],
+    layout: Layout,
+    told: Reasons,
+) -> usize
+    requires { ⌜ Laid (now file) layout × (at + 353 ≤ length (now text)) ⌝ }
+    requires { ⌜ Named (ruleCount (now file)) (reasonSaid (told .input)) × (countOf (reasonSaid (told .input)) < 65536) ⌝ }
+    requires { ⌜ Named (ruleCount (now file)) (reasonSaid (told .output)) × (countOf (reasonSaid (told .output)) < 65536) ⌝ }
+    ensures { λ r. ⌜ Wrote (now (text .entry)) at (reasonLines (policyOf (layout .reading) (now (file .entry))) (bothSaid told)) r (now (text .exit)) × (r ≤ at + 353) ⌝ }
+{
+    let input = told.input;
+    let output = told.output;
+    let next = put_reason(text, at, b"input: ", file, layout, input);
+    put_reason(text, next, b"output: ", file, layout, output)
+}

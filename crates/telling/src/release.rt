@@ -1,0 +1,55 @@
+// What a tick releases, by its two halves.
+use enforcer::Answer;
+use enforcer::State;
+use enforcer::input_by;
+use enforcer::output_by;
+use enforcer::own_of;
+use policy::Layout;
+ghost use mathlib.Core.Path.{_≡_};
+ghost use Prim.Native.Nat.{_<_};
+ghost use Rattle.policy.specs.Rules.{inputValues, outputValues};
+ghost use Rattle.policy.specs.File.{policyOf};
+ghost use Rattle.enforcer.specs.Promises.{answerSaid};
+ghost use Rattle.reasons.specs.Halves.{valueOr};
+ghost use Rattle.telling.specs.Asked.{Asked, ReleasedBy};
+
+// The halves that are released, and the state after them.
+pub struct Released {
+    pub x: u8,
+    pub y: u8,
+    pub state: State,
+}
+
+// The value of an answer, or another one.
+fn value_or(answer: Answer, other: u8) -> u8
+    ensures { λ r. ⌜ r ≡ valueOr (answerSaid answer) other ⌝ }
+{
+    match answer {
+        Answer::Value(z) => z,
+        Answer::Refused(_) => other,
+    }
+}
+
+// From a live state neither half refuses.
+pub(crate) fn release(
+    file: &[u8],
+    layout: Layout,
+    marks: &[u8],
+    state: State,
+    x: u8,
+    y: u8,
+) -> Released
+    requires { ⌜ Asked (now file) layout (now marks) state × (x < inputValues (policyOf (layout .reading) (now file))) × (y < outputValues (policyOf (layout .reading) (now file))) ⌝ }
+    ensures { λ r. ⌜ ReleasedBy (now (file .entry)) layout (now (marks .entry)) state x y (r .x) (r .y) (r .state) ⌝ }
+{
+    let own = own_of(file, layout, state);
+    let passed = value_or(input_by(file, layout, own, marks, state, x), x);
+    let output = output_by(file, layout, own, marks, state, passed, y);
+    let answer = output.answer;
+    let next = output.state;
+    Released {
+        x: passed,
+        y: value_or(answer, y),
+        state: next,
+    }
+}

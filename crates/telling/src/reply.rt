@@ -1,0 +1,173 @@
+// The whole reply to an input.
+use crate::tell::tell;
+use console::events_frame;
+use console::policy_frame;
+use console::put_refused;
+use console::put_verdict;
+use enforcer::State;
+use enforcer::run;
+use fast::prepare;
+use policy::Layout;
+use prepare::Prepared;
+use prepare::Summary;
+use reasons::count;
+ghost use mathlib.Core.Path.{_≡_};
+ghost use mathlib.Core.Bool.{true};
+ghost use Prim.Native.Nat.{_+_, _*_, _≤_};
+ghost use lib.ListN.{length};
+ghost use Rattle.streams.specs.Answer.{gives};
+ghost use Rattle.policy.specs.Rules.{start};
+ghost use Rattle.policy.specs.File.{policyOf};
+ghost use Rattle.policy.specs.Number.{states};
+ghost use Rattle.policy.specs.Check.{all};
+ghost use Rattle.enforcer.specs.Code.{place};
+ghost use Rattle.enforcer.specs.Entries.{eventGood};
+ghost use Rattle.enforcer.specs.Ready.{Laid};
+ghost use Rattle.prepare.specs.Table.{marksOf};
+ghost use Rattle.prepare.specs.Promise.{summarySaid};
+ghost use Rattle.console.specs.Reply.{Prepares};
+ghost use Rattle.telling.specs.Text.{tickRoom};
+ghost use Rattle.telling.specs.Asked.{Asked};
+ghost use Rattle.telling.specs.Told.{ToldFrom};
+ghost use Rattle.telling.specs.Prints.{ToldText, Prints, Writes, Startable};
+
+// The text at the most: a verdict, 66 bytes, and for each event three lines, 374 bytes.
+pub const TEXT: usize = 66 + 374 * 16384;
+
+// The reading that the program uses.
+const READING: u8 = 1;
+
+// The counts are made once, and the ticks are told from a state.
+fn tell_counted(
+    file: &[u8],
+    layout: Layout,
+    marks: &[u8],
+    ticks: &mut [u32],
+    rests: &mut [u32],
+    state: State,
+    events: &[u8],
+    text: &mut [u8],
+    at: usize,
+) -> usize
+    requires { ⌜ Asked (now file) layout (now marks) state × Laid (now file) layout × (now marks ≡ marksOf (policyOf (layout .reading) (now file))) ⌝ }
+    requires { ⌜ (length (now ticks) ≡ states (policyOf (layout .reading) (now file))) × (length (now rests) ≡ states (policyOf (layout .reading) (now file))) ⌝ }
+    requires { ⌜ (length (now events) ≤ 16384) × (all (eventGood (layout .reading) (now file)) (now events) ≡ true) × (at + tickRoom * length (now events) ≤ length (now text)) ⌝ }
+    ensures { λ r. ⌜ ToldFrom (policyOf (layout .reading) (now (file .entry))) (now (marks .entry)) (place (layout .clocks) state) (now (events .entry)) (now (text .entry)) at r (now (text .exit)) ⌝ }
+{
+    count(file, layout, marks, ticks, rests);
+    tell(file, layout, marks, ticks, rests, state, events, text, at)
+}
+
+// Nothing is refused: the ticks are told from the start.
+fn tell_all(
+    file: &[u8],
+    marks: &[u8],
+    ticks: &mut [u32],
+    rests: &mut [u32],
+    events: &[u8],
+    text: &mut [u8],
+    at: usize,
+) -> usize
+    requires { ⌜ Startable (now file) (now marks) (now events) ⌝ }
+    requires { ⌜ (length (now ticks) ≡ 65536) × (length (now rests) ≡ 65536) × (length (now events) ≤ 16384) × (at + tickRoom * length (now events) ≤ length (now text)) ⌝ }
+    ensures { λ r. ⌜ ToldFrom (policyOf 1 (now (file .entry))) (now (marks .entry)) (start (policyOf 1 (now (file .entry)))) (now (events .entry)) (now (text .entry)) at r (now (text .exit)) ⌝ }
+{
+    let checked = policy::check_under(READING, file);
+    let first = State::start();
+    let layout = checked.layout;
+    let states = layout.states;
+    tell_counted(
+        file,
+        layout,
+        marks,
+        &mut ticks[..states],
+        &mut rests[..states],
+        first,
+        events,
+        text,
+        at,
+    )
+}
+
+// The policy is prepared: the events are checked and told.
+fn reply_events(
+    input: &[u8],
+    file: &[u8],
+    marks: &[u8],
+    summary: Summary,
+    released: &mut [u8],
+    ticks: &mut [u32],
+    rests: &mut [u32],
+    text: &mut [u8],
+) -> usize
+    requires { ⌜ Prepares (now input) (now file) (now marks) ⌝ }
+    requires { ⌜ (length (now released) ≡ 16384) × (length (now ticks) ≡ 65536) × (length (now rests) ≡ 65536) × (length (now text) ≡ 66 + tickRoom * 16384) ⌝ }
+    ensures { λ r. ⌜ Writes (ToldText (now (input .entry)) (gives (summarySaid summary))) (now (text .entry)) r (now (text .exit)) ⌝ }
+{
+    let frame = events_frame(input);
+    if frame.refusal != 0 {
+        return put_refused(text, 0, frame.refusal);
+    }
+    let start = frame.start;
+    let end = frame.end;
+    let events = &input[start..end];
+    let ran = run(READING, file, marks, State::start(), events, released);
+    if ran.refusal != 0 {
+        return put_refused(text, 0, ran.refusal);
+    }
+    let next = put_verdict(text, 0, summary.verdict, summary.states, summary.live);
+    tell_all(file, marks, ticks, rests, events, text, next)
+}
+
+// The policy is checked and prepared, then come the events.
+fn reply(
+    input: &[u8],
+    marks: &mut [u8],
+    released: &mut [u8],
+    ticks: &mut [u32],
+    rests: &mut [u32],
+    text: &mut [u8],
+) -> usize
+    requires { ⌜ (length (now marks) ≡ 65536) × (length (now released) ≡ 16384) × (length (now ticks) ≡ 65536) × (length (now rests) ≡ 65536) × (length (now text) ≡ 66 + tickRoom * 16384) ⌝ }
+    ensures { λ r. ⌜ Writes (Prints (now (input .entry))) (now (text .entry)) r (now (text .exit)) ⌝ }
+{
+    let frame = policy_frame(input);
+    if frame.refusal != 0 {
+        return put_refused(text, 0, frame.refusal);
+    }
+    let start = frame.start;
+    let end = frame.end;
+    let file = &input[start..end];
+    let prepared = prepare(READING, file, marks);
+    match prepared {
+        Prepared::Refused(n) => put_refused(text, 0, n),
+        Prepared::Gives(summary) => {
+            let states = summary.states;
+            reply_events(
+                input,
+                file,
+                &marks[..states],
+                summary,
+                released,
+                ticks,
+                rests,
+                text,
+            )
+        }
+    }
+}
+
+// Writes what `why` prints for the input, and returns its length. All slices but the text are the program's scratch: what they hold, before and afterwards, is
+// nobody's concern.
+pub fn respond(
+    input: &[u8],
+    marks: &mut [u8; State::STATES],
+    released: &mut [u8; 16384],
+    ticks: &mut [u32; State::STATES],
+    rests: &mut [u32; State::STATES],
+    text: &mut [u8; TEXT],
+) -> usize
+    ensures { λ r. ⌜ Writes (Prints (now (input .entry))) (now (text .entry)) r (now (text .exit)) ⌝ }
+{
+    reply(input, marks, released, ticks, rests, text)
+}

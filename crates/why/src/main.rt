@@ -1,0 +1,23 @@
+// Reads a policy and events from standard input, and prints what the enforcer releases for them, with a reason after each edited half.
+use libc::STDIN_FILENO;
+use libc::STDOUT_FILENO;
+
+fn main() {
+    // The longest input is 2 + 5,974 + 2 + 16,384 bytes: one more tells that bytes are left over.
+    let mut input = [0u8; 22363];
+    let read = io::read_full(STDIN_FILENO, &mut input);
+    let mut marks = [0u8; 65536];
+    let mut released = [0u8; 16384];
+    let mut ticks = [0u32; 65536];
+    let mut rests = [0u32; 65536];
+    let mut text = [0u8; telling::TEXT];
+    let written = telling::respond(
+        &input[..read],
+        &mut marks,
+        &mut released,
+        &mut ticks,
+        &mut rests,
+        &mut text,
+    );
+    io::write_all(STDOUT_FILENO, &text[..written]);
+}
