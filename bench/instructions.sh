@@ -122,10 +122,10 @@ done
 # within it is the verdict's.
 search=prepare::reach::search
 if [[ ${sides[-1]} == library ]]; then
-    nm target/release/bench | grep -q " $search\$" || {
+    if ! nm target/release/bench | grep " $search\$" >/dev/null; then
         echo "no function $search: the verdict cannot be counted apart" >&2
         exit 1
-    }
+    fi
     echo "instructions a call of prepare, without its verdict and with it"
     printf '%-44s %12s %12s %8s\n' policy without with ratio
     for policy in "${policies[@]}"; do

@@ -55,11 +55,17 @@ mod subject;
 mod ticks;
 #[path = "../../independent/src/waves.rs"]
 mod waves;
+#[path = "../../independent/src/why.rs"]
+mod why;
 
+use basis::Basis;
+// One type for both sides.
+use bench::basis;
 use bench::engine::{Engine as _, Plain};
 use call::Work;
 use compare::Tally;
 use engine::{Engine, Model};
+use meter::Lent;
 use std::process::ExitCode;
 
 const USAGE: &str = "usage: agree GROUPS SEED";
@@ -97,150 +103,40 @@ fn number(word: &str) -> Result<u64, String> {
 /// The plain program where the model expects a library.
 struct PlainSide;
 
+/// Hands a question on.
+macro_rules! asks {
+    ($($side:ident.$function:ident($($given:ident: $kind:ty),*);)+) => {
+        $(fn $function(&mut self, $($given: $kind),*) -> u64 {
+            $side.$function($($given),*)
+        })+
+    };
+}
+
 impl Engine for PlainSide {
-    fn prepare(&mut self, reading: u8, file: &[u8], marks: &mut [u8]) -> u64 {
-        Plain.prepare(reading, file, marks)
-    }
-
-    fn input(&mut self, reading: u8, file: &[u8], marks: &[u8], state: &[u16], x: u8) -> u64 {
-        Plain.input(reading, file, marks, state, x)
-    }
-
-    fn output(
-        &mut self,
-        reading: u8,
-        file: &[u8],
-        marks: &[u8],
-        state: &mut [u16],
-        x: u8,
-        y: u8,
-    ) -> u64 {
-        Plain.output(reading, file, marks, state, x, y)
-    }
-
-    fn run(
-        &mut self,
-        reading: u8,
-        file: &[u8],
-        marks: &[u8],
-        state: &mut [u16],
-        events: &[u8],
-        released: &mut [u8],
-    ) -> u64 {
-        Plain.run(reading, file, marks, state, events, released)
-    }
-
-    fn join(&mut self, a: &[u8], b: &[u8], out: &mut [u8]) -> u64 {
-        Plain.join(a, b, out)
-    }
-
-    fn wave_write(&mut self, file: &[u8], events: &[u8], text: &mut [u8]) -> u64 {
-        Plain.wave_write(file, events, text)
-    }
-
-    fn wave_read(&mut self, file: &[u8], text: &[u8], events: &mut [u8]) -> u64 {
-        Plain.wave_read(file, text, events)
+    asks! {
+        Plain.prepare(reading: u8, file: &[u8], marks: &mut [u8]);
+        Plain.input(basis: Basis, state: &[u16], x: u8);
+        Plain.output(basis: Basis, state: &mut [u16], x: u8, y: u8);
+        Plain.run(basis: Basis, state: &mut [u16], events: &[u8], released: &mut [u8]);
+        Plain.join(a: &[u8], b: &[u8], out: &mut [u8]);
+        Plain.wave_write(file: &[u8], events: &[u8], text: &mut [u8]);
+        Plain.wave_read(file: &[u8], text: &[u8], events: &mut [u8]);
     }
 
     // What follows is not measured, so the plain program has none of it.
-
-    fn ticks(&mut self, milliseconds: u32, tick_length: u32, up: u8) -> u64 {
-        Model.ticks(milliseconds, tick_length, up)
-    }
-
-    fn index(&mut self, file: &[u8], index: &mut [u16]) -> u64 {
-        Model.index(file, index)
-    }
-
-    fn input_indexed(
-        &mut self,
-        reading: u8,
-        file: &[u8],
-        index: &[u16],
-        marks: &[u8],
-        state: &[u16],
-        x: u8,
-    ) -> u64 {
-        Model.input_indexed(reading, file, index, marks, state, x)
-    }
-
-    fn output_indexed(
-        &mut self,
-        reading: u8,
-        file: &[u8],
-        index: &[u16],
-        marks: &[u8],
-        state: &mut [u16],
-        x: u8,
-        y: u8,
-    ) -> u64 {
-        Model.output_indexed(reading, file, index, marks, state, x, y)
-    }
-
-    fn bays_new(&mut self, states: &mut [u16]) -> u64 {
-        Model.bays_new(states)
-    }
-
-    fn bay_input(
-        &mut self,
-        reading: u8,
-        file: &[u8],
-        marks: &[u8],
-        states: &[u16],
-        bay: u32,
-        x: u8,
-    ) -> u64 {
-        Model.bay_input(reading, file, marks, states, bay, x)
-    }
-
-    fn bay_output(
-        &mut self,
-        reading: u8,
-        file: &[u8],
-        marks: &[u8],
-        states: &mut [u16],
-        bay: u32,
-        x: u8,
-        y: u8,
-    ) -> u64 {
-        Model.bay_output(reading, file, marks, states, bay, x, y)
-    }
-
-    fn meter_new(&mut self, station: &mut [u16], totals: &mut [u32], register: u16) -> u64 {
-        Model.meter_new(station, totals, register)
-    }
-
-    fn meter_input(
-        &mut self,
-        reading: u8,
-        file: &[u8],
-        marks: &[u8],
-        station: &[u16],
-        register: u16,
-        x: u8,
-    ) -> u64 {
-        Model.meter_input(reading, file, marks, station, register, x)
-    }
-
-    fn meter_output(
-        &mut self,
-        reading: u8,
-        file: &[u8],
-        marks: &[u8],
-        station: &mut [u16],
-        totals: &mut [u32],
-        register: u16,
-        x: u8,
-        y: u8,
-    ) -> u64 {
-        Model.meter_output(reading, file, marks, station, totals, register, x, y)
-    }
-
-    fn prepare_fast(&mut self, reading: u8, file: &[u8], marks: &mut [u8], work: &mut Work) -> u64 {
-        Model.prepare_fast(reading, file, marks, work)
-    }
-
-    fn clean(&mut self, reading: u8, file: &[u8], cleaned: &mut [u8], struck: &mut [u8]) -> u64 {
-        Model.clean(reading, file, cleaned, struck)
+    asks! {
+        Model.ticks(milliseconds: u32, tick_length: u32, up: u8);
+        Model.index(file: &[u8], index: &mut [u16]);
+        Model.input_indexed(basis: Basis, index: &[u16], state: &[u16], x: u8);
+        Model.output_indexed(basis: Basis, index: &[u16], state: &mut [u16], x: u8, y: u8);
+        Model.bays_new(states: &mut [u16]);
+        Model.bay_input(basis: Basis, states: &[u16], bay: u32, x: u8);
+        Model.bay_output(basis: Basis, states: &mut [u16], bay: u32, x: u8, y: u8);
+        Model.meter_new(station: &mut [u16], totals: &mut [u32], register: u16);
+        Model.meter_input(basis: Basis, station: &[u16], register: u16, x: u8);
+        Model.meter_output(basis: Basis, lent: Lent, register: u16, x: u8, y: u8);
+        Model.prepare_fast(reading: u8, file: &[u8], marks: &mut [u8], work: &mut Work);
+        Model.clean(reading: u8, file: &[u8], cleaned: &mut [u8], struck: &mut [u8]);
+        Model.why(basis: Basis, state: &[u16], x: u8, y: u8);
     }
 }

@@ -3,9 +3,7 @@
 use crate::file::Policy;
 use crate::policies;
 use crate::streams::{Edits, Stream, Wave, STREAMS, WAVES};
-use crate::work::{
-    InputWork, JoinWork, OutputWork, PrepareWork, WaveReadWork, WaveWriteWork, Work,
-};
+use crate::work::{HalfWork, JoinWork, PrepareWork, WaveReadWork, WaveWriteWork, Work};
 
 /// Long enough that the one check of the file is a small part of a run, and
 /// that no branch predictor learns the stream.
@@ -85,12 +83,12 @@ fn run(stream: &Stream) -> Case {
 
 fn input(stream: &Stream) -> Case {
     let (ready, events) = stream.ready(MOMENTS);
-    case("input half", stream.name, InputWork::new(ready, &events))
+    case("input half", stream.name, HalfWork::input(ready, &events))
 }
 
 fn output(stream: &Stream) -> Case {
     let (ready, events) = stream.ready(MOMENTS);
-    case("output half", stream.name, OutputWork::new(ready, &events))
+    case("output half", stream.name, HalfWork::output(ready, &events))
 }
 
 fn prepare(preparation: &Preparation) -> Case {
@@ -121,6 +119,7 @@ fn case(function: &str, what: &str, work: impl Work + 'static) -> Case {
 #[cfg(test)]
 mod tests {
     use super::*;
+    use crate::basis::Basis;
     use crate::engine::{refusal_in, Engine, Plain};
     use crate::work::outcome_of;
 
@@ -132,15 +131,15 @@ mod tests {
             0
         }
 
-        fn input(&self, _: u8, _: &[u8], _: &[u8], _: &[u16], _: u8) -> u64 {
+        fn input(&self, _: Basis, _: &[u16], _: u8) -> u64 {
             0
         }
 
-        fn output(&self, _: u8, _: &[u8], _: &[u8], _: &mut [u16], _: u8, _: u8) -> u64 {
+        fn output(&self, _: Basis, _: &mut [u16], _: u8, _: u8) -> u64 {
             0
         }
 
-        fn run(&self, _: u8, _: &[u8], _: &[u8], _: &mut [u16], _: &[u8], _: &mut [u8]) -> u64 {
+        fn run(&self, _: Basis, _: &mut [u16], _: &[u8], _: &mut [u8]) -> u64 {
             0
         }
 

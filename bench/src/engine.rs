@@ -1,5 +1,6 @@
 //! What is measured: the functions of the library, with its packed answers.
 
+use crate::basis::Basis;
 use crate::plain;
 
 /// The location, then four clocks.
@@ -14,29 +15,13 @@ pub trait Engine {
     fn prepare(&self, reading: u8, file: &[u8], marks: &mut [u8]) -> u64;
 
     /// refusal | x' << 8
-    fn input(&self, reading: u8, file: &[u8], marks: &[u8], state: &[u16], x: u8) -> u64;
+    fn input(&self, basis: Basis, state: &[u16], x: u8) -> u64;
 
     /// refusal | y' << 8
-    fn output(
-        &self,
-        reading: u8,
-        file: &[u8],
-        marks: &[u8],
-        state: &mut [u16],
-        x: u8,
-        y: u8,
-    ) -> u64;
+    fn output(&self, basis: Basis, state: &mut [u16], x: u8, y: u8) -> u64;
 
     /// refusal | events released << 8
-    fn run(
-        &self,
-        reading: u8,
-        file: &[u8],
-        marks: &[u8],
-        state: &mut [u16],
-        events: &[u8],
-        released: &mut [u8],
-    ) -> u64;
+    fn run(&self, basis: Basis, state: &mut [u16], events: &[u8], released: &mut [u8]) -> u64;
 
     /// refusal | length << 8
     fn join(&self, a: &[u8], b: &[u8], out: &mut [u8]) -> u64;
@@ -72,31 +57,18 @@ impl Engine for Plain {
         }
     }
 
-    fn input(&self, reading: u8, file: &[u8], marks: &[u8], state: &[u16], x: u8) -> u64 {
+    fn input(&self, basis: Basis, state: &[u16], x: u8) -> u64 {
+        let (reading, file, marks) = basis.parts();
         packed(plain::input(reading, file, marks, state, x))
     }
 
-    fn output(
-        &self,
-        reading: u8,
-        file: &[u8],
-        marks: &[u8],
-        state: &mut [u16],
-        x: u8,
-        y: u8,
-    ) -> u64 {
+    fn output(&self, basis: Basis, state: &mut [u16], x: u8, y: u8) -> u64 {
+        let (reading, file, marks) = basis.parts();
         packed(plain::output(reading, file, marks, state, x, y))
     }
 
-    fn run(
-        &self,
-        reading: u8,
-        file: &[u8],
-        marks: &[u8],
-        state: &mut [u16],
-        events: &[u8],
-        released: &mut [u8],
-    ) -> u64 {
+    fn run(&self, basis: Basis, state: &mut [u16], events: &[u8], released: &mut [u8]) -> u64 {
+        let (reading, file, marks) = basis.parts();
         let end = plain::run(reading, file, marks, state, events, released);
         let refusal = end.refusal.map_or(0, plain::Refusal::number);
         u64::from(refusal) | (end.released as u64) << 8

@@ -6,7 +6,7 @@ use crate::engine::{found_in, refusal_in, Engine};
 use crate::policies;
 use crate::ready::Ready;
 use crate::streams::{Stream, Wave};
-use crate::work::{InputWork, OutputWork, WaveReadWork, WaveWriteWork, Work};
+use crate::work::{HalfWork, WaveReadWork, WaveWriteWork, Work};
 
 /// This many events are always made, however many are run, so that all that
 /// is done before the first tick is the same for every number of ticks.
@@ -30,14 +30,14 @@ pub const MOST_CALLS: usize = 256;
 /// One call of the input half at each of the first moments of the stream.
 pub fn input(engine: &dyn Engine, stream: &Stream, calls: usize) -> Result<(), String> {
     let (ready, events) = moments(stream, calls)?;
-    InputWork::new(ready, &events).call_first(engine, calls);
+    HalfWork::input(ready, &events).call_first(engine, calls);
     Ok(())
 }
 
 /// The same for the output half.
 pub fn output(engine: &dyn Engine, stream: &Stream, calls: usize) -> Result<(), String> {
     let (ready, events) = moments(stream, calls)?;
-    OutputWork::new(ready, &events).call_first(engine, calls);
+    HalfWork::output(ready, &events).call_first(engine, calls);
     Ok(())
 }
 

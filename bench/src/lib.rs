@@ -1,6 +1,8 @@
 //! The enforcement library measured against a plain program doing the same
 //! work.
 
+#[path = "../../independent/src/basis.rs"]
+pub mod basis;
 pub mod cases;
 mod clock;
 pub mod engine;

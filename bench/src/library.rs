@@ -1,155 +1,96 @@
 //! The enforcement library through its C functions, on the very slices it is
 //! lent: nothing is copied, so that only its own work is measured.
 
+use crate::basis::Basis;
 use crate::engine::Engine;
 use crate::groovepawn::*;
 
+/// A slice lent for reading or for writing.
+trait Lent {
+    type Cell;
+
+    fn pointer(&mut self) -> *mut Self::Cell;
+    fn length(&self) -> usize;
+}
+
+impl<T> Lent for &[T] {
+    type Cell = T;
+
+    fn pointer(&mut self) -> *mut T {
+        self.as_ptr().cast_mut()
+    }
+
+    fn length(&self) -> usize {
+        self.len()
+    }
+}
+
+impl<T> Lent for &mut [T] {
+    type Cell = T;
+
+    fn pointer(&mut self) -> *mut T {
+        self.as_mut_ptr()
+    }
+
+    fn length(&self) -> usize {
+        self.len()
+    }
+}
+
+/// Calls a function with what comes before the slices, the slices, each as a
+/// pointer and a length, and what comes after them.
+macro_rules! ask {
+    ($function:ident[$($first:expr),*][$($slice:ident),*][$($last:expr),*]) => {{
+        $(let mut $slice = $slice;)*
+        // Each pointer and the length beside it are those of one slice, which
+        // outlives the call, and the function writes through those alone that
+        // it takes as `*mut`.
+        let answer = unsafe {
+            $function($($first,)* $($slice.pointer(), $slice.length(),)* $($last,)*)
+        };
+        u64::from(answer)
+    }};
+}
+
 pub struct Library;
 
-// Safety of every call below: each pointer and the length beside it are those
-// of one slice, which outlives the call.
 impl Engine for Library {
     fn prepare(&self, reading: u8, file: &[u8], marks: &mut [u8]) -> u64 {
-        unsafe {
-            groovepawn_prepare(
-                reading,
-                file.as_ptr(),
-                file.len(),
-                marks.as_mut_ptr(),
-                marks.len(),
-            )
-        }
+        ask!(groovepawn_prepare[reading][file, marks][])
     }
 
-    fn input(&self, reading: u8, file: &[u8], marks: &[u8], state: &[u16], x: u8) -> u64 {
-        let answer = unsafe {
-            groovepawn_input(
-                reading,
-                file.as_ptr(),
-                file.len(),
-                marks.as_ptr(),
-                marks.len(),
-                state.as_ptr(),
-                state.len(),
-                x,
-            )
-        };
-        u64::from(answer)
+    fn input(&self, basis: Basis, state: &[u16], x: u8) -> u64 {
+        let (reading, file, marks) = basis.parts();
+        ask!(groovepawn_input[reading][file, marks, state][x])
     }
 
-    fn output(
-        &self,
-        reading: u8,
-        file: &[u8],
-        marks: &[u8],
-        state: &mut [u16],
-        x: u8,
-        y: u8,
-    ) -> u64 {
-        let answer = unsafe {
-            groovepawn_output(
-                reading,
-                file.as_ptr(),
-                file.len(),
-                marks.as_ptr(),
-                marks.len(),
-                state.as_mut_ptr(),
-                state.len(),
-                x,
-                y,
-            )
-        };
-        u64::from(answer)
+    fn output(&self, basis: Basis, state: &mut [u16], x: u8, y: u8) -> u64 {
+        let (reading, file, marks) = basis.parts();
+        ask!(groovepawn_output[reading][file, marks, state][x, y])
     }
 
-    fn run(
-        &self,
-        reading: u8,
-        file: &[u8],
-        marks: &[u8],
-        state: &mut [u16],
-        events: &[u8],
-        released: &mut [u8],
-    ) -> u64 {
-        unsafe {
-            groovepawn_run(
-                reading,
-                file.as_ptr(),
-                file.len(),
-                marks.as_ptr(),
-                marks.len(),
-                state.as_mut_ptr(),
-                state.len(),
-                events.as_ptr(),
-                events.len(),
-                released.as_mut_ptr(),
-                released.len(),
-            )
-        }
+    fn run(&self, basis: Basis, state: &mut [u16], events: &[u8], released: &mut [u8]) -> u64 {
+        let (reading, file, marks) = basis.parts();
+        ask!(groovepawn_run[reading][file, marks, state, events, released][])
     }
 
     fn join(&self, a: &[u8], b: &[u8], out: &mut [u8]) -> u64 {
-        unsafe {
-            groovepawn_join(
-                a.as_ptr(),
-                a.len(),
-                b.as_ptr(),
-                b.len(),
-                out.as_mut_ptr(),
-                out.len(),
-            )
-        }
+        ask!(groovepawn_join[][a, b, out][])
     }
 
     fn wave_write(&self, file: &[u8], events: &[u8], text: &mut [u8]) -> u64 {
-        unsafe {
-            groovepawn_wave_write(
-                file.as_ptr(),
-                file.len(),
-                events.as_ptr(),
-                events.len(),
-                text.as_mut_ptr(),
-                text.len(),
-            )
-        }
+        ask!(groovepawn_wave_write[][file, events, text][])
     }
 
     fn wave_read(&self, file: &[u8], text: &[u8], events: &mut [u8]) -> u64 {
-        unsafe {
-            groovepawn_wave_read(
-                file.as_ptr(),
-                file.len(),
-                text.as_ptr(),
-                text.len(),
-                events.as_mut_ptr(),
-                events.len(),
-            )
-        }
+        ask!(groovepawn_wave_read[][file, text, events][])
     }
 }
 
 /// The second engine of prepare.
 pub fn prepare_fast(reading: u8, file: &[u8], marks: &mut [u8], work: &mut [Vec<u16>; 5]) -> u64 {
-    let [stack, from, ways, bound, place] = work;
-    unsafe {
-        groovepawn_prepare_fast(
-            reading,
-            file.as_ptr(),
-            file.len(),
-            marks.as_mut_ptr(),
-            marks.len(),
-            stack.as_mut_ptr(),
-            stack.len(),
-            from.as_mut_ptr(),
-            from.len(),
-            ways.as_mut_ptr(),
-            ways.len(),
-            bound.as_mut_ptr(),
-            bound.len(),
-            place.as_mut_ptr(),
-            place.len(),
-        )
-    }
+    let [stack, from, ways, bound, place] = work.each_mut().map(Vec::as_mut_slice);
+    ask!(groovepawn_prepare_fast[reading][file, marks, stack, from, ways, bound, place][])
 }
 
 /// Why the halves of an event are edited.

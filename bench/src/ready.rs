@@ -1,5 +1,6 @@
 //! A policy that can be run.
 
+use crate::basis::Basis;
 use crate::engine::{refusal_in, Engine, Plain, State, START};
 use crate::file::{Policy, MOST_STATES};
 use crate::work::FILLER;
@@ -26,12 +27,15 @@ impl Ready {
         }
     }
 
+    pub fn basis(&self) -> Basis<'_> {
+        Basis::new(self.reading, &self.file, &self.marks)
+    }
+
     /// What the stream is corrected to, from the start.
     pub fn corrected(&self, events: &[u8]) -> Vec<u8> {
         let mut released = vec![FILLER; events.len()];
         let mut state = START;
-        let (file, marks) = (&self.file, &self.marks);
-        let answer = Plain.run(self.reading, file, marks, &mut state, events, &mut released);
+        let answer = Plain.run(self.basis(), &mut state, events, &mut released);
         assert_eq!(refusal_in(answer), 0, "a measured stream is refused");
         released
     }
@@ -43,7 +47,7 @@ impl Ready {
         for &event in stream {
             states.push(state);
             let (x, y) = (event & 15, event >> 4);
-            Plain.output(self.reading, &self.file, &self.marks, &mut state, x, y);
+            Plain.output(self.basis(), &mut state, x, y);
         }
         states
     }

@@ -9,7 +9,7 @@ mod wave;
 
 use crate::engine::{Engine, State};
 
-pub use halves::{InputWork, OutputWork};
+pub use halves::HalfWork;
 pub use join::JoinWork;
 pub use prepare::PrepareWork;
 pub use run::RunWork;

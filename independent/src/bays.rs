@@ -1,14 +1,14 @@
 //! Several bays that share one policy and one set of marks, each with its own
 //! state in a list.
 
+use crate::basis::Basis;
 use crate::call::hex;
 use crate::enforce;
 use crate::engine::{found_in, refusal_in, Engine};
 use crate::moment::STATE_LENGTH;
-use crate::parse;
 use crate::policies::{self, Size};
 use crate::random::Random;
-use crate::reading::{Reading, READINGS};
+use crate::reading::READINGS;
 use crate::refusal::Refusal;
 use crate::subject::{some_value, Subject};
 
@@ -31,16 +31,9 @@ pub fn new(states: &mut [u16]) -> Result<(), Refusal> {
 /// Where the state of a bay stands in the list. "24 for a bay not below the
 /// count, after 10": so the file and the marks are looked at first. What is no
 /// list holds no bay.
-fn place_of(
-    reading: u8,
-    file: &[u8],
-    marks: &[u8],
-    states: &[u16],
-    bay: u32,
-) -> Result<usize, Refusal> {
-    Reading::named(reading)?;
-    let policy = parse::check(file)?;
-    enforce::check_mark_slice(&policy, marks)?;
+fn place_of(basis: Basis, states: &[u16], bay: u32) -> Result<usize, Refusal> {
+    let (_, policy) = enforce::read(basis)?;
+    enforce::check_mark_slice(&policy, basis.marks)?;
     let bays = bays_in(states).unwrap_or(0);
     match usize::try_from(bay) {
         Ok(bay) if bay < bays => Ok(bay * STATE_LENGTH),
@@ -48,32 +41,21 @@ fn place_of(
     }
 }
 
-pub fn input_half(
-    reading: u8,
-    file: &[u8],
-    marks: &[u8],
-    states: &[u16],
-    bay: u32,
-    x: u8,
-) -> Result<u8, Refusal> {
-    let place = place_of(reading, file, marks, states, bay)?;
-    let state = &states[place..place + STATE_LENGTH];
-    enforce::input_half(reading, file, marks, state, x)
+pub fn input_half(basis: Basis, states: &[u16], bay: u32, x: u8) -> Result<u8, Refusal> {
+    let place = place_of(basis, states, bay)?;
+    enforce::input_half(basis, &states[place..place + STATE_LENGTH], x)
 }
 
 /// Changes the state of its bay; a refusal leaves all as they were.
 pub fn output_half(
-    reading: u8,
-    file: &[u8],
-    marks: &[u8],
+    basis: Basis,
     states: &mut [u16],
     bay: u32,
     x: u8,
     y: u8,
 ) -> Result<u8, Refusal> {
-    let place = place_of(reading, file, marks, states, bay)?;
-    let state = &mut states[place..place + STATE_LENGTH];
-    enforce::output_half(reading, file, marks, state, x, y)
+    let place = place_of(basis, states, bay)?;
+    enforce::output_half(basis, &mut states[place..place + STATE_LENGTH], x, y)
 }
 
 /// One tick as a bay sees it: what is read, and the answers of both halves.
@@ -151,6 +133,10 @@ impl Station {
         )
     }
 
+    fn basis(&self) -> Basis<'_> {
+        Basis::new(self.reading, &self.file, &self.marks)
+    }
+
     /// The ticks of all bays in one order, through one list: what each bay
     /// saw, and the list afterwards.
     fn through_list(
@@ -167,17 +153,8 @@ impl Station {
         for &bay in order {
             let (x, y) = self.wanted[bay][seen[bay].len()];
             let (named, before) = (bay as u32, states.clone());
-            let input = engine.bay_input(self.reading, &self.file, &self.marks, &states, named, x);
-            let passed = passed(input, x);
-            let output = engine.bay_output(
-                self.reading,
-                &self.file,
-                &self.marks,
-                &mut states,
-                named,
-                passed,
-                y,
-            );
+            let input = engine.bay_input(self.basis(), &states, named, x);
+            let output = engine.bay_output(self.basis(), &mut states, named, passed(input, x), y);
             let own = bay * STATE_LENGTH..(bay + 1) * STATE_LENGTH;
             let others = |states: &[u16]| [&states[..own.start], &states[own.end..]].concat();
             if others(&states) != others(&before) {
@@ -201,10 +178,8 @@ impl Station {
         let mut state = vec![0; STATE_LENGTH];
         let mut seen = Vec::new();
         for &(x, y) in &self.wanted[bay] {
-            let input = engine.input(self.reading, &self.file, &self.marks, &state, x);
-            let passed = passed(input, x);
-            let output =
-                engine.output(self.reading, &self.file, &self.marks, &mut state, passed, y);
+            let input = engine.input(self.basis(), &state, x);
+            let output = engine.output(self.basis(), &mut state, passed(input, x), y);
             seen.push(Tick {
                 x,
                 y,
@@ -218,7 +193,7 @@ impl Station {
 
 /// The x' of an answer; after a refused input half the loop hands on what it
 /// read, so that the output half is refused as well or takes it as it is.
-fn passed(input: u64, x: u8) -> u8 {
+pub fn passed(input: u64, x: u8) -> u8 {
     match refusal_in(input) {
         0 => found_in(input) as u8,
         _ => x,
@@ -252,10 +227,7 @@ pub fn examine(
         }
     }
     tally.stations += 1;
-    match engine.strayed() {
-        true => Err("a byte not lent for writing was changed".to_string()),
-        false => Ok(()),
-    }
+    engine.kept_to_what_was_lent()
 }
 
 #[cfg(test)]

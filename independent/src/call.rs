@@ -1,185 +1,134 @@
 //! One call of one function with everything lent to it, and what came of it.
 
+use crate::basis::Basis;
 use crate::engine::Engine;
 use std::fmt;
 
-#[derive(Clone, Debug, PartialEq, Eq)]
-pub enum Call {
-    Prepare {
-        reading: u8,
-        file: Vec<u8>,
-        marks: Vec<u8>,
-    },
-    Input {
-        reading: u8,
-        file: Vec<u8>,
-        marks: Vec<u8>,
-        state: Vec<u16>,
-        x: u8,
-    },
-    Output {
-        reading: u8,
-        file: Vec<u8>,
-        marks: Vec<u8>,
-        state: Vec<u16>,
-        x: u8,
-        y: u8,
-    },
-    Run {
-        reading: u8,
-        file: Vec<u8>,
-        marks: Vec<u8>,
-        state: Vec<u16>,
-        events: Vec<u8>,
-        released: Vec<u8>,
-    },
-    Join {
-        a: Vec<u8>,
-        b: Vec<u8>,
-        out: Vec<u8>,
-    },
-    Ticks {
-        milliseconds: u32,
-        tick_length: u32,
-        up: u8,
-    },
-    WaveWrite {
-        file: Vec<u8>,
-        events: Vec<u8>,
-        text: Vec<u8>,
-    },
-    WaveRead {
-        file: Vec<u8>,
-        text: Vec<u8>,
-        events: Vec<u8>,
-    },
-    Index {
-        file: Vec<u8>,
-        index: Vec<u16>,
-    },
-    InputIndexed {
-        reading: u8,
-        file: Vec<u8>,
-        marks: Vec<u8>,
-        state: Vec<u16>,
-        index: Vec<u16>,
-        x: u8,
-    },
-    OutputIndexed {
-        reading: u8,
-        file: Vec<u8>,
-        marks: Vec<u8>,
-        state: Vec<u16>,
-        index: Vec<u16>,
-        x: u8,
-        y: u8,
-    },
-    BaysNew {
-        states: Vec<u16>,
-    },
-    BayInput {
-        reading: u8,
-        file: Vec<u8>,
-        marks: Vec<u8>,
-        states: Vec<u16>,
-        bay: u32,
-        x: u8,
-    },
-    BayOutput {
-        reading: u8,
-        file: Vec<u8>,
-        marks: Vec<u8>,
-        states: Vec<u16>,
-        bay: u32,
-        x: u8,
-        y: u8,
-    },
-    MeterNew {
-        station: Vec<u16>,
-        totals: Vec<u32>,
-        register: u16,
-    },
-    MeterInput {
-        reading: u8,
-        file: Vec<u8>,
-        marks: Vec<u8>,
-        station: Vec<u16>,
-        register: u16,
-        x: u8,
-    },
-    MeterOutput {
-        reading: u8,
-        file: Vec<u8>,
-        marks: Vec<u8>,
-        station: Vec<u16>,
-        totals: Vec<u32>,
-        register: u16,
-        x: u8,
-        y: u8,
-    },
-    PrepareFast {
-        reading: u8,
-        file: Vec<u8>,
-        marks: Vec<u8>,
-        work: Work,
-    },
-    Clean {
-        reading: u8,
-        file: Vec<u8>,
-        cleaned: Vec<u8>,
-        struck: Vec<u8>,
-    },
-    Why {
-        reading: u8,
-        file: Vec<u8>,
-        marks: Vec<u8>,
-        state: Vec<u16>,
-        x: u8,
-        y: u8,
-    },
+/// Declares the functions: the name, and all that it is given in the order of a
+/// stored case, each with its kind. What is lent for writing is there `before`.
+macro_rules! calls {
+    ($($call:ident $name:literal: $($field:ident $kind:ident $($before:ident)?),+;)+) => {
+        #[derive(Clone, Debug, PartialEq, Eq)]
+        pub enum Call {
+            $($call { $($field: kinds::$kind),+ }),+
+        }
+
+        #[derive(Clone, Copy)]
+        enum Function {
+            $($call),+
+        }
+
+        /// The functions, in the order of `Call::kind`.
+        pub const FUNCTIONS: [&str; [$($name),+].len()] = [$($name),+];
+
+        impl Call {
+            /// The place of the function in `FUNCTIONS`.
+            pub fn kind(&self) -> usize {
+                let function = match self {
+                    $(Call::$call { .. } => Function::$call),+
+                };
+                function as usize
+            }
+
+            /// All that the function is given, by name.
+            pub fn given(&self) -> Vec<(&'static str, Given<'_>)> {
+                match self {
+                    $(Call::$call { $($field),+ } => vec![$((
+                        concat!(stringify!($field) $(, " ", stringify!($before))?),
+                        Given::$kind($field),
+                    )),+]),+
+                }
+            }
+
+            /// The same, to be put there.
+            pub fn places(&mut self) -> Vec<Place<'_>> {
+                match self {
+                    $(Call::$call { $($field),+ } => vec![$(Place::$kind($field)),+]),+
+                }
+            }
+
+            /// A call of the function at a place in `FUNCTIONS`, with nothing in it.
+            pub fn blank(kind: usize) -> Option<Call> {
+                let calls = [$(Call::$call { $($field: Default::default()),+ }),+];
+                calls.into_iter().nth(kind)
+            }
+        }
+    };
 }
 
-/// The work slices of the second engine. What they hold afterwards is not said.
-pub type Work = [Vec<u16>; 5];
+calls! {
+    Prepare "prepare": reading Byte, file Policy, marks Bytes before;
+    Input "input": reading Byte, file Policy, marks Bytes, state Numbers, x Byte;
+    Output "output":
+        reading Byte, file Policy, marks Bytes, state Numbers before, x Byte, y Byte;
+    Run "run":
+        reading Byte, file Policy, marks Bytes, state Numbers before,
+        events Bytes, released Bytes before;
+    Join "join": a Policy, b Policy, out Policy before;
+    Ticks "ticks": milliseconds Word, tick_length Word, up Byte;
+    WaveWrite "wave_write": file Policy, events Bytes, text Bytes before;
+    WaveRead "wave_read": file Policy, text Bytes, events Bytes before;
+    Index "index": file Policy, index Numbers before;
+    InputIndexed "input_indexed":
+        reading Byte, file Policy, marks Bytes, state Numbers, index Numbers, x Byte;
+    OutputIndexed "output_indexed":
+        reading Byte, file Policy, marks Bytes, state Numbers before, index Numbers,
+        x Byte, y Byte;
+    BaysNew "bays_new": states Numbers before;
+    BayInput "bay_input":
+        reading Byte, file Policy, marks Bytes, states Numbers, bay Word, x Byte;
+    BayOutput "bay_output":
+        reading Byte, file Policy, marks Bytes, states Numbers before, bay Word,
+        x Byte, y Byte;
+    MeterNew "meter_new": station Numbers before, totals Totals before, register Pair;
+    MeterInput "meter_input":
+        reading Byte, file Policy, marks Bytes, station Numbers, register Pair, x Byte;
+    MeterOutput "meter_output":
+        reading Byte, file Policy, marks Bytes, station Numbers before,
+        totals Totals before, register Pair, x Byte, y Byte;
+    PrepareFast "prepare_fast": reading Byte, file Policy, marks Bytes before, work Work;
+    Clean "clean": reading Byte, file Policy, cleaned Policy before, struck Policy before;
+    Why "why": reading Byte, file Policy, marks Bytes, state Numbers, x Byte, y Byte;
+}
 
-/// The functions, in the order of `Call::kind`.
-pub const FUNCTIONS: [&str; 20] = [
-    "prepare",
-    "input",
-    "output",
-    "run",
-    "join",
-    "ticks",
-    "wave_write",
-    "wave_read",
-    "index",
-    "input_indexed",
-    "output_indexed",
-    "bays_new",
-    "bay_input",
-    "bay_output",
-    "meter_new",
-    "meter_input",
-    "meter_output",
-    "prepare_fast",
-    "clean",
-    "why",
-];
+/// Declares the kinds of what a function is given: as it stands in a call, as
+/// it is looked at, and as it is put there.
+macro_rules! kinds {
+    ($($(#[$about:meta])* $kind:ident: $owned:ty;)+) => {
+        mod kinds {
+            $(pub type $kind = $owned;)+
+        }
 
-/// One thing that a function is given.
-pub enum Given<'a> {
-    Byte(u8),
-    Pair(u16),
-    Word(u32),
+        /// One thing that a function is given.
+        pub enum Given<'a> {
+            $($(#[$about])* $kind(&'a kinds::$kind)),+
+        }
+
+        /// Where one thing stands that a function is given.
+        pub enum Place<'a> {
+            $($kind(&'a mut kinds::$kind)),+
+        }
+    };
+}
+
+kinds! {
+    Byte: u8;
+    Pair: u16;
+    Word: u32;
     /// A policy, or the slice for one.
-    Policy(&'a [u8]),
+    Policy: Vec<u8>;
     /// Marks, events, the text of a wave, or a slice for them.
-    Bytes(&'a [u8]),
+    Bytes: Vec<u8>;
     /// A state, or what else is lent as numbers of 16 bits.
-    Numbers(&'a [u16]),
+    Numbers: Vec<u16>;
     /// The totals of a meter.
-    Totals(&'a [u32]),
+    Totals: Vec<u32>;
+    /// The work slices of the second engine. What they hold afterwards is not
+    /// said.
+    Work: [Vec<u16>; 5];
 }
+
+pub use kinds::Work;
 
 /// An answer and the later contents of what was lent for writing.
 #[derive(Clone, Debug, Default, PartialEq, Eq)]
@@ -201,452 +150,105 @@ pub struct Outcome {
 }
 
 impl Call {
-    /// The place of the function in `FUNCTIONS`.
-    pub fn kind(&self) -> usize {
-        match self {
-            Call::Prepare { .. } => 0,
-            Call::Input { .. } => 1,
-            Call::Output { .. } => 2,
-            Call::Run { .. } => 3,
-            Call::Join { .. } => 4,
-            Call::Ticks { .. } => 5,
-            Call::WaveWrite { .. } => 6,
-            Call::WaveRead { .. } => 7,
-            Call::Index { .. } => 8,
-            Call::InputIndexed { .. } => 9,
-            Call::OutputIndexed { .. } => 10,
-            Call::BaysNew { .. } => 11,
-            Call::BayInput { .. } => 12,
-            Call::BayOutput { .. } => 13,
-            Call::MeterNew { .. } => 14,
-            Call::MeterInput { .. } => 15,
-            Call::MeterOutput { .. } => 16,
-            Call::PrepareFast { .. } => 17,
-            Call::Clean { .. } => 18,
-            Call::Why { .. } => 19,
-        }
-    }
-
-    /// All that the function is given, by name, in the order of a stored case.
-    pub fn given(&self) -> Vec<(&'static str, Given<'_>)> {
-        use Given::*;
-        match self {
-            Call::Prepare {
-                reading,
-                file,
-                marks,
-            } => vec![
-                ("reading", Byte(*reading)),
-                ("file", Policy(file)),
-                ("marks before", Bytes(marks)),
-            ],
-            Call::Input {
-                reading,
-                file,
-                marks,
-                state,
-                x,
-            } => vec![
-                ("reading", Byte(*reading)),
-                ("file", Policy(file)),
-                ("marks", Bytes(marks)),
-                ("state", Numbers(state)),
-                ("x", Byte(*x)),
-            ],
-            Call::Output {
-                reading,
-                file,
-                marks,
-                state,
-                x,
-                y,
-            } => vec![
-                ("reading", Byte(*reading)),
-                ("file", Policy(file)),
-                ("marks", Bytes(marks)),
-                ("state before", Numbers(state)),
-                ("x", Byte(*x)),
-                ("y", Byte(*y)),
-            ],
-            Call::Run {
-                reading,
-                file,
-                marks,
-                state,
-                events,
-                released,
-            } => vec![
-                ("reading", Byte(*reading)),
-                ("file", Policy(file)),
-                ("marks", Bytes(marks)),
-                ("state before", Numbers(state)),
-                ("events", Bytes(events)),
-                ("released before", Bytes(released)),
-            ],
-            Call::Join { a, b, out } => vec![
-                ("a", Policy(a)),
-                ("b", Policy(b)),
-                ("out before", Policy(out)),
-            ],
-            Call::Ticks {
-                milliseconds,
-                tick_length,
-                up,
-            } => vec![
-                ("milliseconds", Word(*milliseconds)),
-                ("tick length", Word(*tick_length)),
-                ("up", Byte(*up)),
-            ],
-            Call::WaveWrite { file, events, text } => vec![
-                ("file", Policy(file)),
-                ("events", Bytes(events)),
-                ("text before", Bytes(text)),
-            ],
-            Call::WaveRead { file, text, events } => vec![
-                ("file", Policy(file)),
-                ("text", Bytes(text)),
-                ("events before", Bytes(events)),
-            ],
-            Call::Index { file, index } => {
-                vec![("file", Policy(file)), ("index before", Numbers(index))]
-            }
-            Call::InputIndexed {
-                reading,
-                file,
-                marks,
-                state,
-                index,
-                x,
-            } => vec![
-                ("reading", Byte(*reading)),
-                ("file", Policy(file)),
-                ("marks", Bytes(marks)),
-                ("state", Numbers(state)),
-                ("index", Numbers(index)),
-                ("x", Byte(*x)),
-            ],
-            Call::OutputIndexed {
-                reading,
-                file,
-                marks,
-                state,
-                index,
-                x,
-                y,
-            } => vec![
-                ("reading", Byte(*reading)),
-                ("file", Policy(file)),
-                ("marks", Bytes(marks)),
-                ("state before", Numbers(state)),
-                ("index", Numbers(index)),
-                ("x", Byte(*x)),
-                ("y", Byte(*y)),
-            ],
-            Call::BaysNew { states } => vec![("states before", Numbers(states))],
-            Call::BayInput {
-                reading,
-                file,
-                marks,
-                states,
-                bay,
-                x,
-            } => vec![
-                ("reading", Byte(*reading)),
-                ("file", Policy(file)),
-                ("marks", Bytes(marks)),
-                ("states", Numbers(states)),
-                ("bay", Word(*bay)),
-                ("x", Byte(*x)),
-            ],
-            Call::BayOutput {
-                reading,
-                file,
-                marks,
-                states,
-                bay,
-                x,
-                y,
-            } => vec![
-                ("reading", Byte(*reading)),
-                ("file", Policy(file)),
-                ("marks", Bytes(marks)),
-                ("states before", Numbers(states)),
-                ("bay", Word(*bay)),
-                ("x", Byte(*x)),
-                ("y", Byte(*y)),
-            ],
-            Call::MeterNew {
-                station,
-                totals,
-                register,
-            } => vec![
-                ("station before", Numbers(station)),
-                ("totals before", Totals(totals)),
-                ("register", Pair(*register)),
-            ],
-            Call::MeterInput {
-                reading,
-                file,
-                marks,
-                station,
-                register,
-                x,
-            } => vec![
-                ("reading", Byte(*reading)),
-                ("file", Policy(file)),
-                ("marks", Bytes(marks)),
-                ("station", Numbers(station)),
-                ("register", Pair(*register)),
-                ("x", Byte(*x)),
-            ],
-            Call::MeterOutput {
-                reading,
-                file,
-                marks,
-                station,
-                totals,
-                register,
-                x,
-                y,
-            } => vec![
-                ("reading", Byte(*reading)),
-                ("file", Policy(file)),
-                ("marks", Bytes(marks)),
-                ("station before", Numbers(station)),
-                ("totals before", Totals(totals)),
-                ("register", Pair(*register)),
-                ("x", Byte(*x)),
-                ("y", Byte(*y)),
-            ],
-            Call::PrepareFast {
-                reading,
-                file,
-                marks,
-                work,
-            } => vec![
-                ("reading", Byte(*reading)),
-                ("file", Policy(file)),
-                ("marks before", Bytes(marks)),
-                ("work 1", Numbers(&work[0])),
-                ("work 2", Numbers(&work[1])),
-                ("work 3", Numbers(&work[2])),
-                ("work 4", Numbers(&work[3])),
-                ("work 5", Numbers(&work[4])),
-            ],
-            Call::Clean {
-                reading,
-                file,
-                cleaned,
-                struck,
-            } => vec![
-                ("reading", Byte(*reading)),
-                ("file", Policy(file)),
-                ("cleaned before", Policy(cleaned)),
-                ("struck before", Policy(struck)),
-            ],
-            Call::Why {
-                reading,
-                file,
-                marks,
-                state,
-                x,
-                y,
-            } => vec![
-                ("reading", Byte(*reading)),
-                ("file", Policy(file)),
-                ("marks", Bytes(marks)),
-                ("state", Numbers(state)),
-                ("x", Byte(*x)),
-                ("y", Byte(*y)),
-            ],
-        }
-    }
-
     /// The reading that the caller names, if the function takes one.
     pub fn reading(&self) -> Option<u8> {
         match self.given()[0] {
-            ("reading", Given::Byte(reading)) => Some(reading),
+            ("reading", Given::Byte(reading)) => Some(*reading),
             _ => None,
         }
     }
 
+    /// What a tick goes by, as far as the function is given it.
+    fn basis(&self) -> Basis<'_> {
+        let mut basis = Basis::default();
+        for (name, given) in self.given() {
+            match (name, given) {
+                ("reading", Given::Byte(reading)) => basis.reading = *reading,
+                ("file", Given::Policy(file)) => basis.file = file,
+                ("marks", Given::Bytes(marks)) => basis.marks = marks,
+                _ => {}
+            }
+        }
+        basis
+    }
+
     /// The same call under another reading, if it takes one.
     pub fn under(mut self, other: u8) -> Call {
-        match &mut self {
-            Call::Prepare { reading, .. }
-            | Call::Input { reading, .. }
-            | Call::Output { reading, .. }
-            | Call::Run { reading, .. }
-            | Call::InputIndexed { reading, .. }
-            | Call::OutputIndexed { reading, .. }
-            | Call::BayInput { reading, .. }
-            | Call::BayOutput { reading, .. }
-            | Call::MeterInput { reading, .. }
-            | Call::MeterOutput { reading, .. }
-            | Call::PrepareFast { reading, .. }
-            | Call::Clean { reading, .. }
-            | Call::Why { reading, .. } => *reading = other,
-            Call::Join { .. }
-            | Call::Ticks { .. }
-            | Call::WaveWrite { .. }
-            | Call::WaveRead { .. }
-            | Call::Index { .. }
-            | Call::BaysNew { .. }
-            | Call::MeterNew { .. } => {}
+        if self.reading().is_some() {
+            if let Place::Byte(reading) = &mut self.places()[0] {
+                **reading = other;
+            }
         }
         self
     }
 
-    /// The same call about another file.
+    /// The same call about another file: of a join, the first.
     pub fn with_file(mut self, other: Vec<u8>) -> Call {
-        match &mut self {
-            Call::Prepare { file, .. }
-            | Call::Input { file, .. }
-            | Call::Output { file, .. }
-            | Call::Run { file, .. }
-            | Call::WaveWrite { file, .. }
-            | Call::WaveRead { file, .. }
-            | Call::Index { file, .. }
-            | Call::InputIndexed { file, .. }
-            | Call::OutputIndexed { file, .. }
-            | Call::BayInput { file, .. }
-            | Call::BayOutput { file, .. }
-            | Call::MeterInput { file, .. }
-            | Call::MeterOutput { file, .. }
-            | Call::PrepareFast { file, .. }
-            | Call::Clean { file, .. }
-            | Call::Why { file, .. } => *file = other,
-            Call::Join { a, .. } => *a = other,
-            Call::Ticks { .. } | Call::BaysNew { .. } | Call::MeterNew { .. } => {}
+        for place in self.places() {
+            if let Place::Policy(file) = place {
+                *file = other;
+                break;
+            }
         }
         self
     }
 
     pub fn make(&self, engine: &mut dyn Engine) -> Outcome {
+        let basis = self.basis();
+        let (reading, file, _) = basis.parts();
         let mut bytes = self.lent_bytes().to_vec();
-        let mut lent_state = self.lent_state().to_vec();
-        let mut lent_totals = self.lent_totals().to_vec();
+        let mut numbers = self.lent_state().to_vec();
+        let mut totals = self.lent_totals().to_vec();
         let mut struck = self.lent_list().to_vec();
         let answer = match self {
-            Call::Prepare { reading, file, .. } => engine.prepare(*reading, file, &mut bytes),
-            Call::Input {
-                reading,
-                file,
-                marks,
-                state,
-                x,
-            } => engine.input(*reading, file, marks, state, *x),
-            Call::Output {
-                reading,
-                file,
-                marks,
-                x,
-                y,
-                ..
-            } => engine.output(*reading, file, marks, &mut lent_state, *x, *y),
-            Call::Run {
-                reading,
-                file,
-                marks,
-                events,
-                ..
-            } => engine.run(*reading, file, marks, &mut lent_state, events, &mut bytes),
+            Call::Prepare { .. } => engine.prepare(reading, file, &mut bytes),
+            Call::Input { state, x, .. } => engine.input(basis, state, *x),
+            Call::Output { x, y, .. } => engine.output(basis, &mut numbers, *x, *y),
+            Call::Run { events, .. } => engine.run(basis, &mut numbers, events, &mut bytes),
             Call::Join { a, b, .. } => engine.join(a, b, &mut bytes),
             Call::Ticks {
                 milliseconds,
                 tick_length,
                 up,
             } => engine.ticks(*milliseconds, *tick_length, *up),
-            Call::WaveWrite { file, events, .. } => engine.wave_write(file, events, &mut bytes),
-            Call::WaveRead { file, text, .. } => engine.wave_read(file, text, &mut bytes),
-            Call::Index { file, .. } => engine.index(file, &mut lent_state),
+            Call::WaveWrite { events, .. } => engine.wave_write(file, events, &mut bytes),
+            Call::WaveRead { text, .. } => engine.wave_read(file, text, &mut bytes),
+            Call::Index { .. } => engine.index(file, &mut numbers),
             Call::InputIndexed {
-                reading,
-                file,
-                marks,
-                state,
-                index,
-                x,
-            } => engine.input_indexed(*reading, file, index, marks, state, *x),
-            Call::OutputIndexed {
-                reading,
-                file,
-                marks,
-                index,
-                x,
-                y,
-                ..
-            } => engine.output_indexed(*reading, file, index, marks, &mut lent_state, *x, *y),
-            Call::BaysNew { .. } => engine.bays_new(&mut lent_state),
-            Call::BayInput {
-                reading,
-                file,
-                marks,
-                states,
-                bay,
-                x,
-            } => engine.bay_input(*reading, file, marks, states, *bay, *x),
-            Call::BayOutput {
-                reading,
-                file,
-                marks,
-                bay,
-                x,
-                y,
-                ..
-            } => engine.bay_output(*reading, file, marks, &mut lent_state, *bay, *x, *y),
+                state, index, x, ..
+            } => engine.input_indexed(basis, index, state, *x),
+            Call::OutputIndexed { index, x, y, .. } => {
+                engine.output_indexed(basis, index, &mut numbers, *x, *y)
+            }
+            Call::BaysNew { .. } => engine.bays_new(&mut numbers),
+            Call::BayInput { states, bay, x, .. } => engine.bay_input(basis, states, *bay, *x),
+            Call::BayOutput { bay, x, y, .. } => {
+                engine.bay_output(basis, &mut numbers, *bay, *x, *y)
+            }
             Call::MeterNew { register, .. } => {
-                engine.meter_new(&mut lent_state, &mut lent_totals, *register)
+                engine.meter_new(&mut numbers, &mut totals, *register)
             }
             Call::MeterInput {
-                reading,
-                file,
-                marks,
                 station,
                 register,
                 x,
-            } => engine.meter_input(*reading, file, marks, station, *register, *x),
-            Call::MeterOutput {
-                reading,
-                file,
-                marks,
-                register,
-                x,
-                y,
                 ..
-            } => engine.meter_output(
-                *reading,
-                file,
-                marks,
-                &mut lent_state,
-                &mut lent_totals,
-                *register,
-                *x,
-                *y,
-            ),
-            Call::PrepareFast {
-                reading,
-                file,
-                work,
-                ..
-            } => engine.prepare_fast(*reading, file, &mut bytes, &mut work.clone()),
-            Call::Clean { reading, file, .. } => {
-                engine.clean(*reading, file, &mut bytes, &mut struck)
+            } => engine.meter_input(basis, station, *register, *x),
+            Call::MeterOutput { register, x, y, .. } => {
+                let lent = (&mut numbers[..], &mut totals[..]);
+                engine.meter_output(basis, lent, *register, *x, *y)
             }
-            Call::Why {
-                reading,
-                file,
-                marks,
-                state,
-                x,
-                y,
-            } => engine.why(*reading, file, marks, state, *x, *y),
+            Call::PrepareFast { work, .. } => {
+                engine.prepare_fast(reading, file, &mut bytes, &mut work.clone())
+            }
+            Call::Clean { .. } => engine.clean(reading, file, &mut bytes, &mut struck),
+            Call::Why { state, x, y, .. } => engine.why(basis, state, *x, *y),
         };
         Outcome {
             answer,
             bytes,
-            state: lent_state,
-            totals: lent_totals,
+            state: numbers,
+            totals,
             struck,
             strayed: engine.strayed(),
         }
@@ -709,6 +311,11 @@ impl fmt::Display for Call {
                 }
                 Given::Numbers(numbers) => writeln!(out, "{name} {numbers:?}")?,
                 Given::Totals(totals) => writeln!(out, "{name} {totals:?}")?,
+                Given::Work(work) => {
+                    for (place, slice) in work.iter().enumerate() {
+                        writeln!(out, "{name} {} {slice:?}", place + 1)?;
+                    }
+                }
             }
         }
         if let Call::WaveRead { text, .. } = self {

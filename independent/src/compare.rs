@@ -200,8 +200,11 @@ fn compare_laws(
 #[cfg(test)]
 mod tests {
     use super::*;
+    use crate::basis::Basis;
     use crate::call::Work;
+    use crate::enforce;
     use crate::index;
+    use crate::meter::Lent;
     use crate::moment::STATE_LENGTH;
     use crate::parse;
     use crate::policy::Policy;
@@ -214,173 +217,113 @@ mod tests {
         fault: Fault,
     }
 
-    #[derive(Clone, Copy, Debug, PartialEq, Eq)]
-    enum Fault {
-        None,
-        RefuseAlways,
-        ForwardEverything,
-        SmallestAmongEquals,
-        LastRuleWins,
-        EveryLocationRests,
-        LocationOneIsRefused,
-        OneReadingOnly,
-        MarksOfTheOtherReading,
-        ReadingZeroIsOne,
-        ReadingThreeIsTwo,
-        FileBeforeReading,
-        ClockGoesOnFromWhatWasRead,
-        CeilingNotRead,
-        InventLiveCount,
-        EveryStateCounts,
-        MarkPastTheStates,
-        WriteMarksOnlyOnSuccess,
-        AnyMarkIsLive,
-        ReleasePastTheEvents,
-        StateMovesOnRefusal,
-        EventsCheckedBeforeState,
-        JoinOutWrittenOnRefusal,
-        JoinKeepsOrderOfB,
-        JoinRestsWhereOneRests,
-        RoundUpOneTooMany,
-        WideLocationCut,
-        WaveOutputsFirst,
-        WaveTimesFromOne,
-        WaveTimesWithoutChange,
-        WaveWithoutClosing,
-        WaveEmptyClosedTwice,
-        WaveOneEventLess,
-        WaveRoomBeforeEvents,
-        WaveTextOnRefusal,
-        WaveReturnsTaken,
-        WaveZerosTaken,
-        WaveEndTaken,
-        WaveAgainTaken,
-        WaveTimeWrapped,
-        WaveEventsOnRefusal,
-        WavePastTheEvents,
-        Stray,
-        EmptyLocationFirstIsNone,
-        IndexPastTheLocations,
-        AnyLengthOfIndex,
-        IndexNotLookedAt,
-        OwnEntryOnly,
-        MarksBeforeIndex,
-        NineBays,
-        BaysKeepTheirStates,
-        BayCutToOneByte,
-        BayIsTheCount,
-        BayBeforeMarks,
-        AllBaysMove,
-        PulsesEndAtTheRollover,
-        PulseIsNotCleared,
-        BillsWhatWasWanted,
-        TotalsGoRound,
-        RegisterMovesOnRefusal,
-        MarksBeforeMeterSignals,
-        FirstRegisterIsNone,
-        FourWorkSlices,
-        StartBeforeWork,
-        WorkBeforeMarks,
-        FastForgetsRest,
-        FastReadsTheWork,
-        JoinForgetsB,
-        CleanUnderReadingOne,
-        CleanWritesTheFileFirst,
-        TargetsKeepTheirNumbers,
-        RulesOfTwoAreThree,
-        EveryRuleOfALocationStays,
-        MarksAreNotChecked,
-        MarksBeforeState,
-        OneTickMore,
-        RestsAsTicks,
-        RuleNumberInItsLocation,
-        LowestOutputOnly,
-        OutputJudgedWithXAsRead,
-        ReasonForWhatIsNotEdited,
+    /// What a tick goes by, as a spoilt reader sees it.
+    struct Seen {
+        reading: u8,
+        file: Vec<u8>,
+        marks: Vec<u8>,
     }
 
-    const FAULTS: [Fault; 80] = [
-        Fault::RefuseAlways,
-        Fault::ForwardEverything,
-        Fault::SmallestAmongEquals,
-        Fault::LastRuleWins,
-        Fault::EveryLocationRests,
-        Fault::LocationOneIsRefused,
-        Fault::OneReadingOnly,
-        Fault::MarksOfTheOtherReading,
-        Fault::ReadingZeroIsOne,
-        Fault::ReadingThreeIsTwo,
-        Fault::FileBeforeReading,
-        Fault::ClockGoesOnFromWhatWasRead,
-        Fault::CeilingNotRead,
-        Fault::InventLiveCount,
-        Fault::EveryStateCounts,
-        Fault::MarkPastTheStates,
-        Fault::WriteMarksOnlyOnSuccess,
-        Fault::AnyMarkIsLive,
-        Fault::ReleasePastTheEvents,
-        Fault::StateMovesOnRefusal,
-        Fault::EventsCheckedBeforeState,
-        Fault::JoinOutWrittenOnRefusal,
-        Fault::JoinKeepsOrderOfB,
-        Fault::JoinRestsWhereOneRests,
-        Fault::RoundUpOneTooMany,
-        Fault::WideLocationCut,
-        Fault::WaveOutputsFirst,
-        Fault::WaveTimesFromOne,
-        Fault::WaveTimesWithoutChange,
-        Fault::WaveWithoutClosing,
-        Fault::WaveEmptyClosedTwice,
-        Fault::WaveOneEventLess,
-        Fault::WaveRoomBeforeEvents,
-        Fault::WaveTextOnRefusal,
-        Fault::WaveReturnsTaken,
-        Fault::WaveZerosTaken,
-        Fault::WaveEndTaken,
-        Fault::WaveAgainTaken,
-        Fault::WaveTimeWrapped,
-        Fault::WaveEventsOnRefusal,
-        Fault::WavePastTheEvents,
-        Fault::Stray,
-        Fault::EmptyLocationFirstIsNone,
-        Fault::IndexPastTheLocations,
-        Fault::AnyLengthOfIndex,
-        Fault::IndexNotLookedAt,
-        Fault::OwnEntryOnly,
-        Fault::MarksBeforeIndex,
-        Fault::NineBays,
-        Fault::BaysKeepTheirStates,
-        Fault::BayCutToOneByte,
-        Fault::BayIsTheCount,
-        Fault::BayBeforeMarks,
-        Fault::AllBaysMove,
-        Fault::PulsesEndAtTheRollover,
-        Fault::PulseIsNotCleared,
-        Fault::BillsWhatWasWanted,
-        Fault::TotalsGoRound,
-        Fault::RegisterMovesOnRefusal,
-        Fault::MarksBeforeMeterSignals,
-        Fault::FirstRegisterIsNone,
-        Fault::FourWorkSlices,
-        Fault::StartBeforeWork,
-        Fault::WorkBeforeMarks,
-        Fault::FastForgetsRest,
-        Fault::FastReadsTheWork,
-        Fault::JoinForgetsB,
-        Fault::CleanUnderReadingOne,
-        Fault::CleanWritesTheFileFirst,
-        Fault::TargetsKeepTheirNumbers,
-        Fault::RulesOfTwoAreThree,
-        Fault::EveryRuleOfALocationStays,
-        Fault::MarksAreNotChecked,
-        Fault::MarksBeforeState,
-        Fault::OneTickMore,
-        Fault::RestsAsTicks,
-        Fault::RuleNumberInItsLocation,
-        Fault::LowestOutputOnly,
-        Fault::OutputJudgedWithXAsRead,
-        Fault::ReasonForWhatIsNotEdited,
-    ];
+    impl Seen {
+        fn lent(&self) -> Basis<'_> {
+            Basis::new(self.reading, &self.file, &self.marks)
+        }
+    }
+
+    macro_rules! faults {
+        ($($fault:ident)+) => {
+            #[derive(Clone, Copy, Debug, PartialEq, Eq)]
+            enum Fault {
+                None,
+                $($fault),+
+            }
+
+            const FAULTS: &[Fault] = &[$(Fault::$fault),+];
+        };
+    }
+
+    faults! {
+        RefuseAlways
+        ForwardEverything
+        SmallestAmongEquals
+        LastRuleWins
+        EveryLocationRests
+        LocationOneIsRefused
+        OneReadingOnly
+        MarksOfTheOtherReading
+        ReadingZeroIsOne
+        ReadingThreeIsTwo
+        FileBeforeReading
+        ClockGoesOnFromWhatWasRead
+        CeilingNotRead
+        InventLiveCount
+        EveryStateCounts
+        MarkPastTheStates
+        WriteMarksOnlyOnSuccess
+        AnyMarkIsLive
+        ReleasePastTheEvents
+        StateMovesOnRefusal
+        EventsCheckedBeforeState
+        JoinOutWrittenOnRefusal
+        JoinKeepsOrderOfB
+        JoinRestsWhereOneRests
+        RoundUpOneTooMany
+        WideLocationCut
+        WaveOutputsFirst
+        WaveTimesFromOne
+        WaveTimesWithoutChange
+        WaveWithoutClosing
+        WaveEmptyClosedTwice
+        WaveOneEventLess
+        WaveRoomBeforeEvents
+        WaveTextOnRefusal
+        WaveReturnsTaken
+        WaveZerosTaken
+        WaveEndTaken
+        WaveAgainTaken
+        WaveTimeWrapped
+        WaveEventsOnRefusal
+        WavePastTheEvents
+        Stray
+        EmptyLocationFirstIsNone
+        IndexPastTheLocations
+        AnyLengthOfIndex
+        IndexNotLookedAt
+        OwnEntryOnly
+        MarksBeforeIndex
+        NineBays
+        BaysKeepTheirStates
+        BayCutToOneByte
+        BayIsTheCount
+        BayBeforeMarks
+        AllBaysMove
+        PulsesEndAtTheRollover
+        PulseIsNotCleared
+        BillsWhatWasWanted
+        TotalsGoRound
+        RegisterMovesOnRefusal
+        MarksBeforeMeterSignals
+        FirstRegisterIsNone
+        FourWorkSlices
+        StartBeforeWork
+        WorkBeforeMarks
+        FastForgetsRest
+        FastReadsTheWork
+        JoinForgetsB
+        CleanUnderReadingOne
+        CleanWritesTheFileFirst
+        TargetsKeepTheirNumbers
+        RulesOfTwoAreThree
+        EveryRuleOfALocationStays
+        MarksAreNotChecked
+        MarksBeforeState
+        OneTickMore
+        RestsAsTicks
+        RuleNumberInItsLocation
+        LowestOutputOnly
+        OutputJudgedWithXAsRead
+        ReasonForWhatIsNotEdited
+    }
 
     impl Spoilt {
         fn has(&self, fault: Fault) -> bool {
@@ -396,6 +339,15 @@ mod tests {
                 3 if self.has(Fault::ReadingThreeIsTwo) => 2,
                 0 | 3.. if self.has(Fault::FileBeforeReading) && file_refused() => 1,
                 _ => reading,
+            }
+        }
+
+        fn seen(&self, basis: Basis) -> Seen {
+            let reading = self.reading(basis.reading, basis.file);
+            Seen {
+                reading,
+                file: self.file(reading, basis.file),
+                marks: self.marks(basis.marks),
             }
         }
 
@@ -431,8 +383,8 @@ mod tests {
 
         /// The index as a spoilt reader sees it: where it would take a wrong
         /// one, it sees the right one.
-        fn seen_index(&self, file: &[u8], lent: &[u16], marks: &[u8], state: &[u16]) -> Vec<u16> {
-            let Ok(policy) = parse::check(file) else {
+        fn seen_index(&self, basis: Basis, lent: &[u16], state: &[u16]) -> Vec<u16> {
+            let Ok(policy) = parse::check(basis.file) else {
                 return lent.to_vec();
             };
             let right = index::index_of(&policy).to_vec();
@@ -449,7 +401,7 @@ mod tests {
                 Fault::OwnEntryOnly => {
                     lent.len() == right.len() && lent.get(own..own + 2) == right.get(own..own + 2)
                 }
-                Fault::MarksBeforeIndex => (marks.len() as u64) < policy.states(),
+                Fault::MarksBeforeIndex => (basis.marks.len() as u64) < policy.states(),
                 _ => false,
             };
             match taken {
@@ -553,11 +505,9 @@ mod tests {
             }
         }
 
-        fn input(&mut self, reading: u8, file: &[u8], marks: &[u8], state: &[u16], x: u8) -> u64 {
-            let (marks, state) = (self.marks(marks), self.state(state));
-            let reading = self.reading(reading, file);
-            let file = self.file(reading, file);
-            let half = |x| Model.input(reading, &file, &marks, &state, x);
+        fn input(&mut self, basis: Basis, state: &[u16], x: u8) -> u64 {
+            let (basis, state) = (self.seen(basis), self.state(state));
+            let half = |x| Model.input(basis.lent(), &state, x);
             let answer = half(x);
             match self.has(Fault::SmallestAmongEquals) && refusal_in(answer) == 0 {
                 true => smallest_nearest(x, half),
@@ -565,21 +515,12 @@ mod tests {
             }
         }
 
-        fn output(
-            &mut self,
-            reading: u8,
-            file: &[u8],
-            marks: &[u8],
-            state: &mut [u16],
-            x: u8,
-            y: u8,
-        ) -> u64 {
-            let reading = self.reading(reading, file);
-            let (file, marks) = (self.file(reading, file), self.marks(marks));
-            let answer = Model.output(reading, &file, &marks, state, x, y);
-            let counts_on = self.has(Fault::ClockGoesOnFromWhatWasRead) && reading == 2;
+        fn output(&mut self, basis: Basis, state: &mut [u16], x: u8, y: u8) -> u64 {
+            let basis = self.seen(basis);
+            let answer = Model.output(basis.lent(), state, x, y);
+            let counts_on = self.has(Fault::ClockGoesOnFromWhatWasRead) && basis.reading == 2;
             if counts_on && refusal_in(answer) == 0 {
-                let policy = parse::check(&file).expect("it was read");
+                let policy = parse::check(&basis.file).expect("it was read");
                 for (clock, &ceiling) in state[1..].iter_mut().zip(&policy.ceilings) {
                     *clock += u16::from(0 < *clock && *clock < ceiling);
                 }
@@ -594,30 +535,20 @@ mod tests {
 
         fn run(
             &mut self,
-            reading: u8,
-            file: &[u8],
-            marks: &[u8],
+            basis: Basis,
             state: &mut [u16],
             events: &[u8],
             released: &mut [u8],
         ) -> u64 {
             if self.has(Fault::EventsCheckedBeforeState) {
-                let wrong = parse::check(file).is_ok_and(|policy| {
+                let wrong = parse::check(basis.file).is_ok_and(|policy| {
                     events.iter().any(|event| event & !policy.event_mask() != 0)
                 });
-                if wrong && Reading::named(reading).is_ok() {
+                if wrong && Reading::named(basis.reading).is_ok() {
                     return 15;
                 }
             }
-            let reading = self.reading(reading, file);
-            let answer = Model.run(
-                reading,
-                &self.file(reading, file),
-                &self.marks(marks),
-                state,
-                events,
-                released,
-            );
+            let answer = Model.run(self.seen(basis).lent(), state, events, released);
             if self.has(Fault::ForwardEverything) && answer as u8 == 0 {
                 released[..events.len()].copy_from_slice(events);
             }
@@ -685,6 +616,7 @@ mod tests {
             }
             answer
         }
+
         fn index(&mut self, file: &[u8], index: &mut [u16]) -> u64 {
             let answer = Model.index(file, index);
             if self.has(Fault::EmptyLocationFirstIsNone) && answer == 0 {
@@ -695,31 +627,21 @@ mod tests {
             answer
         }
 
-        fn input_indexed(
-            &mut self,
-            reading: u8,
-            file: &[u8],
-            index: &[u16],
-            marks: &[u8],
-            state: &[u16],
-            x: u8,
-        ) -> u64 {
-            let index = self.seen_index(file, index, marks, state);
-            Model.input_indexed(reading, file, &index, marks, state, x)
+        fn input_indexed(&mut self, basis: Basis, index: &[u16], state: &[u16], x: u8) -> u64 {
+            let index = self.seen_index(basis, index, state);
+            Model.input_indexed(basis, &index, state, x)
         }
 
         fn output_indexed(
             &mut self,
-            reading: u8,
-            file: &[u8],
+            basis: Basis,
             index: &[u16],
-            marks: &[u8],
             state: &mut [u16],
             x: u8,
             y: u8,
         ) -> u64 {
-            let index = self.seen_index(file, index, marks, state);
-            Model.output_indexed(reading, file, &index, marks, state, x, y)
+            let index = self.seen_index(basis, index, state);
+            Model.output_indexed(basis, &index, state, x, y)
         }
 
         fn bays_new(&mut self, states: &mut [u16]) -> u64 {
@@ -735,18 +657,10 @@ mod tests {
             answer
         }
 
-        fn bay_input(
-            &mut self,
-            reading: u8,
-            file: &[u8],
-            marks: &[u8],
-            states: &[u16],
-            bay: u32,
-            x: u8,
-        ) -> u64 {
+        fn bay_input(&mut self, basis: Basis, states: &[u16], bay: u32, x: u8) -> u64 {
             let bays = (states.len() / STATE_LENGTH) as u32;
             let early = self.has(Fault::BayBeforeMarks) && bay >= bays;
-            if early && Reading::named(reading).is_ok() && parse::check(file).is_ok() {
+            if early && enforce::read(basis).is_ok() {
                 return 24;
             }
             let bay = match self.fault {
@@ -754,20 +668,11 @@ mod tests {
                 Fault::BayIsTheCount if bay == bays && bays > 0 => bay - 1,
                 _ => bay,
             };
-            Model.bay_input(reading, file, marks, states, bay, x)
+            Model.bay_input(basis, states, bay, x)
         }
 
-        fn bay_output(
-            &mut self,
-            reading: u8,
-            file: &[u8],
-            marks: &[u8],
-            states: &mut [u16],
-            bay: u32,
-            x: u8,
-            y: u8,
-        ) -> u64 {
-            let answer = Model.bay_output(reading, file, marks, states, bay, x, y);
+        fn bay_output(&mut self, basis: Basis, states: &mut [u16], bay: u32, x: u8, y: u8) -> u64 {
+            let answer = Model.bay_output(basis, states, bay, x, y);
             if self.has(Fault::AllBaysMove) && refusal_in(answer) == 0 {
                 let own = bay as usize * STATE_LENGTH;
                 let state = states[own..own + STATE_LENGTH].to_vec();
@@ -786,48 +691,29 @@ mod tests {
             Model.meter_new(station, totals, register)
         }
 
-        fn meter_input(
-            &mut self,
-            reading: u8,
-            file: &[u8],
-            marks: &[u8],
-            station: &[u16],
-            register: u16,
-            x: u8,
-        ) -> u64 {
-            let answer = Model.meter_input(reading, file, marks, station, register, x);
+        fn meter_input(&mut self, basis: Basis, station: &[u16], register: u16, x: u8) -> u64 {
+            let answer = Model.meter_input(basis, station, register, x);
             if self.has(Fault::MarksBeforeMeterSignals) && answer == 26 {
-                let policy = parse::check(file).expect("it was read");
-                if (marks.len() as u64) < policy.states() {
+                let policy = parse::check(basis.file).expect("it was read");
+                if (basis.marks.len() as u64) < policy.states() {
                     return 10;
                 }
             }
             let quiet = station.last() == Some(&register);
             if self.has(Fault::PulseIsNotCleared) && refusal_in(answer) == 0 && quiet {
-                return Model.input(reading, file, marks, &station[..STATE_LENGTH], x);
+                return Model.input(basis, &station[..STATE_LENGTH], x);
             }
             answer
         }
 
-        fn meter_output(
-            &mut self,
-            reading: u8,
-            file: &[u8],
-            marks: &[u8],
-            station: &mut [u16],
-            totals: &mut [u32],
-            register: u16,
-            x: u8,
-            y: u8,
-        ) -> u64 {
+        fn meter_output(&mut self, basis: Basis, lent: Lent, register: u16, x: u8, y: u8) -> u64 {
+            let (station, totals) = lent;
             let last = station.last().copied().unwrap_or(0);
             let before = totals.to_vec();
-            let mut answer =
-                Model.meter_output(reading, file, marks, station, totals, register, x, y);
+            let mut answer = Model.meter_output(basis, (station, totals), register, x, y);
             if self.has(Fault::TotalsGoRound) && answer == 27 {
                 let mut none = [0; 2];
-                answer =
-                    Model.meter_output(reading, file, marks, station, &mut none, register, x, y);
+                answer = Model.meter_output(basis, (station, &mut none), register, x, y);
                 for (total, pulses) in totals.iter_mut().zip(none) {
                     *total = total.wrapping_add(pulses);
                 }
@@ -929,21 +815,13 @@ mod tests {
             }
         }
 
-        fn why(
-            &mut self,
-            reading: u8,
-            file: &[u8],
-            marks: &[u8],
-            state: &[u16],
-            x: u8,
-            y: u8,
-        ) -> u64 {
-            let answer = Model.why(reading, file, marks, state, x, y);
+        fn why(&mut self, basis: Basis, state: &[u16], x: u8, y: u8) -> u64 {
+            let answer = Model.why(basis, state, x, y);
             let (input, output) = (answer >> 8 & 0xFF, answer >> 32 & 0xFF);
             if refusal_in(answer) != 0 {
                 return match self.fault {
                     Fault::MarksAreNotChecked if answer == 20 => 0,
-                    Fault::MarksBeforeState if answer == 16 && marks.contains(&2) => 20,
+                    Fault::MarksBeforeState if answer == 16 && basis.marks.contains(&2) => 20,
                     _ => answer,
                 };
             }
@@ -951,7 +829,7 @@ mod tests {
                 Fault::OneTickMore if output == 3 => answer + (1 << 40),
                 Fault::RestsAsTicks if input == 4 => answer - (1 << 8),
                 Fault::RuleNumberInItsLocation if output == 1 => {
-                    let policy = parse::check(file).expect("it was read");
+                    let policy = parse::check(basis.file).expect("it was read");
                     let first = index::index_of(&policy)[2 * usize::from(state[0])];
                     answer - (u64::from(first) << 40)
                 }
@@ -1026,7 +904,7 @@ mod tests {
 
     #[test]
     fn every_fault_is_noticed() {
-        for fault in FAULTS {
+        for &fault in FAULTS {
             assert!(outcome(fault).is_err(), "{fault:?} went by");
         }
     }

@@ -1,13 +1,14 @@
 //! The functions under comparison, with their answers packed into one
 //! number, and the model as one maker of such answers.
 
+use crate::basis::Basis;
 use crate::bays;
 use crate::call::Work;
 use crate::clean;
 use crate::enforce;
 use crate::index;
 use crate::join;
-use crate::meter;
+use crate::meter::{self, Lent};
 use crate::refusal::Refusal;
 use crate::ticks::{self, Rounding};
 use crate::waves;
@@ -20,29 +21,13 @@ pub trait Engine {
     fn prepare(&mut self, reading: u8, file: &[u8], marks: &mut [u8]) -> u64;
 
     /// refusal | x' << 8
-    fn input(&mut self, reading: u8, file: &[u8], marks: &[u8], state: &[u16], x: u8) -> u64;
+    fn input(&mut self, basis: Basis, state: &[u16], x: u8) -> u64;
 
     /// refusal | y' << 8
-    fn output(
-        &mut self,
-        reading: u8,
-        file: &[u8],
-        marks: &[u8],
-        state: &mut [u16],
-        x: u8,
-        y: u8,
-    ) -> u64;
+    fn output(&mut self, basis: Basis, state: &mut [u16], x: u8, y: u8) -> u64;
 
     /// refusal | events released << 8
-    fn run(
-        &mut self,
-        reading: u8,
-        file: &[u8],
-        marks: &[u8],
-        state: &mut [u16],
-        events: &[u8],
-        released: &mut [u8],
-    ) -> u64;
+    fn run(&mut self, basis: Basis, state: &mut [u16], events: &[u8], released: &mut [u8]) -> u64;
 
     /// refusal | length << 8
     fn join(&mut self, a: &[u8], b: &[u8], out: &mut [u8]) -> u64;
@@ -60,24 +45,13 @@ pub trait Engine {
     fn index(&mut self, file: &[u8], index: &mut [u16]) -> u64;
 
     /// refusal | x' << 8
-    fn input_indexed(
-        &mut self,
-        reading: u8,
-        file: &[u8],
-        index: &[u16],
-        marks: &[u8],
-        state: &[u16],
-        x: u8,
-    ) -> u64;
+    fn input_indexed(&mut self, basis: Basis, index: &[u16], state: &[u16], x: u8) -> u64;
 
     /// refusal | y' << 8
-    #[allow(clippy::too_many_arguments)]
     fn output_indexed(
         &mut self,
-        reading: u8,
-        file: &[u8],
+        basis: Basis,
         index: &[u16],
-        marks: &[u8],
         state: &mut [u16],
         x: u8,
         y: u8,
@@ -87,56 +61,19 @@ pub trait Engine {
     fn bays_new(&mut self, states: &mut [u16]) -> u64;
 
     /// refusal | x' << 8
-    fn bay_input(
-        &mut self,
-        reading: u8,
-        file: &[u8],
-        marks: &[u8],
-        states: &[u16],
-        bay: u32,
-        x: u8,
-    ) -> u64;
+    fn bay_input(&mut self, basis: Basis, states: &[u16], bay: u32, x: u8) -> u64;
 
     /// refusal | y' << 8
-    #[allow(clippy::too_many_arguments)]
-    fn bay_output(
-        &mut self,
-        reading: u8,
-        file: &[u8],
-        marks: &[u8],
-        states: &mut [u16],
-        bay: u32,
-        x: u8,
-        y: u8,
-    ) -> u64;
+    fn bay_output(&mut self, basis: Basis, states: &mut [u16], bay: u32, x: u8, y: u8) -> u64;
 
     /// refusal
     fn meter_new(&mut self, station: &mut [u16], totals: &mut [u32], register: u16) -> u64;
 
     /// refusal | x' << 8
-    fn meter_input(
-        &mut self,
-        reading: u8,
-        file: &[u8],
-        marks: &[u8],
-        station: &[u16],
-        register: u16,
-        x: u8,
-    ) -> u64;
+    fn meter_input(&mut self, basis: Basis, station: &[u16], register: u16, x: u8) -> u64;
 
     /// refusal | y' << 8
-    #[allow(clippy::too_many_arguments)]
-    fn meter_output(
-        &mut self,
-        reading: u8,
-        file: &[u8],
-        marks: &[u8],
-        station: &mut [u16],
-        totals: &mut [u32],
-        register: u16,
-        x: u8,
-        y: u8,
-    ) -> u64;
+    fn meter_output(&mut self, basis: Basis, lent: Lent, register: u16, x: u8, y: u8) -> u64;
 
     /// As prepare. What the work slices hold afterwards is not said.
     fn prepare_fast(&mut self, reading: u8, file: &[u8], marks: &mut [u8], work: &mut Work) -> u64;
@@ -146,12 +83,20 @@ pub trait Engine {
 
     /// refusal | input's kind << 8 | its number << 16 | output's kind << 32 |
     /// its number << 40
-    fn why(&mut self, reading: u8, file: &[u8], marks: &[u8], state: &[u16], x: u8, y: u8) -> u64;
+    fn why(&mut self, basis: Basis, state: &[u16], x: u8, y: u8) -> u64;
 
     /// Whether, since this was last asked, a byte was changed that was not
     /// lent for writing.
     fn strayed(&mut self) -> bool {
         false
+    }
+
+    /// The same, as an error.
+    fn kept_to_what_was_lent(&mut self) -> Result<(), String> {
+        match self.strayed() {
+            true => Err("a byte not lent for writing was changed".to_string()),
+            false => Ok(()),
+        }
     }
 }
 
@@ -173,32 +118,16 @@ impl Engine for Model {
         prepared(enforce::prepare(reading, file, marks))
     }
 
-    fn input(&mut self, reading: u8, file: &[u8], marks: &[u8], state: &[u16], x: u8) -> u64 {
-        packed(enforce::input_half(reading, file, marks, state, x))
+    fn input(&mut self, basis: Basis, state: &[u16], x: u8) -> u64 {
+        packed(enforce::input_half(basis, state, x))
     }
 
-    fn output(
-        &mut self,
-        reading: u8,
-        file: &[u8],
-        marks: &[u8],
-        state: &mut [u16],
-        x: u8,
-        y: u8,
-    ) -> u64 {
-        packed(enforce::output_half(reading, file, marks, state, x, y))
+    fn output(&mut self, basis: Basis, state: &mut [u16], x: u8, y: u8) -> u64 {
+        packed(enforce::output_half(basis, state, x, y))
     }
 
-    fn run(
-        &mut self,
-        reading: u8,
-        file: &[u8],
-        marks: &[u8],
-        state: &mut [u16],
-        events: &[u8],
-        released: &mut [u8],
-    ) -> u64 {
-        let end = enforce::run(reading, file, marks, state, events, released);
+    fn run(&mut self, basis: Basis, state: &mut [u16], events: &[u8], released: &mut [u8]) -> u64 {
+        let end = enforce::run(basis, state, events, released);
         let refusal = end.refusal.map_or(0, Refusal::number);
         u64::from(refusal) | (end.released as u64) << 8
     }
@@ -222,97 +151,48 @@ impl Engine for Model {
     fn wave_read(&mut self, file: &[u8], text: &[u8], events: &mut [u8]) -> u64 {
         packed(waves::read(file, text, events).map(|count| count as u64))
     }
+
     fn index(&mut self, file: &[u8], lent: &mut [u16]) -> u64 {
         done(index::index(file, lent))
     }
 
-    fn input_indexed(
-        &mut self,
-        reading: u8,
-        file: &[u8],
-        lent: &[u16],
-        marks: &[u8],
-        state: &[u16],
-        x: u8,
-    ) -> u64 {
-        packed(index::input_half(reading, file, lent, marks, state, x))
+    fn input_indexed(&mut self, basis: Basis, lent: &[u16], state: &[u16], x: u8) -> u64 {
+        packed(index::input_half(basis, lent, state, x))
     }
 
     fn output_indexed(
         &mut self,
-        reading: u8,
-        file: &[u8],
+        basis: Basis,
         lent: &[u16],
-        marks: &[u8],
         state: &mut [u16],
         x: u8,
         y: u8,
     ) -> u64 {
-        packed(index::output_half(reading, file, lent, marks, state, x, y))
+        packed(index::output_half(basis, lent, state, x, y))
     }
 
     fn bays_new(&mut self, states: &mut [u16]) -> u64 {
         done(bays::new(states))
     }
 
-    fn bay_input(
-        &mut self,
-        reading: u8,
-        file: &[u8],
-        marks: &[u8],
-        states: &[u16],
-        bay: u32,
-        x: u8,
-    ) -> u64 {
-        packed(bays::input_half(reading, file, marks, states, bay, x))
+    fn bay_input(&mut self, basis: Basis, states: &[u16], bay: u32, x: u8) -> u64 {
+        packed(bays::input_half(basis, states, bay, x))
     }
 
-    fn bay_output(
-        &mut self,
-        reading: u8,
-        file: &[u8],
-        marks: &[u8],
-        states: &mut [u16],
-        bay: u32,
-        x: u8,
-        y: u8,
-    ) -> u64 {
-        packed(bays::output_half(reading, file, marks, states, bay, x, y))
+    fn bay_output(&mut self, basis: Basis, states: &mut [u16], bay: u32, x: u8, y: u8) -> u64 {
+        packed(bays::output_half(basis, states, bay, x, y))
     }
 
     fn meter_new(&mut self, station: &mut [u16], totals: &mut [u32], register: u16) -> u64 {
         done(meter::new(station, totals, register))
     }
 
-    fn meter_input(
-        &mut self,
-        reading: u8,
-        file: &[u8],
-        marks: &[u8],
-        station: &[u16],
-        register: u16,
-        x: u8,
-    ) -> u64 {
-        packed(meter::input_half(
-            reading, file, marks, station, register, x,
-        ))
+    fn meter_input(&mut self, basis: Basis, station: &[u16], register: u16, x: u8) -> u64 {
+        packed(meter::input_half(basis, station, register, x))
     }
 
-    fn meter_output(
-        &mut self,
-        reading: u8,
-        file: &[u8],
-        marks: &[u8],
-        station: &mut [u16],
-        totals: &mut [u32],
-        register: u16,
-        x: u8,
-        y: u8,
-    ) -> u64 {
-        let lent = meter::Lent { station, totals };
-        packed(meter::output_half(
-            reading, file, marks, lent, register, x, y,
-        ))
+    fn meter_output(&mut self, basis: Basis, lent: Lent, register: u16, x: u8, y: u8) -> u64 {
+        packed(meter::output_half(basis, lent, register, x, y))
     }
 
     fn prepare_fast(&mut self, reading: u8, file: &[u8], marks: &mut [u8], work: &mut Work) -> u64 {
@@ -327,8 +207,8 @@ impl Engine for Model {
         }
     }
 
-    fn why(&mut self, reading: u8, file: &[u8], marks: &[u8], state: &[u16], x: u8, y: u8) -> u64 {
-        match why::why(reading, file, marks, state, x, y) {
+    fn why(&mut self, basis: Basis, state: &[u16], x: u8, y: u8) -> u64 {
+        match why::why(basis, state, x, y) {
             Ok(reasons) => {
                 let [input, output] = reasons.map(|reason| reason.kind() | reason.number() << 8);
                 input << 8 | output << 32

@@ -1,10 +1,10 @@
 //! The rule index: for each location the number of its first rule and how many
 //! rules it has.
 
+use crate::basis::Basis;
 use crate::enforce;
 use crate::parse;
 use crate::policy::{Policy, MAX_LOCATIONS};
-use crate::reading::Reading;
 use crate::refusal::Refusal;
 
 /// Two numbers for each location that there can be.
@@ -34,36 +34,26 @@ pub fn index(file: &[u8], index: &mut [u16]) -> Result<(), Refusal> {
 }
 
 /// The input half; an index that is not that of the file is refused.
-pub fn input_half(
-    reading: u8,
-    file: &[u8],
-    index: &[u16],
-    marks: &[u8],
-    state: &[u16],
-    x: u8,
-) -> Result<u8, Refusal> {
-    check_index(reading, file, index)?;
-    enforce::input_half(reading, file, marks, state, x)
+pub fn input_half(basis: Basis, index: &[u16], state: &[u16], x: u8) -> Result<u8, Refusal> {
+    check_index(basis, index)?;
+    enforce::input_half(basis, state, x)
 }
 
 /// The output half likewise.
 pub fn output_half(
-    reading: u8,
-    file: &[u8],
+    basis: Basis,
     index: &[u16],
-    marks: &[u8],
     state: &mut [u16],
     x: u8,
     y: u8,
 ) -> Result<u8, Refusal> {
-    check_index(reading, file, index)?;
-    enforce::output_half(reading, file, marks, state, x, y)
+    check_index(basis, index)?;
+    enforce::output_half(basis, state, x, y)
 }
 
 /// 22 and 1 to 9 come before 28, and all others after it.
-fn check_index(reading: u8, file: &[u8], index: &[u16]) -> Result<(), Refusal> {
-    Reading::named(reading)?;
-    let policy = parse::check(file)?;
+fn check_index(basis: Basis, index: &[u16]) -> Result<(), Refusal> {
+    let (_, policy) = enforce::read(basis)?;
     match *index == index_of(&policy) {
         true => Ok(()),
         false => Err(Refusal::WrongIndex),

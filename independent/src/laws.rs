@@ -5,6 +5,7 @@
 //! passes every part's enforcer without an edit. All of a case is read in the
 //! same way; the bytes of a join carry no reading.
 
+use crate::basis::Basis;
 use crate::call::hex;
 use crate::engine::{found_in, refusal_in, Engine};
 use crate::events::RuleBook;
@@ -117,10 +118,8 @@ pub fn examine(
         findings: Vec::new(),
     };
     examination.all()?;
-    match examination.engine.strayed() {
-        true => Err("a byte not lent for writing was changed".to_string()),
-        false => Ok(examination.findings),
-    }
+    examination.engine.kept_to_what_was_lent()?;
+    Ok(examination.findings)
 }
 
 struct Examination<'a> {
@@ -275,10 +274,8 @@ impl Examination<'_> {
     fn run(&mut self, file: &[u8], marks: &[u8], events: &[u8]) -> Result<Behaviour, String> {
         let mut state = [0; STATE_LENGTH];
         let mut stream = vec![0xEE; events.len()];
-        let reading = self.reading();
-        let answer = self
-            .engine
-            .run(reading, file, marks, &mut state, events, &mut stream);
+        let basis = Basis::new(self.reading(), file, marks);
+        let answer = self.engine.run(basis, &mut state, events, &mut stream);
         if answer != (events.len() as u64) << 8 {
             return Err(format!(
                 "run: with the marks of prepare it answers {answer:#x}"
@@ -321,15 +318,13 @@ impl Examination<'_> {
     }
 
     fn by_halves(&mut self, file: &[u8], marks: &[u8]) -> Result<Behaviour, String> {
+        let basis = Basis::new(self.reading(), file, marks);
         let mut state = [0; STATE_LENGTH];
         let mut stream = Vec::new();
         for event in &self.case.events {
-            let (reading, wanted) = (self.reading(), event >> 4);
-            let input = self.engine.input(reading, file, marks, &state, event & 15);
+            let input = self.engine.input(basis, &state, event & 15);
             let x = found_in(input) as u8;
-            let output = self
-                .engine
-                .output(reading, file, marks, &mut state, x, wanted);
+            let output = self.engine.output(basis, &mut state, x, event >> 4);
             if refusal_in(input) != 0 || refusal_in(output) != 0 {
                 return Err(format!("halves: they answer {input:#x} and {output:#x}"));
             }

@@ -1,5 +1,6 @@
 //! An independent reading of the policy paper, to check the library against.
 
+mod basis;
 mod bays;
 mod call;
 mod cases;

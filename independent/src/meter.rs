@@ -1,14 +1,15 @@
 //! The meter on top of a station: pulses, the input P, and two totals.
 
+use crate::basis::Basis;
+use crate::bays::passed;
 use crate::call::hex;
 use crate::enforce;
 use crate::engine::{found_in, refusal_in, Engine};
 use crate::moment::STATE_LENGTH;
-use crate::parse;
 use crate::policies::{self, Size};
 use crate::policy::Policy;
 use crate::random::Random;
-use crate::reading::{Reading, READINGS};
+use crate::reading::READINGS;
 use crate::refusal::Refusal;
 use crate::subject::{some_value, Subject};
 
@@ -17,11 +18,8 @@ pub const STATION_LENGTH: usize = STATE_LENGTH + 1;
 /// How many totals there are: billed, unbilled.
 pub const TOTALS: usize = 2;
 
-/// What a tick may change.
-pub struct Lent<'a> {
-    pub station: &'a mut [u16],
-    pub totals: &'a mut [u32],
-}
+/// What a tick may change: the station and the totals.
+pub type Lent<'a> = (&'a mut [u16], &'a mut [u32]);
 
 /// "The first reading is given when the totals are set up, both at 0."
 pub fn new(station: &mut [u16], totals: &mut [u32], register: u16) -> Result<(), Refusal> {
@@ -41,11 +39,10 @@ struct Wires {
 }
 
 /// 22, 1 to 9, 26 and 10: what comes before the station is looked at.
-fn wires(reading: u8, file: &[u8], marks: &[u8]) -> Result<Wires, Refusal> {
-    Reading::named(reading)?;
-    let policy = parse::check(file)?;
+fn wires(basis: Basis) -> Result<Wires, Refusal> {
+    let (_, policy) = enforce::read(basis)?;
     let wires = wires_of(&policy).ok_or(Refusal::NoMeterSignals)?;
-    enforce::check_mark_slice(&policy, marks)?;
+    enforce::check_mark_slice(&policy, basis.marks)?;
     Ok(wires)
 }
 
@@ -70,21 +67,14 @@ fn pulses(last: u16, register: u16) -> u32 {
 }
 
 /// "Input tag P is set, before the input half, exactly when pulses is not 0."
-pub fn input_half(
-    reading: u8,
-    file: &[u8],
-    marks: &[u8],
-    station: &[u16],
-    register: u16,
-    x: u8,
-) -> Result<u8, Refusal> {
-    let wires = wires(reading, file, marks)?;
+pub fn input_half(basis: Basis, station: &[u16], register: u16, x: u8) -> Result<u8, Refusal> {
+    let wires = wires(basis)?;
     let (state, last) = parted(station)?;
     let x = match pulses(last, register) {
         0 => x & !wires.pulse,
         _ => x | wires.pulse,
     };
-    enforce::input_half(reading, file, marks, state, x)
+    enforce::input_half(basis, state, x)
 }
 
 /// The state and the last register; a station that is not six numbers has no
@@ -99,26 +89,24 @@ fn parted(station: &[u16]) -> Result<(&[u16], u16), Refusal> {
 /// "The billed total rises by the pulses whenever the released output with tag
 /// D is on; the others go into an unbilled total." A refusal changes nothing.
 pub fn output_half(
-    reading: u8,
-    file: &[u8],
-    marks: &[u8],
-    lent: Lent,
+    basis: Basis,
+    (station, totals): Lent,
     register: u16,
     x: u8,
     y: u8,
 ) -> Result<u8, Refusal> {
-    let wires = wires(reading, file, marks)?;
-    if lent.totals.len() != TOTALS {
+    let wires = wires(basis)?;
+    if totals.len() != TOTALS {
         return Err(Refusal::SliceTooShort);
     }
-    let (state, last) = parted(lent.station)?;
+    let (state, last) = parted(station)?;
     let mut next = state.to_vec();
-    let released = enforce::output_half(reading, file, marks, &mut next, x, y)?;
-    let total = &mut lent.totals[usize::from(released & wires.delivery == 0)];
+    let released = enforce::output_half(basis, &mut next, x, y)?;
+    let total = &mut totals[usize::from(released & wires.delivery == 0)];
     let risen = u64::from(*total) + u64::from(pulses(last, register));
     *total = u32::try_from(risen).map_err(|_| Refusal::TotalTooLarge)?;
     next.push(register);
-    lent.station.copy_from_slice(&next);
+    station.copy_from_slice(&next);
     Ok(released)
 }
 
@@ -230,7 +218,8 @@ pub fn examine(
     transfer: &Transfer,
     tally: &mut MeterTally,
 ) -> Result<(), String> {
-    let (reading, file, marks) = (transfer.reading, transfer.policy.encode(), &transfer.marks);
+    let file = transfer.policy.encode();
+    let basis = Basis::new(transfer.reading, &file, &transfer.marks);
     let wires = wires_of(&transfer.policy).expect("it has both");
     let (mut station, mut totals) = (vec![0xEEEE; STATION_LENGTH], vec![7; TOTALS]);
     if engine.meter_new(&mut station, &mut totals, transfer.first) != 0 {
@@ -252,25 +241,14 @@ pub fn examine(
             true => wanted.x & !wires.pulse,
             false => wanted.x | wires.pulse,
         };
-        let input = engine.meter_input(reading, &file, marks, &station, register, wanted.x);
-        if input != engine.input(reading, &file, marks, &plain, seen) {
+        let input = engine.meter_input(basis, &station, register, wanted.x);
+        if input != engine.input(basis, &plain, seen) {
             return Err(format!("P: {wanted:?} answers {input:#x}"));
         }
-        let x = match refusal_in(input) {
-            0 => found_in(input) as u8,
-            _ => wanted.x,
-        };
-        let output = engine.meter_output(
-            reading,
-            &file,
-            marks,
-            &mut station,
-            &mut totals,
-            register,
-            x,
-            wanted.y,
-        );
-        if output != engine.output(reading, &file, marks, &mut plain, x, wanted.y) {
+        let x = passed(input, wanted.x);
+        let lent = (&mut station[..], &mut totals[..]);
+        let output = engine.meter_output(basis, lent, register, x, wanted.y);
+        if output != engine.output(basis, &mut plain, x, wanted.y) {
             return Err(format!("output: {wanted:?} answers {output:#x}"));
         }
         tally.ticks += 1;
@@ -299,10 +277,7 @@ pub fn examine(
     tally.transfers += 1;
     tally.billed += billed;
     tally.unbilled += accepted - first - billed;
-    match engine.strayed() {
-        true => Err("a byte not lent for writing was changed".to_string()),
-        false => Ok(()),
-    }
+    engine.kept_to_what_was_lent()
 }
 
 #[cfg(test)]

@@ -1,6 +1,7 @@
 //! What the programs `enforce`, `wave` and `why` print for an input, by the paper, and
 //! a comparison of a program with that on random inputs.
 
+use crate::basis::Basis;
 use crate::call::hex;
 use crate::damage;
 use crate::enforce::{self, Prepared};
@@ -78,14 +79,8 @@ impl Ran<'_> {
         }
         let mut released = vec![0; events.len()];
         let mut state = [0; STATE_LENGTH];
-        let end = enforce::run(
-            READING.number(),
-            file,
-            &marks,
-            &mut state,
-            events,
-            &mut released,
-        );
+        let basis = Basis::new(READING.number(), file, &marks);
+        let end = enforce::run(basis, &mut state, events, &mut released);
         match end.refusal {
             Some(refusal) => Err(refusal),
             None => Ok(Ran {
@@ -96,6 +91,10 @@ impl Ran<'_> {
                 released,
             }),
         }
+    }
+
+    fn basis(&self) -> Basis<'_> {
+        Basis::new(READING.number(), self.file, &self.marks)
     }
 
     fn lines(&self) -> String {
@@ -140,29 +139,14 @@ impl Ran<'_> {
                 }
             }
             // What is released is kept as it is, and moves the state.
-            enforce::output_half(
-                READING.number(),
-                self.file,
-                &self.marks,
-                &mut state,
-                out % 16,
-                out / 16,
-            )
-            .expect("it was released");
+            enforce::output_half(self.basis(), &mut state, out % 16, out / 16)
+                .expect("it was released");
         }
         text
     }
 
     fn reasons(&self, state: &[u16], event: u8) -> [Reason; 2] {
-        why::why(
-            READING.number(),
-            self.file,
-            &self.marks,
-            state,
-            event % 16,
-            event / 16,
-        )
-        .expect("a run goes on from it")
+        why::why(self.basis(), state, event % 16, event / 16).expect("a run goes on from it")
     }
 
     fn wave(&self) -> String {

@@ -1,7 +1,7 @@
 //! Calls and their outcomes as a file that a program without a heap can read
 //! from beginning to end. The README describes the format.
 
-use crate::call::{Call, Given, Outcome, FUNCTIONS};
+use crate::call::{Call, Given, Outcome, Place, FUNCTIONS};
 use crate::cases;
 use crate::engine::{refusal_in, Engine, Model};
 use crate::refusal::LAST_REFUSAL;
@@ -79,6 +79,7 @@ fn strings_fit(call: &Call) -> bool {
         Given::Policy(bytes) => bytes.len() <= LONGEST_POLICY,
         Given::Bytes(bytes) => bytes.len() <= LONGEST_STRING,
         Given::Numbers(numbers) => numbers.len() <= LONGEST_NUMBERS,
+        Given::Work(work) => work.iter().all(|slice| slice.len() <= LONGEST_NUMBERS),
         Given::Totals(totals) => totals.len() <= LONGEST_TOTALS,
         Given::Byte(_) | Given::Pair(_) | Given::Word(_) => true,
     })
@@ -97,12 +98,13 @@ fn body(call: &Call, outcome: &Outcome) -> Vec<u8> {
     let mut body = Vec::new();
     for (_, given) in call.given() {
         match given {
-            Given::Byte(byte) => body.push(byte),
+            Given::Byte(byte) => body.push(*byte),
             Given::Pair(pair) => body.extend(pair.to_be_bytes()),
-            Given::Word(word) => put_number(&mut body, word as usize),
+            Given::Word(word) => put_number(&mut body, *word as usize),
             Given::Policy(bytes) | Given::Bytes(bytes) => put_string(&mut body, bytes),
             Given::Numbers(numbers) => put_numbers(&mut body, numbers),
             Given::Totals(totals) => put_totals(&mut body, totals),
+            Given::Work(work) => work.iter().for_each(|slice| put_numbers(&mut body, slice)),
         }
     }
     body.extend(outcome.answer.to_be_bytes());
@@ -246,147 +248,24 @@ impl<'a> Reader<'a> {
     }
 
     fn call(&mut self, kind: u8) -> Result<Call, String> {
-        Ok(match kind {
-            1 => Call::Prepare {
-                reading: self.byte()?,
-                file: self.string()?,
-                marks: self.string()?,
-            },
-            2 => Call::Input {
-                reading: self.byte()?,
-                file: self.string()?,
-                marks: self.string()?,
-                state: self.numbers()?,
-                x: self.byte()?,
-            },
-            3 => Call::Output {
-                reading: self.byte()?,
-                file: self.string()?,
-                marks: self.string()?,
-                state: self.numbers()?,
-                x: self.byte()?,
-                y: self.byte()?,
-            },
-            4 => Call::Run {
-                reading: self.byte()?,
-                file: self.string()?,
-                marks: self.string()?,
-                state: self.numbers()?,
-                events: self.string()?,
-                released: self.string()?,
-            },
-            5 => Call::Join {
-                a: self.string()?,
-                b: self.string()?,
-                out: self.string()?,
-            },
-            6 => Call::Ticks {
-                milliseconds: self.number(4)? as u32,
-                tick_length: self.number(4)? as u32,
-                up: self.byte()?,
-            },
-            7 => Call::WaveWrite {
-                file: self.string()?,
-                events: self.string()?,
-                text: self.string()?,
-            },
-            8 => Call::WaveRead {
-                file: self.string()?,
-                text: self.string()?,
-                events: self.string()?,
-            },
-            9 => Call::Index {
-                file: self.string()?,
-                index: self.numbers()?,
-            },
-            10 => Call::InputIndexed {
-                reading: self.byte()?,
-                file: self.string()?,
-                marks: self.string()?,
-                state: self.numbers()?,
-                index: self.numbers()?,
-                x: self.byte()?,
-            },
-            11 => Call::OutputIndexed {
-                reading: self.byte()?,
-                file: self.string()?,
-                marks: self.string()?,
-                state: self.numbers()?,
-                index: self.numbers()?,
-                x: self.byte()?,
-                y: self.byte()?,
-            },
-            12 => Call::BaysNew {
-                states: self.numbers()?,
-            },
-            13 => Call::BayInput {
-                reading: self.byte()?,
-                file: self.string()?,
-                marks: self.string()?,
-                states: self.numbers()?,
-                bay: self.number(4)? as u32,
-                x: self.byte()?,
-            },
-            14 => Call::BayOutput {
-                reading: self.byte()?,
-                file: self.string()?,
-                marks: self.string()?,
-                states: self.numbers()?,
-                bay: self.number(4)? as u32,
-                x: self.byte()?,
-                y: self.byte()?,
-            },
-            15 => Call::MeterNew {
-                station: self.numbers()?,
-                totals: self.totals()?,
-                register: self.number(2)? as u16,
-            },
-            16 => Call::MeterInput {
-                reading: self.byte()?,
-                file: self.string()?,
-                marks: self.string()?,
-                station: self.numbers()?,
-                register: self.number(2)? as u16,
-                x: self.byte()?,
-            },
-            17 => Call::MeterOutput {
-                reading: self.byte()?,
-                file: self.string()?,
-                marks: self.string()?,
-                station: self.numbers()?,
-                totals: self.totals()?,
-                register: self.number(2)? as u16,
-                x: self.byte()?,
-                y: self.byte()?,
-            },
-            18 => Call::PrepareFast {
-                reading: self.byte()?,
-                file: self.string()?,
-                marks: self.string()?,
-                work: [
-                    self.numbers()?,
-                    self.numbers()?,
-                    self.numbers()?,
-                    self.numbers()?,
-                    self.numbers()?,
-                ],
-            },
-            19 => Call::Clean {
-                reading: self.byte()?,
-                file: self.string()?,
-                cleaned: self.string()?,
-                struck: self.string()?,
-            },
-            20 => Call::Why {
-                reading: self.byte()?,
-                file: self.string()?,
-                marks: self.string()?,
-                state: self.numbers()?,
-                x: self.byte()?,
-                y: self.byte()?,
-            },
-            _ => return Err(BROKEN.to_string()),
-        })
+        let blank = usize::from(kind).checked_sub(1).and_then(Call::blank);
+        let mut call = blank.ok_or(BROKEN)?;
+        for place in call.places() {
+            match place {
+                Place::Byte(byte) => *byte = self.byte()?,
+                Place::Pair(pair) => *pair = self.number(2)? as u16,
+                Place::Word(word) => *word = self.number(4)? as u32,
+                Place::Policy(bytes) | Place::Bytes(bytes) => *bytes = self.string()?,
+                Place::Numbers(numbers) => *numbers = self.numbers()?,
+                Place::Totals(totals) => *totals = self.totals()?,
+                Place::Work(work) => {
+                    for numbers in work {
+                        *numbers = self.numbers()?;
+                    }
+                }
+            }
+        }
+        Ok(call)
     }
 
     fn outcome(&mut self, kind: usize) -> Result<Outcome, String> {

@@ -1,9 +1,9 @@
 //! Why a half of an event was edited.
 
+use crate::basis::Basis;
 use crate::enforce::{self, Enforcer};
 use crate::graph::{Futures, Graph};
 use crate::moment::Moment;
-use crate::parse;
 use crate::policy::{Policy, Rule};
 use crate::reading::Reading;
 use crate::refusal::Refusal;
@@ -84,21 +84,13 @@ impl Tables<'_> {
 
 /// The reasons for the input and for the output. The output is judged with the
 /// input that was passed on.
-pub fn why(
-    reading: u8,
-    file: &[u8],
-    marks: &[u8],
-    state: &[u16],
-    x: u8,
-    y: u8,
-) -> Result<[Reason; 2], Refusal> {
-    let reading = Reading::named(reading)?;
-    let policy = parse::check(file)?;
-    let enforcer = Enforcer::new(&policy, reading, marks)?;
+pub fn why(basis: Basis, state: &[u16], x: u8, y: u8) -> Result<[Reason; 2], Refusal> {
+    let (reading, policy) = enforce::read(basis)?;
+    let enforcer = Enforcer::new(&policy, reading, basis.marks)?;
     let moment = enforcer.read_state(state)?;
     let graph = Graph::new(&policy, reading);
     let right = graph.liveness().marks();
-    if marks[..right.len()] != right {
+    if basis.marks[..right.len()] != right {
         return Err(Refusal::WrongMarks);
     }
     enforce::check_bits(x, policy.input_mask())?;
@@ -231,7 +223,8 @@ mod tests {
                     random.byte() & policy.input_mask(),
                     random.byte() & policy.output_mask(),
                 );
-                let found = why(reading.number(), &policy.encode(), &marks, &state, x, y);
+                let file = policy.encode();
+                let found = why(Basis::new(reading.number(), &file, &marks), &state, x, y);
                 let reasons = found.expect("nothing is wrong");
                 let (passed, released, _) = enforcer.correct_one(&moment, x, y).expect("live");
                 let expected = [

@@ -24,97 +24,62 @@ fn moments(ready: &Ready, events: &[u8]) -> Vec<Moment> {
         .collect()
 }
 
-/// Calls of the input half at moments of a run. A unit is a call.
-pub struct InputWork {
-    ready: Ready,
-    moments: Vec<Moment>,
-    answers: Vec<u64>,
+#[derive(Clone, Copy)]
+enum Half {
+    Input,
+    Output,
 }
 
-impl InputWork {
-    pub fn new(ready: Ready, events: &[u8]) -> InputWork {
-        InputWork {
-            moments: moments(&ready, events),
-            answers: vec![0; events.len()],
-            ready,
-        }
-    }
-
-    /// Calls at the first moments only.
-    pub fn call_first(&mut self, engine: &dyn Engine, count: usize) {
-        let Ready {
-            reading,
-            file,
-            marks,
-        } = &self.ready;
-        for (moment, answer) in self.moments[..count].iter().zip(&mut self.answers) {
-            *answer = engine.input(*reading, file, marks, &moment.state, moment.x);
-        }
-    }
-}
-
-impl Work for InputWork {
-    fn units(&self) -> usize {
-        self.moments.len()
-    }
-
-    fn pass(&mut self, engine: &dyn Engine) {
-        self.call_first(engine, self.moments.len());
-    }
-
-    fn spoil(&mut self) {
-        self.answers.fill(FILLER.into());
-    }
-
-    fn outcome(&self) -> Outcome {
-        Outcome {
-            answers: self.answers.clone(),
-            bytes: vec![],
-            states: vec![],
-        }
-    }
-}
-
-/// Calls of the output half at moments of a run, each with the input that
-/// the input half passes on there. A unit is a call.
-pub struct OutputWork {
+/// Calls of one half at moments of a run. A unit is a call.
+pub struct HalfWork {
+    half: Half,
     ready: Ready,
     moments: Vec<Moment>,
     answers: Vec<u64>,
     states: Vec<State>,
 }
 
-impl OutputWork {
-    pub fn new(ready: Ready, events: &[u8]) -> OutputWork {
+impl HalfWork {
+    pub fn input(ready: Ready, events: &[u8]) -> HalfWork {
+        let moments = moments(&ready, events);
+        HalfWork::new(Half::Input, ready, moments)
+    }
+
+    /// Each call has the input that the input half passes on there.
+    pub fn output(ready: Ready, events: &[u8]) -> HalfWork {
         let passed_on = ready.corrected(events);
         let mut moments = moments(&ready, events);
         for (moment, event) in moments.iter_mut().zip(passed_on) {
             moment.x = event & 15;
         }
-        OutputWork {
+        HalfWork::new(Half::Output, ready, moments)
+    }
+
+    fn new(half: Half, ready: Ready, moments: Vec<Moment>) -> HalfWork {
+        HalfWork {
+            half,
             ready,
+            answers: vec![0; moments.len()],
+            states: vec![START; moments.len()],
             moments,
-            answers: vec![0; events.len()],
-            states: vec![START; events.len()],
         }
     }
 
     /// Calls at the first moments only.
     pub fn call_first(&mut self, engine: &dyn Engine, count: usize) {
-        let Ready {
-            reading,
-            file,
-            marks,
-        } = &self.ready;
+        let basis = self.ready.basis();
         let lent = self.answers.iter_mut().zip(&mut self.states);
         for (moment, (answer, state)) in self.moments[..count].iter().zip(lent) {
             *state = moment.state;
-            *answer = engine.output(*reading, file, marks, state, moment.x, moment.y);
+            *answer = match self.half {
+                Half::Input => engine.input(basis, state, moment.x),
+                Half::Output => engine.output(basis, state, moment.x, moment.y),
+            };
         }
     }
 }
 
-impl Work for OutputWork {
+impl Work for HalfWork {
     fn units(&self) -> usize {
         self.moments.len()
     }

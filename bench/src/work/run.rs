@@ -28,9 +28,7 @@ impl RunWork {
     pub fn run_first(&mut self, engine: &dyn Engine, count: usize) -> u64 {
         self.state = START;
         self.answer = engine.run(
-            self.ready.reading,
-            &self.ready.file,
-            &self.ready.marks,
+            self.ready.basis(),
             &mut self.state,
             &self.events[..count],
             &mut self.released[..count],
