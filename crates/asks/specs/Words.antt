@@ -40,7 +40,7 @@ bounds n (b ∷ bs) = bound n (b .low) (b .high) ++ bounds (n + 1) bs
 unfoldable pub location : ℕ → List ℕ
 location n = ascii "at location " ++ decimal n
 
--- "A rule whose source is the location, whose care bits agree with x and y, and whose bounds hold": these, in this order.
+-- A rule "whose source is the location, whose care bits agree with x and y, and whose bounds hold": these, in this order.
 unfoldable pub asks : (inputs outputs : List ℕ) → Rule → List ℕ
 asks inputs outputs r =
     location (r .source) ++ cared inputs outputs (r .inCare) (r .inValue) (r .outCare) (r .outValue) ++ bounds 0 (r .bounds)

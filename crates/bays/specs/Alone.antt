@@ -8,12 +8,12 @@ use lib.Dec.{ltb, eqb}
 use lib.ListN.{length}
 use borrow.Author.Tests.{ltb-true, ltb-false, eqb-true, eqb-false}
 use Rattle.streams.specs.Answer.{Answer, refused}
-use Rattle.policy.specs.Rules.{Place}
 use Rattle.bays.specs.Five.{stateWords, stateIn, words-back}
 use Rattle.bays.specs.Bays.{baysIn, bayCount, numbersOf, bayState}
 use Rattle.bays.specs.Entries.{BayAnswer, noBay}
 use Rattle.bays.specs.Parts.{fits, is-bay, numbers-five, same-list}
 use Rattle.bays.specs.Halves.{Half, oneHalf, bayHalf, half-none, half-answer, half-state, others-stay, length-stays, depends-alone}
+use Rattle.enforcer.specs.declared.state.State.{State}
 
 -- "A tick names its bay": a half of one, with the bay.
 pub record Call : Type 0 where
@@ -55,11 +55,11 @@ module _ (reading : ℕ) (file marks : List ℕ) where
   left states (c ∷ cs) = left (after states c) cs
 
   -- What a station with one state is answered, and the state that it is left with.
-  unfoldable pub repliesAlone : Place → List Half → List Reply
+  unfoldable pub repliesAlone : State → List Half → List Reply
   repliesAlone s [] = []
   repliesAlone s (h ∷ hs) = record { half = h; answer = oneHalf reading file marks s h .answer } ∷ repliesAlone (oneHalf reading file marks s h .state) hs
 
-  unfoldable pub leftAlone : Place → List Half → Place
+  unfoldable pub leftAlone : State → List Half → State
   leftAlone s [] = s
   leftAlone s (h ∷ hs) = leftAlone (oneHalf reading file marks s h .state) hs
 
@@ -96,8 +96,8 @@ module _ (reading : ℕ) (file marks : List ℕ) where
             replied =
                 rw e
                 (ap₂ {C = List Reply} _∷_ (ap (λ (a : Answer ℕ). record { half = c .half; answer = a }) answer)
-                (h .replied ∙ ap (λ (s : Place). repliesAlone s (callsOf bay cs)) state));
-            state = rw e (h .state ∙ ap (λ (s : Place). leftAlone s (callsOf bay cs)) state);
+                (h .replied ∙ ap (λ (s : State). repliesAlone s (callsOf bay cs)) state));
+            state = rw e (h .state ∙ ap (λ (s : State). leftAlone s (callsOf bay cs)) state);
           }
       go h false e =
           let apart = eqb-false (c .bay) bay e in
@@ -105,8 +105,8 @@ module _ (reading : ℕ) (file marks : List ℕ) where
           ap stateIn (others-stay reading file marks states (c .bay) (c .half) bay (λ q. apart (sym q)))
           in
           record {
-            replied = rw e (h .replied ∙ ap (λ (s : Place). repliesAlone s (callsOf bay cs)) stays);
-            state = rw e (h .state ∙ ap (λ (s : Place). leftAlone s (callsOf bay cs)) stays);
+            replied = rw e (h .replied ∙ ap (λ (s : State). repliesAlone s (callsOf bay cs)) stays);
+            state = rw e (h .state ∙ ap (λ (s : State). leftAlone s (callsOf bay cs)) stays);
           }
 
   -- A bay that is not there is refused, whatever the others do.

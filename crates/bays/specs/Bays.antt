@@ -5,8 +5,8 @@ use mathlib.Core.List.{List, _++_}
 use Prim.Native.Nat.{ℕ, _+_, _*_, _/_, _%_}
 use lib.Dec.{leb, eqb}
 use lib.ListN.{length, take, drop}
-use Rattle.policy.specs.Rules.{Place}
 use Rattle.bays.specs.Five.{stateWords, stateIn}
+use Rattle.enforcer.specs.declared.state.State.{State}
 
 -- How many bays so many numbers are. Numbers that are not five for each of 1 to 8 bays hold no bay.
 unfoldable pub baysIn : ℕ → ℕ
@@ -19,9 +19,9 @@ bayCount states = baysIn (length states)
 abbrev pub numbersOf : List ℕ → ℕ → List ℕ
 numbersOf states bay = take 5 (drop (bay * 5) states)
 
-abbrev pub bayState : List ℕ → ℕ → Place
+abbrev pub bayState : List ℕ → ℕ → State
 bayState states bay = stateIn (numbersOf states bay)
 
 -- The list with the state s for the bay.
-abbrev pub withState : List ℕ → ℕ → Place → List ℕ
+abbrev pub withState : List ℕ → ℕ → State → List ℕ
 withState states bay s = take (bay * 5) states ++ (stateWords s ++ drop (bay * 5 + 5) states)

@@ -5,15 +5,15 @@ use Prim.Native.Nat.{ℕ}
 use native.Mathlib.Omega.{arith}
 use lib.ListN.{length, getD, set, drop}
 use lib.Seq.{ext-getD}
-use Rattle.policy.specs.Rules.{Place}
 use Rattle.resting.specs.Table.{tab}
 use Rattle.resting.specs.Marks.{length-tab, getD-tab}
+use Rattle.enforcer.specs.declared.state.State.{State}
 
 -- "A state is a location and four clock values": five numbers, in this order.
-abbrev pub stateWords : Place → List ℕ
+abbrev pub stateWords : State → List ℕ
 stateWords s = s .location ∷ s .clocks
 
-abbrev pub stateIn : List ℕ → Place
+abbrev pub stateIn : List ℕ → State
 stateIn s = record { location = getD s 0 0; clocks = getD s 1 0 ∷ getD s 2 0 ∷ getD s 3 0 ∷ getD s 4 0 ∷ [] }
 
 -- A list is its elements, one after the other.
@@ -27,7 +27,7 @@ pub words-back : (s : List ℕ) → length s ≡ 5 → stateWords (stateIn s) �
 unfolding tab
 words-back s e = each 5 s e
 
-pub words-in : (t : Place) → length (t .clocks) ≡ 4 → stateIn (stateWords t) ≡ t
+pub words-in : (t : State) → length (t .clocks) ≡ 4 → stateIn (stateWords t) ≡ t
 words-in t e =
     let five : length (stateWords t) ≡ 5 = omega arith in
     ap (λ (l : List ℕ). record { location = getD l 0 0; clocks = drop 1 l }) (words-back (stateWords t) five)

@@ -9,31 +9,33 @@ use lib.Dec.{ltb}
 use lib.ListN.{length, getD, replicate, drop, length-append, length-replicate, getD-replicate}
 use lib.Seq.{getD-take, getD-drop}
 use borrow.Author.Tests.{ltb-true, ltb-false, lt-ltb}
-use Rattle.streams.specs.Answer.{Answer, refused, gives, unless, none-refused}
-use Rattle.policy.specs.Rules.{Policy, Place, stopped, step}
+use Rattle.streams.specs.Answer.{Answer, refused, gives, unless}
+use Rattle.streams.specs.AnswerLaws.{none-refused}
+use Rattle.policy.specs.Rules.{Policy, stopped, step}
 use Rattle.policy.specs.Number.{four}
 use Rattle.policy.specs.File.{policyOf}
-use Rattle.policy.specs.Check.{under-none}
+use Rattle.policy.specs.CheckLaws.{under-none}
 use Rattle.policy.specs.Sound.{Inside}
 use Rattle.policy.specs.Checked.{checked-file, well-sound}
 use Rattle.policy.specs.Stays.{of-some, step-inside}
 use Rattle.enforcer.specs.State.{placeIn}
 use Rattle.enforcer.specs.States.{good-inside, marks-granted, state-granted}
-use Rattle.enforcer.specs.Tick.{Tick, outputChoice, outputTick, moved}
+use Rattle.enforcer.specs.Tick.{ReleasedTick, outputChoice, outputTick, moved}
 use Rattle.enforcer.specs.Entries.{OutputAnswer, chosen, outputFrom, marksRefusal, stateRefusal, inputOf, outputRefusal, outputOf}
-use Rattle.enforcer.specs.Code.{asPlace, startState}
+use Rattle.enforcer.specs.Code.{startState}
 use Rattle.bays.specs.Bays.{baysIn, bayCount, numbersOf, bayState, withState}
 use Rattle.bays.specs.Entries.{BayAnswer, newRefusal, newStates, noBay, bayInputOf, bayOutputOf}
 use Rattle.bays.specs.Promises.{NewPromise}
 use Rattle.bays.specs.Parts.{fits, with-same, with-length, with-state, with-other}
 use Rattle.bays.specs.There.{input-there, output-there, input-none, output-none}
+use Rattle.enforcer.specs.declared.state.State.{State}
 
 -- Four clock values, and none more, where there are no more than four.
 pub four-long : (vs : List ℕ) → length vs ≤ 4 → length (four vs) ≡ 4
 four-long vs h = simp (length-append, length-replicate) (omega arith)
 
 -- The state that the output half hands back has four clock values, as the one that it was given has.
-module _ (reading : ℕ) (file marks : List ℕ) (s : Place) (x y : ℕ) where
+module _ (reading : ℕ) (file marks : List ℕ) (s : State) (x y : ℕ) where
   pub output-four : length (s .clocks) ≡ 4 → length (outputOf reading file marks s x y .state .clocks) ≡ 4
   unfolding outputOf outputRefusal outputTick moved
   output-four l = go (outputRefusal reading file marks s x y) refl (outputTick (policyOf reading file) marks (placeIn (policyOf reading file) s) x y) refl
@@ -41,7 +43,7 @@ module _ (reading : ℕ) (file marks : List ℕ) (s : Place) (x y : ℕ) where
       p : Policy
       p = policyOf reading file
 
-      go : (n : ℕ) → outputRefusal reading file marks s x y ≡ n → (o : Option Tick) → outputTick p marks (placeIn p s) x y ≡ o →
+      go : (n : ℕ) → outputRefusal reading file marks s x y ≡ n → (o : Option ReleasedTick) → outputTick p marks (placeIn p s) x y ≡ o →
           length (outputFrom s (chosen n o) .state .clocks) ≡ 4
       go (suc n) e o q = l
       go zero e none q = l
@@ -54,7 +56,7 @@ module _ (reading : ℕ) (file marks : List ℕ) (s : Place) (x y : ℕ) where
           let there : Inside p (v .0) =
           of-some (Inside p) (v .1) (step-inside p (well-sound p ok) (placeIn p s) (good-inside p s good) (record { x = x; y = m .0 }))
           in
-          let same : v .0 ≡ t .place = ap (λ (u : Tick). u .place) (Option·some-injective _ t (v .2)) in
+          let same : v .0 ≡ t .place = ap (λ (u : ReleasedTick). u .place) (Option·some-injective _ t (v .2)) in
           four-long (t .place .clocks) (rw (← same) (omega (arith, there .clocks, ok .clocks)))
 
 -- One half of a tick, as it is asked for: the input half with x, or the output half with the x that was passed on and y.
@@ -64,7 +66,7 @@ pub data Half : Type 0 where
 
 module _ (reading : ℕ) (file marks : List ℕ) where
   -- What it answers a station with one state, and the state then: the input half moves nothing.
-  abbrev pub oneHalf : Place → Half → OutputAnswer
+  abbrev pub oneHalf : State → Half → OutputAnswer
   oneHalf s (input x) = record { answer = inputOf reading file marks s x; state = s }
   oneHalf s (output x y) = outputOf reading file marks s x y
 
@@ -136,8 +138,8 @@ module _ (reading : ℕ) (file marks : List ℕ) where
             let is = ltb-true bay (bayCount states) e in
             let also : bay < bayCount others = omega arith in
             let s = same is in (
-              half-answer states bay is h ∙ ap (λ (z : Place). oneHalf z h .answer) s ∙ sym (half-answer others bay also h),
-              λ _. half-state states bay is h ∙ ap (λ (z : Place). oneHalf z h .state) s ∙ sym (half-state others bay also h),
+              half-answer states bay is h ∙ ap (λ (z : State). oneHalf z h .answer) s ∙ sym (half-answer others bay also h),
+              λ _. half-state states bay is h ∙ ap (λ (z : State). oneHalf z h .state) s ∙ sym (half-state others bay also h),
             )
         go false e =
             let l = ltb-false bay (bayCount states) e in
@@ -147,7 +149,7 @@ module _ (reading : ℕ) (file marks : List ℕ) where
             )
 
 -- With a refusal the output half hands back the state that it was given, and so the list stays.
-output-kept : (s : Place) (a : Answer Tick) {n : ℕ} → outputFrom s a .answer ≡ refused n → outputFrom s a .state ≡ s
+output-kept : (s : State) (a : Answer ReleasedTick) {n : ℕ} → outputFrom s a .answer ≡ refused n → outputFrom s a .state ≡ s
 output-kept s (refused m) e = refl
 output-kept s (gives t) e = let z : _≡_ {A = ℕ} 0 1 = cc in absurd (omega arith)
 
@@ -156,7 +158,7 @@ module _ (reading : ℕ) (file marks states : List ℕ) (bay x y : ℕ) where
   unfolding outputOf
   refused-stays {n} = go (ltb bay (bayCount states)) refl
     where
-      s : Place
+      s : State
       s = bayState states bay
 
       go : (t : Bool) → ltb bay (bayCount states) ≡ t → bayOutputOf reading file marks states bay x y .answer ≡ refused n →
@@ -169,7 +171,7 @@ module _ (reading : ℕ) (file marks states : List ℕ) (bay x y : ℕ) where
       go false e k = ap (λ (r : BayAnswer). r .states) (output-none reading file marks states bay x y (ltb-false bay (bayCount states) e))
 
 -- "making a new list starts every bay afresh": every bay of it is at the start.
-pub afresh : (states : List ℕ) (bay : ℕ) → bay < bayCount states → bayState (newStates states) bay ≡ asPlace startState
+pub afresh : (states : List ℕ) (bay : ℕ) → bay < bayCount states → bayState (newStates states) bay ≡ startState
 unfolding newStates
 afresh states bay is =
     let k = fits (length states) bay is .0 in

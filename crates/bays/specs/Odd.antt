@@ -4,7 +4,8 @@ use mathlib.Core.Bool.{Bool, true, false}
 use mathlib.Core.List.{List}
 use Prim.Native.Nat.{ℕ, zero, suc, _≤_, _<_}
 use native.Mathlib.Omega.{arith}
-use Rattle.streams.specs.Answer.{_orElse_, unless, first-refused, unless-le, else-le}
+use Rattle.streams.specs.Answer.{_orElse_, unless}
+use Rattle.streams.specs.AnswerLaws.{first-refused, unless-le, else-le}
 use Rattle.policy.specs.Check.{refusalUnder}
 use Rattle.enforcer.specs.Entries.{marksRefusal}
 use Rattle.enforcer.specs.Refusals.{marks-le, marks-first}

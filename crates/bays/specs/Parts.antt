@@ -8,9 +8,9 @@ use lib.Dec.{leb, ltb, eqb}
 use lib.ListN.{length, getD, take, drop, length-append, length-drop, take-append-drop}
 use lib.Seq.{length-take-le, take-at, drop-at, take-append-le, drop-append-le, drop-append-add, drop-drop, getD-take, getD-drop, ext-getD}
 use borrow.Author.Tests.{ltb-true, ltb-false, leb-true, eqb-true}
-use Rattle.policy.specs.Rules.{Place}
 use Rattle.bays.specs.Five.{stateWords, words-back, words-in}
 use Rattle.bays.specs.Bays.{baysIn, numbersOf, bayState, withState}
+use Rattle.enforcer.specs.declared.state.State.{State}
 
 -- A bay below the count has its five numbers, and the list is five for each bay.
 pub fits : (n bay : ℕ) → bay < baysIn n → (bay * 5 + 5 ≤ n) × (n ≤ 40) × (n % 5 ≡ 0)
@@ -50,7 +50,7 @@ front : (w r : List ℕ) (bay : ℕ) → bay * 5 + 5 ≤ length w → numbersOf 
 front w r bay h =
     ap (take 5) (drop-append-le (bay * 5) w r (omega arith)) ∙ take-append-le 5 (drop (bay * 5) w) r (simp length-drop (omega arith))
 
-module _ (states : List ℕ) (bay : ℕ) (there : bay * 5 + 5 ≤ length states) (s : Place) (four : length (s .clocks) ≡ 4) where
+module _ (states : List ℕ) (bay : ℕ) (there : bay * 5 + 5 ≤ length states) (s : State) (four : length (s .clocks) ≡ 4) where
   begins : length (take (bay * 5) states) ≡ bay * 5
   begins = length-take-le (bay * 5) states (omega arith)
 

@@ -3,7 +3,7 @@ use mathlib.Core.Path.{_≡_, sym, ap, _∙_}
 use mathlib.Core.List.{List}
 use Prim.Native.Nat.{ℕ}
 use Rattle.enforcer.specs.Promises.{answerSaid, answer-one}
-use Rattle.enforcer.specs.declared.halves.Answer.{Answer}
+use Rattle.enforcer.specs.declared.halves.HalfAnswer.{HalfAnswer}
 use Rattle.bays.specs.Entries.{BayAnswer, newRefusal, newStates, bayInputOf, bayOutputOf}
 
 -- `before` and `after` are what the lent list holds.
@@ -11,16 +11,16 @@ pub record NewPromise (before : List ℕ) (r : ℕ) (after : List ℕ) : Type 0 
   pub said : r ≡ newRefusal before
   pub states : after ≡ newStates before
 
-pub record BayInputPromise (reading : ℕ) (file marks states : List ℕ) (bay x : ℕ) (r : Answer) : Type 0 where
+pub record BayInputPromise (reading : ℕ) (file marks states : List ℕ) (bay x : ℕ) (r : HalfAnswer) : Type 0 where
   pub said : answerSaid r ≡ bayInputOf reading file marks states bay x
 
-pub record BayOutputPromise (reading : ℕ) (file marks states : List ℕ) (bay x y : ℕ) (r : Answer) (after : List ℕ) : Type 0 where
+pub record BayOutputPromise (reading : ℕ) (file marks states : List ℕ) (bay x y : ℕ) (r : HalfAnswer) (after : List ℕ) : Type 0 where
   pub said : record { answer = answerSaid r; states = after } ≡ bayOutputOf reading file marks states bay x y
 
 pub new-one : {before after also : List ℕ} {r q : ℕ} → NewPromise before r after → NewPromise before q also → (r ≡ q) × (after ≡ also)
 new-one h g = (h .said ∙ sym (g .said), h .states ∙ sym (g .states))
 
-module _ {reading : ℕ} {file marks states : List ℕ} {bay x : ℕ} {r q : Answer} where
+module _ {reading : ℕ} {file marks states : List ℕ} {bay x : ℕ} {r q : HalfAnswer} where
   pub bay-input-one : BayInputPromise reading file marks states bay x r → BayInputPromise reading file marks states bay x q → r ≡ q
   bay-input-one h g = answer-one r q (h .said ∙ sym (g .said))
 

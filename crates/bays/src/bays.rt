@@ -2,14 +2,13 @@
 use crate::five::NUMBERS;
 use crate::five::put_state;
 use crate::five::state_of;
-use enforcer::Answer;
+use enforcer::HalfAnswer;
 use enforcer::State;
 use enforcer::input_half;
 use enforcer::marks_refusal;
 ghost use mathlib.Core.Path.{_≡_};
 ghost use Prim.Native.Nat.{_≤_, _<_};
 ghost use lib.ListN.{length, replicate};
-ghost use Rattle.enforcer.specs.Code.{asPlace};
 ghost use Rattle.bays.specs.Bays.{baysIn, bayCount, bayState, withState};
 ghost use Rattle.bays.specs.Entries.{noBay};
 ghost use Rattle.bays.specs.Promises.{NewPromise, BayInputPromise, BayOutputPromise};
@@ -63,7 +62,7 @@ fn no_bay(reading: u8, file: &[u8], marks: &[u8]) -> u8
 // The state of a bay.
 fn bay_state(states: &[u16], bay: usize) -> State
     requires { ⌜ bay < bayCount (now states) ⌝ }
-    ensures { λ r. ⌜ asPlace r ≡ bayState (now (states .entry)) bay ⌝ }
+    ensures { λ r. ⌜ r ≡ bayState (now (states .entry)) bay ⌝ }
 {
     let from = bay * NUMBERS;
     let to = from + NUMBERS;
@@ -73,7 +72,7 @@ fn bay_state(states: &[u16], bay: usize) -> State
 // The next state of a bay goes into the list.
 fn put_bay(states: &mut [u16], bay: usize, next: State)
     requires { ⌜ bay < bayCount (now states) ⌝ }
-    ensures { λ _. ⌜ now (states .exit) ≡ withState (now (states .entry)) bay (asPlace next) ⌝ }
+    ensures { λ _. ⌜ now (states .exit) ≡ withState (now (states .entry)) bay next ⌝ }
 {
     let start = bay * NUMBERS;
     let end = start + NUMBERS;
@@ -87,11 +86,11 @@ pub fn bay_input(
     states: &[u16],
     bay: usize,
     x: u8,
-) -> Answer
+) -> HalfAnswer
     ensures { λ r. ⌜ BayInputPromise reading (now (file .entry)) (now (marks .entry)) (now (states .entry)) bay x r ⌝ }
 {
     if bays_in(states.len()) <= bay {
-        return Answer::Refused(no_bay(reading, file, marks));
+        return HalfAnswer::Refused(no_bay(reading, file, marks));
     }
     input_half(reading, file, marks, bay_state(states, bay), x)
 }
@@ -104,11 +103,11 @@ pub fn bay_output(
     bay: usize,
     x: u8,
     y: u8,
-) -> Answer
+) -> HalfAnswer
     ensures { λ r. ⌜ BayOutputPromise reading (now (file .entry)) (now (marks .entry)) (now (states .entry)) bay x y r (now (states .exit)) ⌝ }
 {
     if bays_in(states.len()) <= bay {
-        return Answer::Refused(no_bay(reading, file, marks));
+        return HalfAnswer::Refused(no_bay(reading, file, marks));
     }
     let given = bay_state(states, bay);
     let output = given.output(reading, file, marks, x, y);

@@ -3,7 +3,6 @@ use enforcer::State;
 use enforcer::marks_refusal;
 ghost use mathlib.Core.Path.{_≡_};
 ghost use lib.ListN.{length};
-ghost use Rattle.enforcer.specs.Code.{asPlace};
 ghost use Rattle.bays.specs.Five.{stateIn, stateWords};
 ghost use Rattle.bays.specs.Odd.{oddRefusal};
 
@@ -24,7 +23,7 @@ pub fn odd_refusal(reading: u8, file: &[u8], marks: &[u8], room: bool) -> u8
 // The state in five numbers.
 pub fn state_of(state: &[u16]) -> State
     requires { ⌜ length (now state) ≡ 5 ⌝ }
-    ensures { λ r. ⌜ asPlace r ≡ stateIn (now (state .entry)) ⌝ }
+    ensures { λ r. ⌜ r ≡ stateIn (now (state .entry)) ⌝ }
 {
     State {
         location: state[0],
@@ -35,7 +34,7 @@ pub fn state_of(state: &[u16]) -> State
 // The five numbers become those of the next state.
 pub fn put_state(state: &mut [u16], next: State)
     requires { ⌜ length (now state) ≡ 5 ⌝ }
-    ensures { λ _. ⌜ now (state .exit) ≡ stateWords (asPlace next) ⌝ }
+    ensures { λ _. ⌜ now (state .exit) ≡ stateWords next ⌝ }
 {
     let clocks = next.clocks;
     state[0] = next.location;

@@ -16,14 +16,14 @@ use Rattle.choice.specs.Table.{table, row, row-length, row-entry, row-ne
 
 module _ (may : ℕ → Bool) (n w : ℕ) where
   -- None of the first i values is below n and may stand: the rest of the row decides.
-  abbrev pub Left : ℕ → Type 0
-  Left i = firstOf may n (drop i (row w)) ≡ nearest may w n
+  abbrev pub LeftOfRow : ℕ → Type 0
+  LeftOfRow i = firstOf may n (drop i (row w)) ≡ nearest may w n
 
   module _ (h : w < 16) where
-    pub left-starts : n ≤ 16 → Left 0
+    pub left-starts : n ≤ 16 → LeftOfRow 0
     left-starts l = row-nearest w h may n l
 
-    pub left-ends : {i : ℕ} → 16 ≤ i → Left i → nearest may w n ≡ none
+    pub left-ends : {i : ℕ} → 16 ≤ i → LeftOfRow i → nearest may w n ≡ none
     unfolding firstOf
     left-ends {i} l e = sym e ∙ rw (drop-of-length-le (row w) {i = i} (omega (arith, row-length w h)))
 
@@ -32,18 +32,18 @@ module _ (may : ℕ → Bool) (n w : ℕ) where
       turn : drop i (row w) ≡ a ∷ drop (i + 1) (row w)
       turn = rw (add-one, drop-cons (row w) i 0 (omega (arith, row-length w h)), row-entry w h i l, is)
 
-      pub left-found : Left i → a < n → may a ≡ true → nearest may w n ≡ some a
+      pub left-found : LeftOfRow i → a < n → may a ≡ true → nearest may w n ≡ some a
       unfolding firstOf
       left-found e k m = sym e ∙ rw (turn, lt-ltb a n k, m)
 
-      pub left-out : Left i → n ≤ a → Left (i + 1)
+      pub left-out : LeftOfRow i → n ≤ a → LeftOfRow (i + 1)
       unfolding firstOf
       left-out e k = sym (rw (turn, le-ltb a n k)) ∙ e
 
-      pub left-passed : Left i → may a ≡ false → Left (i + 1)
+      pub left-passed : LeftOfRow i → may a ≡ false → LeftOfRow (i + 1)
       unfolding firstOf
       left-passed e m = go (ltb a n) refl
         where
-          go : (t : Bool) → ltb a n ≡ t → Left (i + 1)
+          go : (t : Bool) → ltb a n ≡ t → LeftOfRow (i + 1)
           go true d = sym (rw (turn, d, m)) ∙ e
           go false d = sym (rw (turn, d)) ∙ e

@@ -1,5 +1,5 @@
 -- The inputs that agree with care bits, one after the other.
-use mathlib.Core.Path.{_≡_, refl, sym, _∙_}
+use mathlib.Core.Path.{_≡_, refl, _∙_}
 use mathlib.Core.Bool.{Bool, true, false, _&&_, _||_, not, true≢false, and-eq-true-iff}
 use mathlib.Core.Logic.{by-cases}
 use mathlib.Core.List.{List}
@@ -10,7 +10,8 @@ use lib.Dec.{eqb, ltb}
 use lib.ListN.{length, getD, set}
 use lib.Bits.{bitAnd, bitOr, and-le-l}
 use borrow.Author.Tests.{eqb-true, ltb-true, lt-ltb, le-ltb, eq-eqb, ne-eqb}
-use Rattle.streams.specs.Choose.{any, any-has, any-none, any-fails}
+use Rattle.streams.specs.Choose.{any}
+use Rattle.streams.specs.ChooseLaws.{any-has, any-none, any-fails}
 use Rattle.choice.specs.Sets.{agreed}
 use Rattle.choice.specs.Changed.{Changed, changed-none, changed-more, changed-on, changed-back}
 

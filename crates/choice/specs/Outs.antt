@@ -8,7 +8,8 @@ use lib.Dec.{eqb}
 use lib.Bits.{bitAnd, and-le-r}
 use lib.ListN.{getD}
 use borrow.Author.Tests.{eq-eqb, eqb-true, not-false}
-use Rattle.streams.specs.Choose.{any, any-none}
+use Rattle.streams.specs.Choose.{any}
+use Rattle.streams.specs.ChooseLaws.{any-none}
 use Rattle.choice.specs.Sets.{has}
 
 -- Of one output signal: `ones` are the values below 16 in which its bit is 1.

@@ -7,7 +7,7 @@ use native.Mathlib.Omega.{arith}
 use lib.Count.{ones, onesIn}
 use lib.ListN.{length, getD, take, drop, length-take, length-drop}
 use lib.Seq.{getD-take, getD-drop}
-use Rattle.streams.specs.Corrections.{distance, nearer, spares}
+use Rattle.streams.specs.Nearness.{distance, nearer, spares}
 use Rattle.streams.specs.Choose.{nearest}
 use Rattle.streams.specs.Rows.{firstOf, rising, rows, row-at, rising-below, first-nearest}
 

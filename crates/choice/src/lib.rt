@@ -1,4 +1,4 @@
-// Sets of values below sixteen, a bit a value, and the value of a set that is nearest to a wanted one. What they are stands in specs/.
+// Sets of values below sixteen, and the value of a set that is nearest to a wanted one. A bit a value: what they are stands in specs/.
 mod chooser;
 mod sets;
 mod table;

@@ -1,4 +1,4 @@
-// Cleans a policy: `clean READING POLICY CLEANED`. It prints what goes, and writes the cleaned policy to the file named last.
+// Cleans a policy file, and prints what goes: `clean READING POLICY CLEANED`. The cleaned policy is written to the file named last.
 use libc::STDOUT_FILENO;
 ghost use Rattle.io.specs.Counts.{Counts};
 

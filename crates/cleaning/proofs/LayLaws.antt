@@ -1,9 +1,9 @@
 -- What the proofs of the writers cite: the bytes of a rule with new numbers, a turn of each loop, and the whole file.
-use mathlib.Core.Path.{_≡_, refl, sym, ap, ap₂, _∙_}
+use mathlib.Core.Path.{_≡_, refl, sym, ap, _∙_}
 use mathlib.Core.Bool.{Bool, true, false, cond}
-use mathlib.Core.List.{List, [], _∷_, _++_, map, append-assoc, append-nil}
+use mathlib.Core.List.{List, [], _∷_, _++_, map, append-assoc}
 use mathlib.Core.Logic.{_⊎_}
-use Prim.Native.Nat.{ℕ, zero, suc, _+_, _-_, _*_, _≤_, _<_}
+use Prim.Native.Nat.{ℕ, suc, _+_, _-_, _*_, _≤_, _<_}
 use native.Mathlib.Nat.{suc-mul}
 use native.Mathlib.Numerals.{add-one}
 use native.Mathlib.Omega.{arith}
@@ -11,11 +11,11 @@ use lib.Dec.{eqb}
 use lib.ListN.{length, getD, drop, length-map, drop-of-length-le}
 use lib.Seq.{drop-cons}
 use borrow.Author.Tests.{eq-eqb, ne-eqb}
-use Rattle.policy.specs.Rules.{Rule, Policy}
-use Rattle.policy.specs.File.{byteAt, part, ruleSize, ruleFrom, rulesFrom, rulesOf, inputCount, outputCount, clocksAt, clockCount, locationsAt, locationCount, rulesAt, ruleCount, inputTags, outputTags, ceilingsOf, locationBytes, policyOf}
-use Rattle.policy.specs.Bytes.{pairBytes, pairsBytes, boundsBytes, ruleBytes, rulesBytes, countsBytes, bytesOf}
-use Rattle.policy.specs.Sound.{Each, each-none, each-more, each-weak}
-use Rattle.policy.specs.Checked.{Framed, frame, rules-length, inputs-length, outputs-length, locations-length, pairs-length, bounds-length, well-ruled}
+use Rattle.policy.specs.Rules.{Rule}
+use Rattle.policy.specs.File.{byteAt, part, ruleSize, ruleFrom, rulesFrom, rulesOf, inputCount, outputCount, clocksAt, clockCount, locationsAt, locationCount, ruleCount, inputTags, outputTags, ceilingsOf, locationBytes, policyOf}
+use Rattle.policy.specs.Bytes.{pairBytes, pairsBytes, ruleBytes, rulesBytes, countsBytes, bytesOf}
+use Rattle.policy.specs.Sound.{Each, each-more, each-weak}
+use Rattle.policy.specs.Checked.{Framed, frame, rules-length, inputs-length, outputs-length, pairs-length, bounds-length, well-ruled}
 use Rattle.policy.specs.Parts.{rules-part}
 use Rattle.policy.specs.ReadBack.{rule-length}
 use Rattle.policy.specs.declared.Layout.{Layout}
@@ -23,9 +23,10 @@ use Rattle.enforcer.specs.Ready.{Laid}
 use Rattle.enforcer.specs.Laid.{laid-well, laid-rules, laid-section, laid-limits}
 use Rattle.join.specs.Lay.{bytesFrom}
 use Rattle.join.specs.Laying.{pairs-copied, bounds-copied, bytes-add, bytes-part, signals-laid, next-rule, no-rule}
-use Rattle.cleaning.specs.Sift.{flag, sift, rank, kept, length-sift, rank-full}
-use Rattle.cleaning.specs.Clean.{Struck, renamed, renumbered, cleaned, unlessKept, locationsStruck, rulesStruck, struck, struckBytes}
-use Rattle.cleaning.specs.Code.{flagsOf, Ends, Flagged, cleanedRule, cleanedRules, cleanedBy, struckBy}
+use Rattle.cleaning.specs.Sift.{sift, rank, kept}
+use Rattle.cleaning.specs.SiftLaws.{length-sift, rank-full}
+use Rattle.cleaning.specs.Clean.{Struck, renamed, renumbered, unlessKept, locationsStruck, rulesStruck, struckBytes}
+use Rattle.cleaning.specs.Code.{flagsOf, EndsAt, Flagged, cleanedRule, cleanedRules, cleanedBy, struckBy}
 use Rattle.cleaning.proofs.FlagLaws.{flags-long, flags-byte}
 
 -- ---- A checked file: its rules where they stand, and their locations.
@@ -58,7 +59,7 @@ module _ (clocks : ℕ) (f : List ℕ) (p n i m : ℕ) (u : i < n) (h : Each (En
       go : {r : Rule} {rs : List Rule} → Each (Ended m) (r ∷ rs) → Ended m r × Each (Ended m) rs
       go (each-more a b) = (a, b)
 
-  pub ended-first : Ends f p m
+  pub ended-first : EndsAt f p m
   unfolding ruleFrom
   ended-first = record { source = split .0 .source; target = split .0 .target }
 
@@ -81,7 +82,7 @@ rest-start {f} {l} {entered} {used} k =
     }
 
 module _ (f : List ℕ) (clocks n m i p : ℕ) (g : Rest f clocks n m i p) (u : i < n) where
-  pub rest-first : (p + ruleSize clocks ≤ length f) × Ends f p m
+  pub rest-first : (p + ruleSize clocks ≤ length f) × EndsAt f p m
   rest-first = (left-room p (ruleSize clocks) n i (length f) u (g .room) .0, ended-first clocks f p n i m u (g .each))
 
   pub rest-more : Rest f clocks n m (i + 1) (p + ruleSize clocks)

@@ -1,17 +1,15 @@
 -- What the proofs of the entry cite: each answer, and what the slices hold then.
-use mathlib.Core.Path.{_≡_, refl, sym, ap, ap₂, _∙_}
-use mathlib.Core.Bool.{Bool}
+use mathlib.Core.Path.{_≡_, refl, _∙_}
 use mathlib.Core.List.{List, _++_}
 use Prim.Native.Nat.{ℕ, zero, suc, _+_, _≤_, _<_}
 use native.Mathlib.Omega.{arith}
-use lib.Dec.{leb}
 use lib.ListN.{length, drop}
 use lib.Seq.{sets-eq}
 use borrow.Author.Tests.{le-leb, lt-leb}
 use Rattle.policy.specs.File.{policyOf}
 use Rattle.policy.specs.Check.{refusalUnder}
 use Rattle.policy.specs.declared.Layout.{Layout}
-use Rattle.join.specs.Lay.{Laid}
+use Rattle.join.specs.Lay.{LaidAt}
 use Rattle.cleaning.specs.Flags.{enteredFlags, usedFlags}
 use Rattle.cleaning.specs.Entry.{shortRefusal, cleanedOf, struckOf, cleanedFile, struckList, cleanRefusal, cleanOf, cleanedOut, struckOut}
 use Rattle.cleaning.specs.Promise.{CleanPromise, WritesPromise}
@@ -20,7 +18,7 @@ use Rattle.cleaning.specs.declared.Cleaned.{Cleaned}
 use Rattle.cleaning.specs.declared.Cleaned.the-variants as Cleaned
 
 -- Bytes laid from the start of a slice that has room for them.
-pub laid-front : {xs l m : List ℕ} {i : ℕ} → length xs ≤ length l → Laid xs l 0 m i → m ≡ xs ++ drop (length xs) l
+pub laid-front : {xs l m : List ℕ} {i : ℕ} → length xs ≤ length l → LaidAt xs l 0 m i → m ≡ xs ++ drop (length xs) l
 laid-front {xs} {l} h g = let z : 0 + length xs ≡ length xs = omega arith in g .lies ∙ sets-eq xs l 0 (omega arith) ∙ rw z
 
 module _ (bytes entries out list : List ℕ) where
@@ -36,7 +34,7 @@ module _ (bytes entries out list : List ℕ) where
   writes-second h g = refuses (rw (le-leb (length bytes) (length out) h, lt-leb (length entries) (length list) g))
 
   pub writes-both : length bytes ≤ length out → length entries ≤ length list → {a b : ℕ} → a ≡ length bytes → b ≡ length entries →
-      {o m : List ℕ} {i j : ℕ} → Laid bytes out 0 o i → Laid entries list 0 m j → WritesPromise bytes entries out list (Cleaned.Gives (record { cleaned = a; struck = b })) o m
+      {o m : List ℕ} {i j : ℕ} → LaidAt bytes out 0 o i → LaidAt entries list 0 m j → WritesPromise bytes entries out list (Cleaned.Gives (record { cleaned = a; struck = b })) o m
   unfolding shortRefusal
   writes-both h g a b x y =
       let e : shortRefusal bytes entries out list ≡ 0 = rw (le-leb (length bytes) (length out) h, le-leb (length entries) (length list) g) in

@@ -7,7 +7,7 @@ use Prim.Native.Nat.{ℕ, zero, suc}
 use lib.Dec.{eqb}
 use lib.ListN.{getD}
 use Rattle.streams.specs.Stream.{Stream}
-use Rattle.streams.specs.Laws.{_⊆_, _≋_}
+use Rattle.streams.specs.Languages.{_⊆_, _≋_}
 use Rattle.policy.specs.Rules.{Policy, Place, start, unlimited, steps, rests, Runs, Rests, Permits}
 use Rattle.policy.specs.Sound.{WellFormed}
 use Rattle.policy.specs.Reached.{Reached}

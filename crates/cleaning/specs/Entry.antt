@@ -11,6 +11,7 @@ use Rattle.policy.specs.Check.{refusalUnder}
 use Rattle.policy.specs.Bytes.{bytesOf}
 use Rattle.cleaning.specs.Clean.{Struck, cleaned, struck, struckBytes}
 use Rattle.cleaning.specs.Flags.{enteredFlags, usedFlags}
+use Rattle.cleaning.specs.declared.Lengths.{Lengths}
 
 -- The cleaned policy, and what was struck from it.
 unfoldable pub cleanedOf : Policy → Policy
@@ -18,11 +19,6 @@ cleanedOf p = cleaned p (enteredFlags p) (usedFlags p)
 
 unfoldable pub struckOf : Policy → List Struck
 struckOf p = struck p (enteredFlags p) (usedFlags p)
-
--- "returns both lengths", in bytes.
-pub record Lengths : Type 0 where
-  pub cleaned : ℕ
-  pub struck : ℕ
 
 -- What a slice holds then: a refusal writes nothing, and "Bytes past the written part stay."
 abbrev pub writtenIn : ℕ → List ℕ → List ℕ → List ℕ

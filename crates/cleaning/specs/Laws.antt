@@ -10,12 +10,12 @@ use lib.Dec.{eqb}
 use lib.ListN.{length, getD, drop}
 use Rattle.streams.specs.Answer.{refused, gives}
 use Rattle.streams.specs.Stream.{Event, Hopeless}
-use Rattle.streams.specs.Laws.{_≋_}
+use Rattle.streams.specs.Languages.{_≋_}
 use Rattle.policy.specs.Rules.{Rule, Policy, Permits}
 use Rattle.policy.specs.Number.{states}
 use Rattle.policy.specs.File.{byteAt, pairAt, policyOf}
 use Rattle.policy.specs.Check.{refusalOf, refusalUnder}
-use Rattle.prepare.specs.Enforces.{EnforcedBy}
+use Rattle.prepare.specs.Enforcing.{EnforcedBy}
 use Rattle.cleaning.specs.Sift.{nth}
 use Rattle.cleaning.specs.Clean.{Entered, Used, Struck}
 use Rattle.cleaning.specs.Entry.{cleanedOf, struckOf, cleanedFile, struckList, cleanOf, cleanedOut, struckOut}
@@ -52,7 +52,7 @@ pub record ThreeBytes (xs : List Struck) (bytes : List ℕ) : Type 0 where
   pub number : (i : ℕ) (x : Struck) → nth xs i ≡ some x → pairAt bytes (3 * i + 1) ≡ x .number
 
 -- ---- what is left
--- What stays has the numbers below `count` then, and "keep[s its] order".
+-- What stays has the numbers below `count` then, and keeps its order: "remaining locations keep their order".
 pub record Renumbers (Stays : ℕ → Type 0) (count : ℕ) (new : ℕ → ℕ) : Type 0 where
   pub below : (n : ℕ) → Stays n → new n < count
   pub order : (n m : ℕ) → Stays n → Stays m → n < m → new n < new m

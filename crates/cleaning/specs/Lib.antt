@@ -1,4 +1,5 @@
 pub mod Sift
+pub mod SiftLaws
 pub mod Clean
 pub mod Flags
 pub mod Entry

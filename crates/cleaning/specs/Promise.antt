@@ -1,21 +1,18 @@
 -- The whole promise of clean under one name, and that one answer alone meets it.
 use mathlib.Core.Path.{_≡_, refl, sym, ap, _∙_}
 use mathlib.Core.List.{List}
-use Prim.Native.Nat.{ℕ, zero, suc, _≤_}
-use native.Mathlib.Omega.{arith}
+use Prim.Native.Nat.{ℕ, _≤_}
 use lib.ListN.{length}
-use Rattle.streams.specs.Answer.{Answer, refused, gives, answer, UpTo, unless-le, else-le, answer-up-to}
-use Rattle.policy.specs.Check.{refusalUnder, under-le}
+use Rattle.streams.specs.Answer.{Answer, refused, gives, answer, UpTo}
+use Rattle.streams.specs.AnswerLaws.{unless-le, else-le, answer-up-to}
+use Rattle.policy.specs.CheckLaws.{under-le}
 use Rattle.cleaning.specs.Entry as Entry
 use Rattle.cleaning.specs.declared.Lengths.{Lengths}
 use Rattle.cleaning.specs.declared.Cleaned.{Cleaned}
 use Rattle.cleaning.specs.declared.Cleaned.the-variants as Cleaned
 
-abbrev pub lengthsSaid : Lengths → Entry.Lengths
-lengthsSaid l = record { cleaned = l .cleaned; struck = l .struck }
-
-abbrev pub cleanSaid : Cleaned → Answer Entry.Lengths
-cleanSaid (Cleaned.Gives l) = gives (lengthsSaid l)
+abbrev pub cleanSaid : Cleaned → Answer Lengths
+cleanSaid (Cleaned.Gives l) = gives l
 cleanSaid (Cleaned.Refused n) = refused n
 
 -- `out` and `list` are what the two slices hold before, `outAfter` and `listAfter` what they hold then.
@@ -31,7 +28,7 @@ pub record WritesPromise (bytes entries out list : List ℕ) (r : Cleaned) (outA
   pub struck : listAfter ≡ Entry.writtenIn (Entry.shortRefusal bytes entries out list) entries list
 
 -- The answer that says so.
-abbrev cleanedAs : Answer Entry.Lengths → Cleaned
+abbrev cleanedAs : Answer Lengths → Cleaned
 cleanedAs (gives l) = Cleaned.Gives (record { cleaned = l .cleaned; struck = l .struck })
 cleanedAs (refused n) = Cleaned.Refused n
 

@@ -8,7 +8,8 @@ use native.Mathlib.Omega.{arith}
 use lib.Dec.{leb}
 use lib.ListN.{length}
 use borrow.Author.Tests.{le-leb, lt-leb}
-use Rattle.streams.specs.Answer.{refused, answer, first-refused, next-refused}
+use Rattle.streams.specs.Answer.{refused, answer}
+use Rattle.streams.specs.AnswerLaws.{first-refused, next-refused}
 use Rattle.policy.specs.Check.{refusalUnder}
 use Rattle.cleaning.specs.Entry.{cleanedFile, struckList, writtenIn, shortRefusal, cleanRefusal, cleanOf, cleanedOut, struckOut}
 use Rattle.cleaning.specs.Laws.{Answers}

@@ -15,7 +15,8 @@ use Rattle.streams.specs.Stream.{Event, Stream}
 use Rattle.policy.specs.Rules.{Rule, Policy, Place, start, hold, fires, decides, unlimited, advance, tested, looked, taken, step, steps, FitsOne, Fits, fits-none, fits-more}
 use Rattle.policy.specs.Reached.{After, Reached, reached-start, reached-more}
 use Rattle.enforcer.specs.Code.{decider}
-use Rattle.cleaning.specs.Sift.{flag, nth, sift, rank, rank-le, rank-same, nth-sift, nth-map}
+use Rattle.cleaning.specs.Sift.{flag, nth, sift, rank}
+use Rattle.cleaning.specs.SiftLaws.{rank-le, rank-same, nth-sift, nth-map}
 use Rattle.cleaning.specs.Clean.{Used, Entered, Meant, renamed, cleaned, moved}
 
 pub flag-below : (L : List Bool) (i : ℕ) → flag L i ≡ true → i < length L

@@ -3,10 +3,13 @@ use mathlib.Core.Path.{_≡_, subst}
 use mathlib.Core.List.{List}
 use Prim.Native.Nat.{ℕ, _≤_}
 use native.Mathlib.Omega.{arith}
-use Rattle.streams.specs.Answer.{gives, given-only, none-refused}
-use Rattle.policy.specs.Check.{refusalUnder, under-none}
+use Rattle.streams.specs.Answer.{gives}
+use Rattle.streams.specs.AnswerLaws.{given-only, none-refused}
+use Rattle.policy.specs.Check.{refusalUnder}
+use Rattle.policy.specs.CheckLaws.{under-none}
 use Rattle.policy.specs.Checked.{frame, longest}
-use Rattle.cleaning.specs.Entry.{Lengths, cleanRefusal, cleanOf}
+use Rattle.cleaning.specs.Entry.{cleanRefusal, cleanOf}
+use Rattle.cleaning.specs.declared.Lengths.{Lengths}
 use Rattle.cleaning.specs.Sizes.{room}
 
 -- Where lengths are given, they are no more than these.

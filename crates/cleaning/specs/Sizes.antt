@@ -14,7 +14,8 @@ use Rattle.policy.specs.Sound.{WellFormed}
 use Rattle.policy.specs.Checked.{frame, inputs-length, outputs-length, pairs-length, rules-length, checked-file}
 use Rattle.policy.specs.Bytes.{bytesOf}
 use Rattle.policy.specs.ReadBack.{bytes-length}
-use Rattle.cleaning.specs.Sift.{sift, kept, length-sift}
+use Rattle.cleaning.specs.Sift.{sift, kept}
+use Rattle.cleaning.specs.SiftLaws.{length-sift}
 use Rattle.cleaning.specs.Clean.{Meant, renamed, cleaned, locationsStruck, rulesStruck, struck}
 use Rattle.cleaning.specs.Flags.{enteredFlags, usedFlags}
 use Rattle.cleaning.specs.Flagged.{meant}

@@ -1,19 +1,21 @@
--- "Clean a policy and say what went": what `Laws` says holds of every file that passes the check, under each reading, "for a joined file" too.
+-- "Clean a policy and say what went": what `Laws` says holds of every file that passes the check, under each reading, for a joined file too.
 use mathlib.Core.Path.{_≡_, refl, sym, ap, subst, _∙_}
 use mathlib.Core.List.{List, []}
 use mathlib.Core.Logic.{_↔_}
 use Prim.Native.Nat.{ℕ}
 use Rattle.streams.specs.Corrections.{corrections}
 use Rattle.streams.specs.Stream.{Event, Hopeless, _∩_}
-use Rattle.streams.specs.Laws.{_≋_, ≋-trans, ends, enforced-same}
+use Rattle.streams.specs.Laws.{≋-trans, ends, enforced-same}
+use Rattle.streams.specs.Languages.{_≋_}
 use Rattle.policy.specs.Rules.{Policy, Permits}
 use Rattle.policy.specs.File.{policyOf}
 use Rattle.policy.specs.Check.{refusalOf}
 use Rattle.policy.specs.Sound.{WellFormed}
 use Rattle.policy.specs.Checked.{checked-file}
 use Rattle.policy.specs.Bytes.{bytesOf}
-use Rattle.policy.specs.ReadBack.{read-back, written-passes}
-use Rattle.prepare.specs.Enforces.{EnforcedBy}
+use Rattle.policy.specs.ReadBack.{read-back}
+use Rattle.policy.specs.WrittenPasses.{written-passes}
+use Rattle.prepare.specs.Enforcing.{EnforcedBy}
 use Rattle.join.specs.Entry.{joinedFile, joinRefusal}
 use Rattle.join.specs.Written.{joined-passes, joined-both}
 use Rattle.cleaning.specs.Clean.{struckBytes}

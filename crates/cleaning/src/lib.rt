@@ -1,4 +1,4 @@
-// A policy is cleaned: locations that no permitted stream from the start leads to go, and so do rules that decide no event there. What clean answers stands in specs/.
+// A policy without what is of no use. Locations that no permitted stream from the start leads to go, and so do rules that decide no event there. What clean answers stands in specs/.
 mod enter;
 mod flags;
 mod list;

@@ -11,14 +11,14 @@ ghost use lib.Dec.{eqb};
 ghost use lib.ListN.{length, getD};
 ghost use Rattle.policy.specs.File.{rulesOf};
 ghost use Rattle.policy.specs.Bytes.{pairBytes};
-ghost use Rattle.join.specs.Lay.{Laid};
+ghost use Rattle.join.specs.Lay.{LaidAt};
 ghost use Rattle.cleaning.specs.Clean.{struckBytes, locationsStruck, rulesStruck};
 ghost use Rattle.cleaning.specs.Code.{flagsOf, Flagged, struckBy};
 
 // One entry: the kind, then the old number in two bytes. Where it is kept there is none.
 fn lay_unless(kept: bool, kind: usize, number: usize, out: &mut [u8], at: usize) -> usize
     requires { ⌜ (kind < 256) × (number < 65536) × (at < 2 ^ 16) ⌝ }
-    ensures { λ r. ⌜ Laid (cond kept [] (kind ∷ pairBytes number)) (now (out .entry)) at (now (out .exit)) r × (r ≤ at + 3) ⌝ }
+    ensures { λ r. ⌜ LaidAt (cond kept [] (kind ∷ pairBytes number)) (now (out .entry)) at (now (out .exit)) r × (r ≤ at + 3) ⌝ }
 {
     if kept {
         return at;
@@ -30,7 +30,7 @@ fn lay_unless(kept: bool, kind: usize, number: usize, out: &mut [u8], at: usize)
 // The locations whose flags are not set.
 fn lay_locations(entered: &[u8], out: &mut [u8]) -> usize
     requires { ⌜ length (now entered) ≤ 64 ⌝ }
-    ensures { λ r. ⌜ Laid (struckBytes (locationsStruck 0 (flagsOf (now (entered .entry))))) (now (out .entry)) 0 (now (out .exit)) r ⌝ }
+    ensures { λ r. ⌜ LaidAt (struckBytes (locationsStruck 0 (flagsOf (now (entered .entry))))) (now (out .entry)) 0 (now (out .exit)) r ⌝ }
     ensures { λ r. ⌜ r ≤ 192 ⌝ }
 {
     let mut next = 0;
@@ -61,7 +61,7 @@ fn lay_rules_struck(
     at: usize,
 ) -> usize
     requires { ⌜ Flagged (now file) layout (now entered) (now used) × (at ≤ 192) ⌝ }
-    ensures { λ r. ⌜ Laid (struckBytes (rulesStruck (flagsOf (now (entered .entry))) 0 (flagsOf (now (used .entry))) (rulesOf (now (file .entry))))) (now (out .entry)) at (now (out .exit)) r ⌝ }
+    ensures { λ r. ⌜ LaidAt (struckBytes (rulesStruck (flagsOf (now (entered .entry))) 0 (flagsOf (now (used .entry))) (rulesOf (now (file .entry))))) (now (out .entry)) at (now (out .exit)) r ⌝ }
 {
     let clocks = layout.clocks;
     let size = 7 + 4 * clocks;
@@ -87,7 +87,7 @@ pub(crate) fn lay_list(
     out: &mut [u8],
 ) -> usize
     requires { ⌜ Flagged (now file) layout (now entered) (now used) ⌝ }
-    ensures { λ r. ⌜ Laid (struckBy (now (file .entry)) layout (now (entered .entry)) (now (used .entry))) (now (out .entry)) 0 (now (out .exit)) r ⌝ }
+    ensures { λ r. ⌜ LaidAt (struckBy (now (file .entry)) layout (now (entered .entry)) (now (used .entry))) (now (out .entry)) 0 (now (out .exit)) r ⌝ }
 {
     let next = lay_locations(entered, out);
     lay_rules_struck(file, layout, entered, used, out, next)

@@ -12,9 +12,9 @@ ghost use mathlib.Core.List.{[]};
 ghost use Prim.Native.Nat.{_+_, _*_, _≤_, _<_, _^_};
 ghost use lib.ListN.{length};
 ghost use Rattle.policy.specs.File.{ruleSize, ruleFrom, rulesFrom, rulesOf};
-ghost use Rattle.join.specs.Lay.{Laid, bytesFrom};
+ghost use Rattle.join.specs.Lay.{LaidAt, bytesFrom};
 ghost use Rattle.cleaning.specs.Sift.{sift};
-ghost use Rattle.cleaning.specs.Code.{flagsOf, Ends, Flagged, cleanedRule, cleanedRules, cleanedBy};
+ghost use Rattle.cleaning.specs.Code.{flagsOf, EndsAt, Flagged, cleanedRule, cleanedRules, cleanedBy};
 
 // The rule at p, with the new numbers of its locations.
 fn lay_rule(
@@ -26,8 +26,8 @@ fn lay_rule(
     at: usize,
 ) -> usize
     requires { ⌜ (p + ruleSize clocks ≤ length (now file)) × (clocks ≤ 4) × (p < 2 ^ 16) × (at < 2 ^ 16) ⌝ }
-    requires { ⌜ Ends (now file) p (length (now entered)) × (length (now entered) ≤ 64) ⌝ }
-    ensures { λ r. ⌜ Laid (cleanedRule (flagsOf (now (entered .entry))) (ruleFrom clocks (now (file .entry)) p)) (now (out .entry)) at (now (out .exit)) r ⌝ }
+    requires { ⌜ EndsAt (now file) p (length (now entered)) × (length (now entered) ≤ 64) ⌝ }
+    ensures { λ r. ⌜ LaidAt (cleanedRule (flagsOf (now (entered .entry))) (ruleFrom clocks (now (file .entry)) p)) (now (out .entry)) at (now (out .exit)) r ⌝ }
 {
     let source = rank(entered, byte_within(file, p));
     let target = renumber(entered, byte_within(file, p + 6));
@@ -48,8 +48,8 @@ fn lay_kept(
     at: usize,
 ) -> usize
     requires { ⌜ (p + ruleSize clocks ≤ length (now file)) × (clocks ≤ 4) × (p < 2 ^ 16) × (at < 2 ^ 16) ⌝ }
-    requires { ⌜ Ends (now file) p (length (now entered)) × (length (now entered) ≤ 64) ⌝ }
-    ensures { λ r. ⌜ Laid (cond kept (cleanedRule (flagsOf (now (entered .entry))) (ruleFrom clocks (now (file .entry)) p)) []) (now (out .entry)) at (now (out .exit)) r × (r ≤ at + 23) ⌝ }
+    requires { ⌜ EndsAt (now file) p (length (now entered)) × (length (now entered) ≤ 64) ⌝ }
+    ensures { λ r. ⌜ LaidAt (cond kept (cleanedRule (flagsOf (now (entered .entry))) (ruleFrom clocks (now (file .entry)) p)) []) (now (out .entry)) at (now (out .exit)) r × (r ≤ at + 23) ⌝ }
 {
     if !kept {
         return at;
@@ -67,7 +67,7 @@ fn lay_rules(
     at: usize,
 ) -> usize
     requires { ⌜ Flagged (now file) layout (now entered) (now used) × (at < 2 ^ 12) ⌝ }
-    ensures { λ r. ⌜ Laid (cleanedRules (flagsOf (now (entered .entry))) (flagsOf (now (used .entry))) (rulesOf (now (file .entry)))) (now (out .entry)) at (now (out .exit)) r ⌝ }
+    ensures { λ r. ⌜ LaidAt (cleanedRules (flagsOf (now (entered .entry))) (flagsOf (now (used .entry))) (rulesOf (now (file .entry)))) (now (out .entry)) at (now (out .exit)) r ⌝ }
 {
     let clocks = layout.clocks;
     let size = 7 + 4 * clocks;
@@ -86,7 +86,7 @@ fn lay_rules(
 // The bytes from `start` on whose flags are set.
 fn lay_left(file: &[u8], start: usize, entered: &[u8], out: &mut [u8], at: usize) -> usize
     requires { ⌜ (start + length (now entered) ≤ length (now file)) × (length (now entered) ≤ 64) × (start < 2 ^ 16) × (at < 2 ^ 16) ⌝ }
-    ensures { λ r. ⌜ Laid (sift (flagsOf (now (entered .entry))) (bytesFrom (now (file .entry)) start (length (now (entered .entry))))) (now (out .entry)) at (now (out .exit)) r ⌝ }
+    ensures { λ r. ⌜ LaidAt (sift (flagsOf (now (entered .entry))) (bytesFrom (now (file .entry)) start (length (now (entered .entry))))) (now (out .entry)) at (now (out .exit)) r ⌝ }
     ensures { λ r. ⌜ r ≤ at + 64 ⌝ }
 {
     let mut next = at;
@@ -111,7 +111,7 @@ pub(crate) fn lay_policy(
     out: &mut [u8],
 ) -> usize
     requires { ⌜ Flagged (now file) layout (now entered) (now used) ⌝ }
-    ensures { λ r. ⌜ Laid (cleanedBy (now (file .entry)) layout (now (entered .entry)) (now (used .entry))) (now (out .entry)) 0 (now (out .exit)) r ⌝ }
+    ensures { λ r. ⌜ LaidAt (cleanedBy (now (file .entry)) layout (now (entered .entry)) (now (used .entry))) (now (out .entry)) 0 (now (out .exit)) r ⌝ }
 {
     let locations = layout.rules_start - 3 - layout.locations;
     let places = rank(entered, entered.len());

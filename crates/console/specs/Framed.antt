@@ -7,7 +7,8 @@ use lib.Dec.{leb}
 use lib.ListN.{length, take, drop, length-append}
 use lib.Seq.{getD-append-seam, getD-append-add, take-append-seam, drop-append-add}
 use borrow.Author.Tests.{leb-true, le-leb}
-use Rattle.streams.specs.Answer.{unless, none-refused, none-unless}
+use Rattle.streams.specs.Answer.{unless}
+use Rattle.streams.specs.AnswerLaws.{none-refused, none-unless}
 use Rattle.policy.specs.File.{pairAt, part}
 use Rattle.console.specs.Frame.{
   countRefusal,
@@ -45,7 +46,7 @@ events-fit input e =
     (fits .0, omega (arith, fits .1))
 
 -- The bytes stand in the input, after their count at `at`.
-record Stands (input : List ℕ) (at : ℕ) (bytes : List ℕ) : Type 0 where
+record StandsIn (input : List ℕ) (at : ℕ) (bytes : List ℕ) : Type 0 where
   count : pairAt input at ≡ length bytes
   there : part input (at + 2) (length bytes) ≡ bytes
   within : at + 2 + length bytes ≤ length input
@@ -53,7 +54,7 @@ record Stands (input : List ℕ) (at : ℕ) (bytes : List ℕ) : Type 0 where
 abbrev pub counted : List ℕ → List ℕ
 counted bytes = length bytes / 256 ∷ length bytes % 256 ∷ bytes
 
-stands : (before bytes after : List ℕ) → Stands (before ++ (counted bytes ++ after)) (length before) bytes
+stands : (before bytes after : List ℕ) → StandsIn (before ++ (counted bytes ++ after)) (length before) bytes
 stands before bytes after =
     let high = getD-append-seam before (length bytes / 256) (length bytes % 256 ∷ bytes ++ after) 0 in
     let low = getD-append-add before (counted bytes ++ after) 1 0 in
@@ -63,7 +64,7 @@ stands before bytes after =
       within = simp length-append (omega arith);
     }
 
-accepted : {input : List ℕ} {at : ℕ} {bytes : List ℕ} (most : ℕ) → Stands input at bytes → length bytes ≤ most → countRefusal input at most ≡ 0
+accepted : {input : List ℕ} {at : ℕ} {bytes : List ℕ} (most : ℕ) → StandsIn input at bytes → length bytes ≤ most → countRefusal input at most ≡ 0
 unfolding countRefusal
 accepted {input} {at} {bytes} most s h =
     rw (
@@ -78,15 +79,15 @@ abbrev pub framed : (policy events : List ℕ) → List ℕ
 framed policy events = counted policy ++ counted events
 
 module _ (policy events : List ℕ) where
-  policy-stands : Stands (framed policy events) 0 policy
+  policy-stands : StandsIn (framed policy events) 0 policy
   policy-stands = stands [] policy (counted events)
 
   policy-end : length (counted policy) ≡ policyEnd (framed policy events)
   policy-end = omega (arith, policy-stands .count)
 
-  events-stand : Stands (framed policy events) (policyEnd (framed policy events)) events
+  events-stand : StandsIn (framed policy events) (policyEnd (framed policy events)) events
   events-stand =
-      subst (λ (at : ℕ). Stands (framed policy events) at events) policy-end
+      subst (λ (at : ℕ). StandsIn (framed policy events) at events) policy-end
       (rw append-nil at (stands (counted policy) events []))
 
   pub policy-read : length policy ≤ 5974 → (policyFrameRefusal (framed policy events) ≡ 0) × (policyPart (framed policy events) ≡ policy)

@@ -5,4 +5,5 @@ pub mod Framed
 pub mod Printed
 pub mod Scratch
 pub mod Reply
+pub mod Replies
 pub mod Longer

@@ -10,11 +10,12 @@ use lib.Seq.{take-append-le, drop-append-le}
 use borrow.Author.Tests.{leb-true, le-leb, lt-leb}
 use Rattle.streams.specs.Answer.{Answer, refused, gives, _orElse_, unless}
 use Rattle.policy.specs.File.{pairAt, part}
-use Rattle.prepare.specs.Entry.{Summary, prepareOf}
+use Rattle.prepare.specs.Entry.{prepareOf}
+use Rattle.prepare.specs.declared.Summary.{Summary}
 use Rattle.console.specs.Frame.{countRefusal, policyFrameRefusal, policyEnd, policyPart, eventsFrameRefusal, eventsEnd}
 use Rattle.console.specs.Framed.{count-fits, events-fit}
 use Rattle.console.specs.Printed.{unlessRefused, lent, enforcedText, printed}
-use Rattle.console.specs.Reply.{events-refused}
+use Rattle.console.specs.Replies.{events-refused}
 
 module _ (front rest : List ℕ) where
   pair-front : (at : ℕ) → at + 1 < length front → pairAt (front ++ rest) at ≡ pairAt front at

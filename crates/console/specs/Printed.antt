@@ -8,7 +8,8 @@ use Rattle.policy.specs.File.{policyOf}
 use Rattle.enforcer.specs.State.{stateOf}
 use Rattle.enforcer.specs.Entries.{RunAnswer, runOf}
 use Rattle.prepare.specs.Table.{marksOf}
-use Rattle.prepare.specs.Entry.{Summary, prepareOf}
+use Rattle.prepare.specs.Entry.{prepareOf}
+use Rattle.prepare.specs.declared.Summary.{Summary}
 use Rattle.console.specs.Text.{verdictLine, refusedLine, tickLines}
 use Rattle.console.specs.Frame.{policyFrameRefusal, policyPart, eventsFrameRefusal, eventsPart}
 

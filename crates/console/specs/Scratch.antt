@@ -15,13 +15,14 @@ use Rattle.policy.specs.Rules.{Policy, Place, start}
 use Rattle.policy.specs.File.{policyOf}
 use Rattle.policy.specs.Check.{all}
 use Rattle.enforcer.specs.State.{placeIn, stateOf}
-use Rattle.enforcer.specs.Tick.{Tick, Ran, tick, ran}
+use Rattle.enforcer.specs.Tick.{ReleasedTick, Progress, tick, ran}
 use Rattle.enforcer.specs.Ticks.{ran-on, ran-none}
 use Rattle.enforcer.specs.Entries.{eventOf, byteOf, RunAnswer, runFrom, eventGood, marksRefusal, stateRefusal, runRefusal, runOf}
-use Rattle.enforcer.specs.Code.{asPlace, startState}
+use Rattle.enforcer.specs.Code.{startState}
 use Rattle.prepare.specs.Entry.{prepareOf}
 use Rattle.console.specs.Text.{tickLines}
 use Rattle.console.specs.Lines.{lines-all}
+use Rattle.enforcer.specs.declared.state.State.{State}
 
 -- Of the marks that are lent, prepare's answer depends on their number alone.
 pub prepare-alike : (reading : ℕ) (file marks others : List ℕ) → length marks ≡ length others → prepareOf reading file marks ≡ prepareOf reading file others
@@ -35,12 +36,12 @@ ran-all p marks s [] h = refl
 ran-all p marks s (e ∷ es) h = go (λ t. ran-all p marks (t .place) es) (tick p marks s e) refl h
   where
     go :
-        ((t : Tick) → ran p marks (t .place) es .stuck ≡ false → length (ran p marks (t .place) es .released) ≡ length es) →
-        (o : Option Tick) → tick p marks s e ≡ o → ran p marks s (e ∷ es) .stuck ≡ false → length (ran p marks s (e ∷ es) .released) ≡ suc (length es)
-    go more none k h = let r = ran-none p marks s e es k in absurd (true≢false (sym (ap (λ (r : Ran). r .stuck) r) ∙ h))
+        ((t : ReleasedTick) → ran p marks (t .place) es .stuck ≡ false → length (ran p marks (t .place) es .released) ≡ length es) →
+        (o : Option ReleasedTick) → tick p marks s e ≡ o → ran p marks s (e ∷ es) .stuck ≡ false → length (ran p marks s (e ∷ es) .released) ≡ suc (length es)
+    go more none k h = let r = ran-none p marks s e es k in absurd (true≢false (sym (ap (λ (r : Progress). r .stuck) r) ∙ h))
     go more (some t) k h =
         let r = ran-on p marks s e es t k in
-        ap (λ (r : Ran). length (r .released)) r ∙ ap suc (more t (sym (ap (λ (r : Ran). r .stuck) r) ∙ h))
+        ap (λ (r : Progress). length (r .released)) r ∙ ap suc (more t (sym (ap (λ (r : Progress). r .stuck) r) ∙ h))
 
 moving : (t : Bool) → _≡_ {A = ℕ} (cond t 17 0) 0 → t ≡ false
 moving true e = absurd (omega arith)
@@ -55,12 +56,12 @@ released-lines events bytes rest e =
     ∙ lines-all 1 n events bytes (le-refl n)
 
 -- Two runs over the events that print the same.
-pub record Alike (events : List ℕ) (q o : RunAnswer) : Type 0 where
+pub record SameRun (events : List ℕ) (q o : RunAnswer) : Type 0 where
   pub refusal : q .refusal ≡ o .refusal
   pub lines : q .refusal ≡ 0 → tickLines 1 events (q .out) ≡ tickLines 1 events (o .out)
 
-module _ (reading : ℕ) (file marks : List ℕ) (s : Place) (events a b : List ℕ) where
-  pub run-alike : length events ≤ length a → length events ≤ length b → Alike events (runOf reading file marks s events a) (runOf reading file marks s events b)
+module _ (reading : ℕ) (file marks : List ℕ) (s : State) (events a b : List ℕ) where
+  pub run-alike : length events ≤ length a → length events ≤ length b → SameRun events (runOf reading file marks s events a) (runOf reading file marks s events b)
   unfolding runOf runRefusal
   run-alike h k =
       let t = placeIn (policyOf reading file) s in
@@ -69,7 +70,7 @@ module _ (reading : ℕ) (file marks : List ℕ) (s : Place) (events a b : List 
       (go (marksRefusal reading file marks orElse stateRefusal reading file marks s orElse unless (all (eventGood reading file) events) 15) r
       (λ e. length-map (r .released) byteOf ∙ ran-all (policyOf reading file) marks t (map eventOf events) e ∙ length-map events eventOf))
     where
-      go : (n : ℕ) (r : Ran) → (r .stuck ≡ false → length (map byteOf (r .released)) ≡ length events) → Alike events (runFrom s a n r) (runFrom s b n r)
+      go : (n : ℕ) (r : Progress) → (r .stuck ≡ false → length (map byteOf (r .released)) ≡ length events) → SameRun events (runFrom s a n r) (runFrom s b n r)
       go (suc n) r f = record { refusal = refl; lines = λ z. absurd (omega arith) }
       go zero r f =
           let bytes = map byteOf (r .released) in
@@ -89,7 +90,7 @@ module _ (reading : ℕ) (file marks : List ℕ) (s : Place) (events a b : List 
       (go (marksRefusal reading file marks orElse stateRefusal reading file marks s orElse unless (all (eventGood reading file) events) 15) r
       (λ k. length-map (r .released) byteOf ∙ ran-all (policyOf reading file) marks t (map eventOf events) k ∙ length-map events eventOf))
     where
-      go : (n : ℕ) (r : Ran) → (r .stuck ≡ false → length (map byteOf (r .released)) ≡ length events) → runFrom s a n r .refusal ≡ 0 →
+      go : (n : ℕ) (r : Progress) → (r .stuck ≡ false → length (map byteOf (r .released)) ≡ length events) → runFrom s a n r .refusal ≡ 0 →
           take (length events) (runFrom s a n r .out) ≡ runFrom s b n r .out
       go (suc n) r f z = absurd (omega arith)
       go zero r f z =
@@ -99,7 +100,7 @@ module _ (reading : ℕ) (file marks : List ℕ) (s : Place) (events a b : List 
           take-at bytes _ _ k ∙ sym (ap (λ (rest : List ℕ). bytes ++ rest) (drop-of-length-le b l) ∙ append-nil bytes)
 
 -- "The start state is location 0 with every clock 0", whatever the clocks are.
-pub start-is : (p : Policy) → length (p .ceilings) ≤ 4 → stateOf (start p) ≡ asPlace startState
+pub start-is : (p : Policy) → length (p .ceilings) ≤ 4 → stateOf (start p) ≡ startState
 start-is p h =
     let n = length (p .ceilings) in
     let e : n + (4 - length (replicate {A = ℕ} n 0)) ≡ 4 = rw length-replicate (omega arith) in

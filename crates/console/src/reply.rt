@@ -12,9 +12,9 @@ use prepare::Summary;
 ghost use mathlib.Core.Path.{_≡_};
 ghost use lib.ListN.{length};
 ghost use Rattle.streams.specs.Answer.{gives};
-ghost use Rattle.prepare.specs.Promise.{summarySaid};
 ghost use Rattle.console.specs.Printed.{enforcedText, printed};
-ghost use Rattle.console.specs.Reply.{Replied, Prepares};
+ghost use Rattle.console.specs.Reply.{Replied};
+ghost use Rattle.console.specs.Replies.{Prepares};
 
 // The reading that the program uses.
 const READING: u8 = 1;
@@ -30,7 +30,7 @@ fn reply_events(
 ) -> usize
     requires { ⌜ Prepares (now input) (now file) (now marks) ⌝ }
     requires { ⌜ (length (now released) ≡ 16384) × (length (now text) ≡ 344130) ⌝ }
-    ensures { λ r. ⌜ Replied (now (text .entry)) (enforcedText (now (input .entry)) (gives (summarySaid summary))) r (now (text .exit)) ⌝ }
+    ensures { λ r. ⌜ Replied (now (text .entry)) (enforcedText (now (input .entry)) (gives summary)) r (now (text .exit)) ⌝ }
 {
     let frame = events_frame(input);
     if frame.refusal != 0 {

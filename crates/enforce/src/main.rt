@@ -1,4 +1,4 @@
-// Reads a policy and events from standard input, and prints what the enforcer releases for them.
+// Reads a policy and events from standard input, and prints what the enforcer releases.
 use libc::STDIN_FILENO;
 use libc::STDOUT_FILENO;
 

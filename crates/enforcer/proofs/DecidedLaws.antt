@@ -15,10 +15,11 @@ use Rattle.policy.specs.Own.{decides-own}
 use Rattle.policy.specs.Checked.{well-rising}
 use Rattle.policy.specs.declared.Layout.{Layout}
 use Rattle.enforcer.specs.Tick.{reaches}
-use Rattle.enforcer.specs.Code.{eventXY, place, decider, stepFrom}
+use Rattle.enforcer.specs.Code.{eventXY, decider, stepFrom}
+use Rattle.enforcer.specs.State.{place}
 use Rattle.enforcer.specs.Ready.{Laid, HereOf}
 use Rattle.enforcer.specs.Laid.{laid-well}
-use Rattle.enforcer.specs.Pass.{Ahead, RuleAt, own-here, own-ahead, ahead-rule, ahead-rest}
+use Rattle.enforcer.specs.RuleAhead.{Ahead, RuleAt, own-here, own-ahead, ahead-rule, ahead-rest}
 use Rattle.enforcer.specs.Ways.{leads}
 use Rattle.enforcer.specs.Decided.{ruleSaid, Decided}
 use Rattle.enforcer.specs.declared.state.State.{State}

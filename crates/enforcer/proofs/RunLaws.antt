@@ -11,17 +11,16 @@ use lib.ListN.{length, getD, take, drop, set, replicate, length-set, take-append
 use lib.Seq.{drop-cons, append-snoc, drop-set-lt, take-suc-set}
 use borrow.Author.Tests.{le-leb, eqb-true}
 use Rattle.streams.specs.Answer.{unless}
-use Rattle.policy.specs.Rules.{Policy, Place}
+use Rattle.policy.specs.Rules.{Policy}
 use Rattle.policy.specs.File.{policyOf}
 use Rattle.policy.specs.Check.{all}
 use Rattle.policy.specs.Stays.{of-some}
 use Rattle.policy.specs.Sound.{Inside}
 use Rattle.policy.specs.declared.Layout.{Layout}
-use Rattle.enforcer.specs.State.{stateOf, clocksGood, stateGood}
+use Rattle.enforcer.specs.State.{stateOf, clocksGood, stateGood, place}
 use Rattle.enforcer.specs.Tick as Spec
 use Rattle.enforcer.specs.Ticks.{ticked, ticked-fits, ran-on, ran-none}
 use Rattle.enforcer.specs.Entries.{eventOf, byteOf, eventGood, RunAnswer, marksRefusal, stateRefusal, runFrom, runRefusal, runOf}
-use Rattle.enforcer.specs.Code.{asPlace, place, stateFrom}
 use Rattle.enforcer.specs.Ready.{Laid, Standing}
 use Rattle.enforcer.specs.Laid.{laid-clocks, laid-inputs, laid-outputs, place-back, next-inside}
 use Rattle.enforcer.specs.States.{good-inside}
@@ -32,7 +31,7 @@ use Rattle.enforcer.specs.declared.tick.Ticked.{Ticked}
 use Rattle.enforcer.specs.declared.runs.Ran.{Ran}
 
 -- What a run answers that has written i events to `out` and goes on as r.
-abbrev goesOn : ℕ → List ℕ → Spec.Ran → RunAnswer
+abbrev goesOn : ℕ → List ℕ → Spec.Progress → RunAnswer
 goesOn i out r =
     record {
       refusal = cond (r .stuck) 17 0;
@@ -41,13 +40,13 @@ goesOn i out r =
       out = take i out ++ (map byteOf (r .released) ++ drop (i + length (r .released)) out);
     }
 
-goes-put : (p : Policy) (marks : List ℕ) (t : Spec.Tick) (r : Spec.Ran) (i : ℕ) (out : List ℕ) → i < length out →
+goes-put : (p : Policy) (marks : List ℕ) (t : Spec.ReleasedTick) (r : Spec.Progress) (i : ℕ) (out : List ℕ) → i < length out →
     goesOn i out (Spec.put p marks t r) ≡ goesOn (suc i) (set out i (byteOf (t .event))) r
 goes-put p marks t r i out h =
     let n : i + suc (length (r .released)) ≡ suc i + length (r .released) = omega arith in
     rw (n, drop-set-lt (suc i + length (r .released)) out i (byteOf (t .event)) (omega arith), take-suc-set, append-snoc)
 
-goes-ends : (i : ℕ) (out : List ℕ) (k : ℕ) (s : State) (b : Bool) → stateFrom (place k s) ≡ s →
+goes-ends : (i : ℕ) (out : List ℕ) (k : ℕ) (s : State) (b : Bool) → stateOf (place k s) ≡ s →
     goesOn i out (record { released = []; place = place k s; stuck = b }) ≡ ranSaid (record { refusal = cond b 17 0; count = i; state = s }) out
 goes-ends i out k s b w =
     rw (add-zero, take-append-drop) (ap (λ (u : State). ranSaid (record { refusal = cond b 17 0; count = i; state = u }) out) w)
@@ -57,12 +56,12 @@ pub record Going (f : List ℕ) (l : Layout) (marks events out₀ : List ℕ) (s
   pub most : i ≤ length events
   pub long : length out ≡ length out₀
   pub standing : Standing f l marks s
-  pub whole : stateFrom (place (l .clocks) s) ≡ s
+  pub whole : stateOf (place (l .clocks) s) ≡ s
   pub answer :
-      runFrom (asPlace s₀) out₀ 0 (Spec.ran (policyOf (l .reading) f) marks (place (l .clocks) s₀) (map eventOf events))
+      runFrom s₀ out₀ 0 (Spec.ran (policyOf (l .reading) f) marks (place (l .clocks) s₀) (map eventOf events))
       ≡ goesOn i out (Spec.ran (policyOf (l .reading) f) marks (place (l .clocks) s) (map eventOf (drop i events)))
 
-pub going-starts : {f : List ℕ} {l : Layout} {marks : List ℕ} (events out : List ℕ) {s : State} → Standing f l marks s → stateFrom (place (l .clocks) s) ≡ s →
+pub going-starts : {f : List ℕ} {l : Layout} {marks : List ℕ} (events out : List ℕ) {s : State} → Standing f l marks s → stateOf (place (l .clocks) s) ≡ s →
     Going f l marks events out s 0 out s
 going-starts events out k w = record { most = zero-le; long = refl; standing = k; whole = w; answer = rw zero-add }
 
@@ -71,7 +70,7 @@ module _ {f : List ℕ} {l : Layout} {marks events out₀ : List ℕ} {s₀ : St
   abbrev said : ℕ → Type 0
   said n =
       ranSaid (record { refusal = n; count = i; state = s }) out
-      ≡ runFrom (asPlace s₀) out₀ 0 (Spec.ran (policyOf (l .reading) f) marks (place (l .clocks) s₀) (map eventOf events))
+      ≡ runFrom s₀ out₀ 0 (Spec.ran (policyOf (l .reading) f) marks (place (l .clocks) s₀) (map eventOf events))
 
   pub going-ends : length events ≤ i → said 0
   unfolding Spec.ran
@@ -100,7 +99,7 @@ module _ {f : List ℕ} {l : Layout} {marks events out₀ : List ℕ} {s₀ : St
             most = omega arith;
             long = length-set out i _ ∙ g .long;
             standing = record { laid = k; enough = g .standing .enough; inside = rw b d };
-            whole = ap stateFrom b;
+            whole = ap stateOf b;
             answer =
                 g .answer
                 ∙ rw (b, add-one, drop-cons events i 0, ran-on _ _ _ _ _ _ (t .1))
@@ -120,17 +119,17 @@ clocks-back (c ∷ cs) [] e = absurd (false≢true e)
 clocks-back (c ∷ cs) (v ∷ vs) e = rw suc-sub-suc (ap (_∷_ v) (clocks-back cs vs (and-eq-true-iff (leb v c) _ .0 e .1)))
 
 -- A state whose unused clocks are 0 is that of its place.
-pub good-back : {f : List ℕ} {l : Layout} → Laid f l → (s : State) → length (s .clocks) ≡ 4 → stateGood (policyOf (l .reading) f) (asPlace s) ≡ true →
-    stateFrom (place (l .clocks) s) ≡ s
+pub good-back : {f : List ℕ} {l : Layout} → Laid f l → (s : State) → length (s .clocks) ≡ 4 → stateGood (policyOf (l .reading) f) s ≡ true →
+    stateOf (place (l .clocks) s) ≡ s
 unfolding stateGood
 good-back {f} {l} k s n e =
     let cs = policyOf (l .reading) f .ceilings in
     let g = and-eq-true-iff (ltb (s .location) (policyOf (l .reading) f .locations)) _ .0 e .1 in
-    let i = good-inside (policyOf (l .reading) f) (asPlace s) e .clocks in
+    let i = good-inside (policyOf (l .reading) f) s e .clocks in
     ap (λ (vs : List ℕ). record { location = s .location; clocks = vs }) (rw (laid-clocks k, i, ← n) (clocks-back cs (s .clocks) g))
 
 -- Past 10, 14 and 16 only 15 is left to ask; l is the layout under the reading that was named.
-pub run-past : (reading : ℕ) (file marks events out : List ℕ) (s : Place) (l : Layout) → l .reading ≡ reading → marksRefusal reading file marks ≡ 0 →
+pub run-past : (reading : ℕ) (file marks events out : List ℕ) (s : State) (l : Layout) → l .reading ≡ reading → marksRefusal reading file marks ≡ 0 →
     length events ≤ length out → stateRefusal (l .reading) file marks s ≡ 0 →
     runRefusal reading file marks s events out ≡ unless (all (eventGood (l .reading) file) events) 15
 unfolding runRefusal
@@ -140,10 +139,10 @@ run-past reading file marks events out s l e m n z =
 
 -- A refusal is answered with the state that was given, and nothing is written.
 pub run-refused : {reading : ℕ} {file marks events out : List ℕ} {s : State} {r : Ran} {n : ℕ} → r ≡ record { refusal = n; count = 0; state = s } → (n ≡ 0 → ⊥) →
-    runRefusal reading file marks (asPlace s) events out ≡ n → RunPromise reading file marks s events out r out
+    runRefusal reading file marks s events out ≡ n → RunPromise reading file marks s events out r out
 unfolding runOf
 run-refused {out = out} {s = s} {n = n} e h k = record { said = rw (e, k) (go n h _) }
   where
-    go : (m : ℕ) → (m ≡ 0 → ⊥) → (q : Spec.Ran) → record { refusal = m; count = 0; state = asPlace s; out = out } ≡ runFrom (asPlace s) out m q
+    go : (m : ℕ) → (m ≡ 0 → ⊥) → (q : Spec.Progress) → record { refusal = m; count = 0; state = s; out = out } ≡ runFrom s out m q
     go zero h q = absurd (h refl)
     go (suc m) h q = refl

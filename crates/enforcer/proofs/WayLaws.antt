@@ -15,8 +15,7 @@ use Rattle.policy.specs.Numbered.{numberOf-below}
 use Rattle.policy.specs.Sound.{Formed, Inside}
 use Rattle.policy.specs.Stays.{is-location, advance-length, advance-stopped}
 use Rattle.policy.specs.declared.Layout.{Layout}
-use Rattle.enforcer.specs.State.{isMarked}
-use Rattle.enforcer.specs.Code.{place}
+use Rattle.enforcer.specs.State.{isMarked, place}
 use Rattle.enforcer.specs.Ready.{Laid, HereOf}
 use Rattle.enforcer.specs.Laid.{Numbered, laid-limits, laid-ceilings, laid-four, four-number}
 use Rattle.enforcer.specs.declared.state.State.{State}
@@ -25,7 +24,7 @@ use Rattle.enforcer.proofs.Laws.{advance-four}
 use Rattle.choice.specs.Sets.{cond-same}
 use Rattle.enforcer.specs.Ways.{holds, takes, leads}
 use Rattle.choice.specs.Outs.{outs}
-use Rattle.enforcer.specs.Pass.{RuleAt}
+use Rattle.enforcer.specs.RuleAhead.{RuleAt}
 
 -- A violation leads nowhere.
 pub leads-violation : (s : Place) (p : Policy) (marks : List ℕ) (r : Rule) → r .target ≡ 255 → leads s p marks r ≡ false

@@ -4,10 +4,11 @@ use mathlib.Core.Bool.{Bool, true, false, cond, false≢true}
 use mathlib.Core.List.{List}
 use mathlib.Core.Option.{Option, none, some, bind}
 use Prim.Native.Nat.{ℕ, _<_}
-use Rattle.streams.specs.Choose.{any-has, nearest-kept}
+use Rattle.streams.specs.ChooseLaws.{any-has, nearest-kept}
 use Rattle.policy.specs.Rules.{Policy, Place, inputValues, outputValues, stopped, step}
 use Rattle.enforcer.specs.Tick.{arrives, reaches, mayStand, inputChoice, outputChoice, outputTick, tick}
-use Rattle.enforcer.specs.Code.{eventXY, stateFrom, stepFrom}
+use Rattle.enforcer.specs.Code.{eventXY, stepFrom}
+use Rattle.enforcer.specs.State.{stateOf}
 use Rattle.enforcer.specs.Chosen.{tickFrom, output-chosen}
 use Rattle.enforcer.specs.declared.state.State.{State}
 use Rattle.enforcer.specs.declared.next.Step.{Step}
@@ -41,11 +42,11 @@ module _ (p : Policy) (marks : List ℕ) (s : Place) (x y : ℕ) where
         go none = refl
         go (some u) = marked u (arrives p marks (some u))
 
-    pub arrival-some : r .permitted ≡ true → (u : Place) × (step stopped p s (eventXY x y) ≡ some u) × (r .state ≡ stateFrom u)
+    pub arrival-some : r .permitted ≡ true → (u : Place) × (step stopped p s (eventXY x y) ≡ some u) × (r .state ≡ stateOf u)
     unfolding arrival
     arrival-some h = go (step stopped p s (eventXY x y)) (reaches p marks s x y) e
       where
-        go : (d : Option Place) (b : Bool) → r ≡ stepFrom t (cond b d none) → (u : Place) × (d ≡ some u) × (r .state ≡ stateFrom u)
+        go : (d : Option Place) (b : Bool) → r ≡ stepFrom t (cond b d none) → (u : Place) × (d ≡ some u) × (r .state ≡ stateOf u)
         go d false q = absurd (false≢true (sym (ap (λ (z : Step). z .permitted) q) ∙ h))
         go none true q = absurd (false≢true (sym (ap (λ (z : Step). z .permitted) q) ∙ h))
         go (some u) true q = (u, refl, ap (λ (z : Step). z .state) q)

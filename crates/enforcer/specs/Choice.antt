@@ -5,12 +5,14 @@ use Prim.Native.Nat.{ℕ}
 use lib.Dec.{ltb}
 use lib.ListN.{getD}
 use borrow.Author.Tests.{lt-ltb}
-use Rattle.streams.specs.Choose.{nearest, nearest-ext}
+use Rattle.streams.specs.Choose.{nearest}
+use Rattle.streams.specs.ChooseLaws.{nearest-ext}
 use Rattle.policy.specs.Rules.{Policy, Place, inputValues, outputValues}
 use Rattle.policy.specs.Sound.{WellFormed}
 use Rattle.choice.specs.Sets.{has}
 use Rattle.enforcer.specs.Tick.{mayStand, reaches, inputChoice, outputChoice}
-use Rattle.enforcer.specs.Ways.{allowed, row, allowed-stands, row-has}
+use Rattle.enforcer.specs.Ways.{allowed, row}
+use Rattle.enforcer.specs.WaysLaws.{allowed-stands, row-has}
 
 module _ (p : Policy) (k : WellFormed p) (marks : List ℕ) (s : Place) where
   pub sets-chosen : (sets : List ℕ) (all : ℕ) → ((x : ℕ) → getD sets x 0 ≡ allowed p marks s x) → ((x : ℕ) → has all x ≡ ltb 0 (getD sets x 0)) → (x : ℕ) →

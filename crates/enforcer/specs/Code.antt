@@ -4,32 +4,21 @@ use mathlib.Core.List.{List, [], _∷_}
 use mathlib.Core.Option.{Option, none, some, Option·map}
 use Prim.Native.Nat.{ℕ, suc}
 use lib.Dec.{eqb}
-use lib.ListN.{take}
 use Rattle.streams.specs.Stream.{Event}
 use Rattle.policy.specs.Rules.{Rule, Place, fires, stopped, advance}
-use Rattle.policy.specs.Number.{four, locationFrom, clocksFrom}
+use Rattle.policy.specs.Number.{locationFrom, clocksFrom}
 use Rattle.policy.specs.declared.Layout.{Layout}
 use Rattle.enforcer.specs.declared.state.State.{State}
 use Rattle.enforcer.specs.declared.state.Limits.{Limits}
 use Rattle.enforcer.specs.declared.next.Step.{Step}
 use Rattle.enforcer.specs.declared.matcher.Found.{Found}
 use Rattle.enforcer.specs.declared.matcher.Found.the-variants as Found
+use Rattle.enforcer.specs.State.{stateOf}
 
 abbrev pub eventXY : ℕ → ℕ → Event
 eventXY x y = record { x = x; y = y }
 
--- The state's location and four clock values.
-abbrev pub asPlace : State → Place
-asPlace s = record { location = s .location; clocks = s .clocks }
-
--- The place that the state is, in a policy with so many clocks; and the state that a place is.
-abbrev pub place : ℕ → State → Place
-place clocks s = record { location = s .location; clocks = take clocks (s .clocks) }
-
-abbrev pub stateFrom : Place → State
-stateFrom t = record { location = t .location; clocks = four (t .clocks) }
-
--- "Clocks: 0 to 4, a two-byte ceiling each, 1 to 1,001. Locations: 1 to 64"; "at most 65,536" states.
+-- "Clocks: 0 to 4, a two-byte ceiling each, 1 to 1,001"; "Locations: 1 to 64"; "at most 65,536" states.
 abbrev pub limitsSaid : Limits
 limitsSaid = record { locations = 64; clocks = 4; ceiling = 1001; states = 65536 }
 
@@ -39,7 +28,7 @@ startState = record { location = 0; clocks = 0 ∷ 0 ∷ 0 ∷ 0 ∷ [] }
 
 -- The state with the number n.
 abbrev pub stateAt : List ℕ → ℕ → ℕ → State
-stateAt cs clocks n = stateFrom (record { location = locationFrom cs clocks n; clocks = clocksFrom cs clocks n })
+stateAt cs clocks n = stateOf (record { location = locationFrom cs clocks n; clocks = clocksFrom cs clocks n })
 
 -- The state that bounds see. All four clocks go on: an unused one stays at its ceiling 0.
 abbrev pub seenBy : Layout → State → State
@@ -57,4 +46,4 @@ foundSaid Found.Nothing = none
 -- The state after a step, or a violation and the state before it.
 abbrev pub stepFrom : State → Option Place → Step
 stepFrom s none = record { permitted = false; state = s }
-stepFrom s (some t) = record { permitted = true; state = stateFrom t }
+stepFrom s (some t) = record { permitted = true; state = stateOf t }

@@ -7,8 +7,8 @@ use Rattle.streams.specs.Stream.{Event}
 use Rattle.policy.specs.Rules.{Rule, stopped, decides, looked}
 use Rattle.policy.specs.File.{policyOf, ruleFrom}
 use Rattle.policy.specs.declared.Layout.{Layout}
-use Rattle.enforcer.specs.Code.{place}
-use Rattle.enforcer.specs.Pass.{RuleAt}
+use Rattle.enforcer.specs.State.{place}
+use Rattle.enforcer.specs.RuleAhead.{RuleAt}
 use Rattle.enforcer.specs.declared.state.State.{State}
 use Rattle.enforcer.specs.declared.matcher.Found.{Found}
 use Rattle.enforcer.specs.declared.matcher.Found.the-variants as Found

@@ -13,7 +13,8 @@ use Rattle.policy.specs.File.{policyOf}
 use Rattle.policy.specs.Check.{refusalUnder, all}
 use Rattle.policy.specs.Number.{states, numberOf}
 use Rattle.enforcer.specs.State.{placeIn, stateOf, stateGood, isMarked}
-use Rattle.enforcer.specs.Tick.{Tick, Ran, inputChoice, outputTick, ran}
+use Rattle.enforcer.specs.Tick.{ReleasedTick, Progress, inputChoice, outputTick, ran}
+use Rattle.enforcer.specs.declared.state.State.{State}
 
 -- "An event is one byte: input x in the low four bits, output y in the high four."
 abbrev pub eventOf : ℕ → Event
@@ -31,10 +32,10 @@ chosen (suc n) o = refused (suc n)
 -- What the output half answers, and the state that it hands back.
 pub record OutputAnswer : Type 0 where
   pub answer : Answer ℕ
-  pub state : Place
+  pub state : State
 
 -- "A refusal returns its number, and the by-value half also hands back the state it was given".
-abbrev pub outputFrom : Place → Answer Tick → OutputAnswer
+abbrev pub outputFrom : State → Answer ReleasedTick → OutputAnswer
 outputFrom s (refused n) = record { answer = refused n; state = s }
 outputFrom s (gives t) = record { answer = gives (t .event .y); state = stateOf (t .place) }
 
@@ -42,12 +43,12 @@ outputFrom s (gives t) = record { answer = gives (t .event .y); state = stateOf 
 pub record RunAnswer : Type 0 where
   pub refusal : ℕ
   pub count : ℕ
-  pub state : Place
+  pub state : State
   pub out : List ℕ
 
 -- "it returns how many and the state after them"; "run adds the count released and the state there, for every refusal (count 0 and the state given,
 -- unless it is 17)". "refusal 17 then leaves the events released before it, and the rest of the slice untouched".
-abbrev pub runFrom : Place → List ℕ → ℕ → Ran → RunAnswer
+abbrev pub runFrom : State → List ℕ → ℕ → Progress → RunAnswer
 runFrom s out (suc n) r = record { refusal = suc n; count = 0; state = s; out = out }
 runFrom s out zero r =
     record {
@@ -77,10 +78,10 @@ module _ (reading : ℕ) (file marks : List ℕ) where
   abbrev pub inputPast : Place → ℕ → Answer ℕ
   inputPast t x = chosen (unless (xGood reading file x) 15) (inputChoice (policyOf reading file) marks t x)
 
-  abbrev pub outputPast : Place → Place → ℕ → ℕ → OutputAnswer
+  abbrev pub outputPast : State → Place → ℕ → ℕ → OutputAnswer
   outputPast given t x y = outputFrom given (chosen (unless (xGood reading file x && yGood reading file y) 15) (outputTick (policyOf reading file) marks t x y))
 
-  module _ (s : Place) where
+  module _ (s : State) where
     -- 16: "a state has a location or clock value out of range, an unused clock not 0, or a mark other than 1".
     unfoldable pub stateRefusal : ℕ
     stateRefusal =

@@ -12,7 +12,8 @@ use lib.Seq.{append-snoc, take-at, getD-take, getD-append-add}
 use Rattle.streams.specs.Stream.{Event}
 use Rattle.policy.specs.Rules.{Policy, Place, inputValues, outputValues, stopped, advance, tested, looked, step}
 use Rattle.policy.specs.File.{part, ruleSize, rulesFrom, rulesOf, ceilingsOf, clocksAt, clockCount, ruleCount, rulesStart, policyOf}
-use Rattle.policy.specs.Check.{refusalOf, refusalUnder, under-none}
+use Rattle.policy.specs.Check.{refusalOf, refusalUnder}
+use Rattle.policy.specs.CheckLaws.{under-none}
 use Rattle.policy.specs.Number.{four, states, numberFrom, locationFrom, clocksFrom, numberOf, placeOf}
 use Rattle.policy.specs.Numbered.{number-take, number-ceilings, location-ceilings, clocks-ceilings, clocks-length, numberOf-below}
 use Rattle.policy.specs.Sound.{WellFormed, Inside}
@@ -20,14 +21,15 @@ use Rattle.policy.specs.Checked.{Framed, frame, checked-file, inputs-length, ou
 use Rattle.policy.specs.Stays.{Of, advance-take, step-inside}
 use Rattle.policy.specs.Parts.{rules-part}
 use Rattle.policy.specs.Own.{level, own, ownOf, level-own, own-ends, own-reads}
-use Rattle.policy.specs.Layout.{layoutOf, checkedUnder, under-says}
+use Rattle.policy.specs.Layout.{layoutOf, checkedUnder}
+use Rattle.policy.specs.LayoutLaws.{under-says}
 use Rattle.policy.specs.declared.Layout.{Layout}
 use Rattle.policy.specs.declared.Checked.{Checked}
 use Rattle.policy.specs.declared.own.Own.{Own}
 use Rattle.index.specs.Sections.{Sections, sections-filled, sections-rules}
-use Rattle.enforcer.specs.State.{placeIn, stateOf, isMarked}
+use Rattle.enforcer.specs.State.{placeIn, stateOf, isMarked, place}
 use Rattle.enforcer.specs.Tick.{arrives, reaches}
-use Rattle.enforcer.specs.Code.{eventXY, asPlace, place, stateFrom, stateAt, seenBy, stepFrom}
+use Rattle.enforcer.specs.Code.{eventXY, stateAt, seenBy, stepFrom}
 use Rattle.enforcer.specs.Ready.{Laid, Standing}
 use Rattle.enforcer.specs.declared.state.State.{State}
 use Rattle.enforcer.specs.declared.next.Step.{Step}
@@ -194,7 +196,7 @@ module _ {f : List ℕ} {l : Layout} (k : Laid f l) where
       go false = refl
 
   -- The place that a state is, and its number, by the layout alone.
-  pub laid-place : (s : State) → place (l .clocks) s ≡ placeIn (policyOf (l .reading) f) (asPlace s)
+  pub laid-place : (s : State) → place (l .clocks) s ≡ placeIn (policyOf (l .reading) f) s
   laid-place s = rw laid-clocks
 
   pub laid-number : (s : State) → stateNumber l s ≡ numberOf (policyOf (l .reading) f) (place (l .clocks) s)
@@ -203,11 +205,11 @@ module _ {f : List ℕ} {l : Layout} (k : Laid f l) where
       (number-ceilings (l .ceilings) (l .clocks) (s .location) (take (l .clocks) (s .clocks)) (policyOf (l .reading) f .ceilings) laid-ceiling)
 
   -- The state that a place is stands for that place by the layout too, and has its number.
-  pub place-back : {t : Place} → Inside (policyOf (l .reading) f) t → place (l .clocks) (stateFrom t) ≡ t
-  place-back {t} h = laid-place (stateFrom t) ∙ placeIn-stateOf (policyOf (l .reading) f) h
+  pub place-back : {t : Place} → Inside (policyOf (l .reading) f) t → place (l .clocks) (stateOf t) ≡ t
+  place-back {t} h = laid-place (stateOf t) ∙ placeIn-stateOf (policyOf (l .reading) f) h
 
-  pub next-number : {t : Place} → Inside (policyOf (l .reading) f) t → stateNumber l (stateFrom t) ≡ numberOf (policyOf (l .reading) f) t
-  next-number {t} h = laid-number (stateFrom t) ∙ ap (numberOf (policyOf (l .reading) f)) (place-back h)
+  pub next-number : {t : Place} → Inside (policyOf (l .reading) f) t → stateNumber l (stateOf t) ≡ numberOf (policyOf (l .reading) f) t
+  next-number {t} h = laid-number (stateOf t) ∙ ap (numberOf (policyOf (l .reading) f)) (place-back h)
 
   -- So has it if all four clocks are taken in.
   pub four-number : {t : Place} → Inside (policyOf (l .reading) f) t → numberFrom (l .ceilings) 4 (t .location) (four (t .clocks)) ≡ numberOf (policyOf (l .reading) f) t

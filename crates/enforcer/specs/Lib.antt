@@ -12,6 +12,8 @@ pub mod Chosen
 pub mod Arrived
 pub mod Promises
 pub mod Ways
+pub mod WaysLaws
+pub mod RuleAhead
 pub mod Pass
 pub mod Decided
 pub mod Choice

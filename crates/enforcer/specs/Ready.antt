@@ -10,7 +10,7 @@ use Rattle.policy.specs.Check.{refusalOf}
 use Rattle.policy.specs.Sound.{Inside}
 use Rattle.policy.specs.Own.{ownOf}
 use Rattle.policy.specs.declared.Layout.{Layout}
-use Rattle.enforcer.specs.Code.{place}
+use Rattle.enforcer.specs.State.{place}
 use Rattle.enforcer.specs.declared.state.State.{State}
 use Rattle.enforcer.specs.declared.reach.Here.{Here}
 

@@ -10,17 +10,20 @@ use native.Mathlib.Omega.{arith}
 use lib.Dec.{leb, eqb}
 use lib.ListN.{length, length-map}
 use borrow.Author.Tests.{lt-ltb}
-use Rattle.streams.specs.Answer.{refused, _orElse_, unless, UpTo, none-refused, first-refused, unless-le, else-le}
+use Rattle.streams.specs.Answer.{refused, _orElse_, unless, UpTo}
+use Rattle.streams.specs.AnswerLaws.{none-refused, first-refused, unless-le, else-le}
 use Rattle.streams.specs.Stream.{Event, Stream}
-use Rattle.policy.specs.Rules.{Policy, Place, FitsOne, Fits, fits-none, fits-more}
+use Rattle.policy.specs.Rules.{Policy, FitsOne, Fits, fits-none, fits-more}
 use Rattle.policy.specs.File.{policyOf}
-use Rattle.policy.specs.Check.{readingRefusal, refusalUnder, all, refusal-le}
+use Rattle.policy.specs.Check.{readingRefusal, refusalUnder, all}
+use Rattle.policy.specs.CheckLaws.{refusal-le}
 use Rattle.policy.specs.Number.{states}
 use Rattle.policy.specs.Sound.{WellFormed}
 use Rattle.enforcer.specs.State.{placeIn}
-use Rattle.enforcer.specs.Tick.{Tick, Ran, inputChoice, ran}
+use Rattle.enforcer.specs.Tick.{ReleasedTick, Progress, inputChoice, ran}
 use Rattle.enforcer.specs.Ticks.{ran-few}
 use Rattle.enforcer.specs.Entries.{eventOf, byteOf, chosen, outputFrom, runFrom, marksRefusal, xGood, yGood, eventGood, stateRefusal, inputRefusal, inputOf, outputRefusal, outputOf, runRefusal, runOf}
+use Rattle.enforcer.specs.declared.state.State.{State}
 
 -- An event within the signals is one byte, and comes back from it.
 module _ (p : Policy) (ok : WellFormed p) where
@@ -78,13 +81,13 @@ chosen-17 zero none h e = (refl, refl)
 chosen-17 zero (some a) h e = let z : _≡_ {A = ℕ} 0 1 = cc in absurd (omega arith)
 chosen-17 (suc n) o h e = let z : suc n ≡ 17 = cc in absurd (early-not h z)
 
-from-up-to : (s : Place) (n : ℕ) (o : Option Tick) → Early n → UpTo 22 (outputFrom s (chosen n o) .answer)
+from-up-to : (s : State) (n : ℕ) (o : Option ReleasedTick) → Early n → UpTo 22 (outputFrom s (chosen n o) .answer)
 from-up-to s zero none h = (omega arith, omega arith)
 from-up-to s zero (some t) h = tt
 from-up-to s (suc n) o h = (omega arith, early-le h)
 
-module _ (s : Place) (out : List ℕ) where
-  ended-le : (n : ℕ) (r : Ran) → Early n → runFrom s out n r .refusal ≤ 22
+module _ (s : State) (out : List ℕ) where
+  ended-le : (n : ℕ) (r : Progress) → Early n → runFrom s out n r .refusal ≤ 22
   ended-le zero r h = go (r .stuck)
     where
       go : (t : Bool) → cond t 17 0 ≤ 22
@@ -92,7 +95,7 @@ module _ (s : Place) (out : List ℕ) where
       go false = zero-le
   ended-le (suc n) r h = early-le h
 
-  ended-17 : (n : ℕ) (r : Ran) → Early n → runFrom s out n r .refusal ≡ 17 → (n ≡ 0) × (r .stuck ≡ true)
+  ended-17 : (n : ℕ) (r : Progress) → Early n → runFrom s out n r .refusal ≡ 17 → (n ≡ 0) × (r .stuck ≡ true)
   ended-17 zero r h e = (refl, go (r .stuck) e)
     where
       go : (t : Bool) → _≡_ {A = ℕ} (cond t 17 0) 17 → t ≡ true
@@ -100,7 +103,7 @@ module _ (s : Place) (out : List ℕ) where
       go false e = absurd (omega arith)
   ended-17 (suc n) r h e = absurd (early-not h e)
 
-  counted-few : (n : ℕ) (r : Ran) {k : ℕ} → length (r .released) ≤ k → runFrom s out n r .count ≤ k
+  counted-few : (n : ℕ) (r : Progress) {k : ℕ} → length (r .released) ≤ k → runFrom s out n r .count ≤ k
   counted-few zero r h = h
   counted-few (suc n) r h = zero-le
 
@@ -115,11 +118,11 @@ module _ (reading : ℕ) (file marks : List ℕ) (bad : refusalUnder reading fil
   unfolding marksRefusal
   marks-first = first-refused (refusalUnder reading file) _ bad
 
-  pub input-first : (s : Place) (x : ℕ) → inputOf reading file marks s x ≡ refused (refusalUnder reading file)
+  pub input-first : (s : State) (x : ℕ) → inputOf reading file marks s x ≡ refused (refusalUnder reading file)
   unfolding inputOf inputRefusal marksRefusal
   input-first s x = first-of (refusalUnder reading file) _ _ _ bad
 
-  pub output-first : (s : Place) (x y : ℕ) → outputOf reading file marks s x y ≡ record { answer = refused (refusalUnder reading file); state = s }
+  pub output-first : (s : State) (x y : ℕ) → outputOf reading file marks s x y ≡ record { answer = refused (refusalUnder reading file); state = s }
   unfolding outputOf outputRefusal marksRefusal
   output-first s x y = ap (outputFrom s) (first-of (refusalUnder reading file) _ _ _ bad)
 
@@ -134,7 +137,7 @@ module _ (reading : ℕ) (file marks : List ℕ) where
   pub marks-le : marksRefusal reading file marks ≤ 22
   marks-le = early-le marks-early
 
-  module _ (s : Place) where
+  module _ (s : State) where
     state-le : stateRefusal reading file marks s ≤ 16
     unfolding stateRefusal
     state-le = search (else-le, unless-le)

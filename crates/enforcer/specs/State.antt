@@ -1,4 +1,5 @@
--- "A state is a location and four clock values, unused ones zero." A place of a policy has a value for each of its clocks, and a state four.
+-- "A state is a location and four clock values, unused ones zero": the code's own type. A place of a policy has a value for each of its clocks. The pair
+-- of maps between them stands here.
 use mathlib.Core.Bool.{Bool, false, _&&_}
 use mathlib.Core.List.{List, [], _∷_}
 use Prim.Native.Nat.{ℕ}
@@ -7,13 +8,17 @@ use lib.ListN.{length, getD, take}
 use Rattle.policy.specs.Rules.{Policy, Place}
 use Rattle.policy.specs.Check.{all}
 use Rattle.policy.specs.Number.{four}
+use Rattle.enforcer.specs.declared.state.State.{State}
 
--- The place that a state is, and the state that a place is.
-abbrev pub placeIn : Policy → Place → Place
-placeIn p s = record { location = s .location; clocks = take (length (p .ceilings)) (s .clocks) }
+-- The place that a state is, in a policy with so many clocks; and the state that a place is.
+abbrev pub place : ℕ → State → Place
+place clocks s = record { location = s .location; clocks = take clocks (s .clocks) }
 
-abbrev pub stateOf : Place → Place
+abbrev pub stateOf : Place → State
 stateOf t = record { location = t .location; clocks = four (t .clocks) }
+
+abbrev pub placeIn : Policy → State → Place
+placeIn p s = place (length (p .ceilings)) s
 
 -- No clock value is out of range, and no unused clock is other than 0.
 unfoldable pub clocksGood : List ℕ → List ℕ → Bool
@@ -21,7 +26,7 @@ clocksGood [] vs = all (eqb 0) vs
 clocksGood (c ∷ cs) [] = false
 clocksGood (c ∷ cs) (v ∷ vs) = leb v c && clocksGood cs vs
 
-unfoldable pub stateGood : Policy → Place → Bool
+unfoldable pub stateGood : Policy → State → Bool
 stateGood p s = ltb (s .location) (p .locations) && clocksGood (p .ceilings) (s .clocks)
 
 -- "with the byte 1 standing for live"

@@ -9,19 +9,20 @@ use native.Mathlib.Omega.{arith}
 use lib.Dec.{leb, ltb, eqb, leb·suc-zero, eqb·zero-suc}
 use lib.ListN.{length, getD, take, replicate}
 use borrow.Author.Tests.{leb-true, ltb-true, le-leb, lt-ltb}
-use Rattle.streams.specs.Answer.{refused, _orElse_, unless, none-refused, none-unless}
+use Rattle.streams.specs.Answer.{refused, _orElse_, unless}
+use Rattle.streams.specs.AnswerLaws.{none-refused, none-unless}
 use Rattle.policy.specs.Rules.{Policy, Place}
 use Rattle.policy.specs.Number.{states, numberOf}
 use Rattle.policy.specs.File.{ceilingsOf, policyOf}
 use Rattle.policy.specs.Check.{refusalUnder, all}
 use Rattle.policy.specs.Sound.{Inside}
 use Rattle.policy.specs.Numbered.{numberOf-below}
-use Rattle.policy.specs.Layout.{checkedUnder, under-says}
+use Rattle.policy.specs.Layout.{checkedUnder}
+use Rattle.policy.specs.LayoutLaws.{under-says}
 use Rattle.policy.specs.declared.Layout.{Layout}
 use Rattle.policy.specs.declared.Checked.{Checked}
 use Rattle.enforcer.specs.State.{placeIn, stateOf, clocksGood, stateGood, isMarked}
 use Rattle.enforcer.specs.Entries.{chosen, marksRefusal, stateRefusal}
-use Rattle.enforcer.specs.Code.{asPlace}
 use Rattle.enforcer.specs.Ready.{Laid, Standing}
 use Rattle.enforcer.specs.Laid.{Numbered, stateNumber, laid-of, laid-well, laid-place, laid-number}
 use Rattle.enforcer.specs.declared.state.State.{State}
@@ -47,7 +48,7 @@ clocks-inside (c ∷ cs) (v ∷ vs) e =
     (ap suc (r .0), below-cons cs (take (length cs) vs) (leb-true _ _ (k .0)) (r .1))
 
 -- A state that is not out of range is a place of the policy.
-pub good-inside : (p : Policy) (s : Place) → stateGood p s ≡ true → Inside p (placeIn p s)
+pub good-inside : (p : Policy) (s : State) → stateGood p s ≡ true → Inside p (placeIn p s)
 unfolding stateGood
 good-inside p s e =
     let k = and-eq-true-iff (ltb (s .location) (p .locations)) _ .0 e in
@@ -92,17 +93,17 @@ padded-good (c ∷ cs) (v ∷ vs) n e = ap (_&&_ (leb v c)) (padded-good cs vs n
 
 -- The layout decides the same: in it an unused clock has the ceiling 0.
 pub laid-good : {f : List ℕ} {l : Layout} → Laid f l → (s : State) → length (s .clocks) ≡ 4 →
-    stateGood (policyOf (l .reading) f) (asPlace s) ≡ (ltb (s .location) (l .locations) && clocksGood (l .ceilings) (s .clocks))
+    stateGood (policyOf (l .reading) f) s ≡ (ltb (s .location) (l .locations) && clocksGood (l .ceilings) (s .clocks))
 unfolding stateGood policyOf
 laid-good {f} k s e =
     rw (k .locations, k .ceilings, padded-good (ceilingsOf f) (s .clocks) (4 - length (ceilingsOf f)) (omega (arith, laid-well k .clocks)))
 
 -- A state that is not out of range has a number, by the layout, and its mark is the mark of the place.
-pub good-numbered : {f : List ℕ} {l : Layout} → Laid f l → (marks : List ℕ) (s : State) → stateGood (policyOf (l .reading) f) (asPlace s) ≡ true →
-    Numbered (l .reading) f marks (stateNumber l s) (isMarked marks (numberOf (policyOf (l .reading) f) (placeIn (policyOf (l .reading) f) (asPlace s))))
+pub good-numbered : {f : List ℕ} {l : Layout} → Laid f l → (marks : List ℕ) (s : State) → stateGood (policyOf (l .reading) f) s ≡ true →
+    Numbered (l .reading) f marks (stateNumber l s) (isMarked marks (numberOf (policyOf (l .reading) f) (placeIn (policyOf (l .reading) f) s)))
 good-numbered {f} {l} k marks s g =
     let n = laid-number k s ∙ ap (numberOf (policyOf (l .reading) f)) (laid-place k s) in
-    record { number = rw n (numberOf-below (policyOf (l .reading) f) (good-inside (policyOf (l .reading) f) (asPlace s) g)); mark = ap (isMarked marks) n }
+    record { number = rw n (numberOf-below (policyOf (l .reading) f) (good-inside (policyOf (l .reading) f) s g)); mark = ap (isMarked marks) n }
 
 -- No refusal up to 10, and no 16, as the facts that they test.
 module _ (reading : ℕ) (file marks : List ℕ) where
@@ -114,7 +115,7 @@ module _ (reading : ℕ) (file marks : List ℕ) where
   )
 
   pub state-granted :
-      (s : Place)
+      (s : State)
       → (stateRefusal reading file marks s ≡ 0)
       ↔ ((stateGood (policyOf reading file) s ≡ true) × (isMarked marks (numberOf (policyOf reading file) (placeIn (policyOf reading file) s)) ≡ true))
   unfolding stateRefusal
@@ -149,10 +150,10 @@ granted-laid {reading} {file} marks {r} e z =
 
 -- Past 16 the state is in range too.
 pub granted-standing : {file marks : List ℕ} {l : Layout} {s : State} → Laid file l → states (policyOf (l .reading) file) ≤ length marks →
-    stateRefusal (l .reading) file marks (asPlace s) ≡ 0 → Standing file l marks s
+    stateRefusal (l .reading) file marks s ≡ 0 → Standing file l marks s
 granted-standing {file} {marks} {l = l} {s = s} k e z =
     record {
       laid = k;
       enough = e;
-      inside = rw (laid-place k s) (good-inside (policyOf (l .reading) file) (asPlace s) (state-granted (l .reading) file marks (asPlace s) .0 z .0));
+      inside = rw (laid-place k s) (good-inside (policyOf (l .reading) file) s (state-granted (l .reading) file marks s .0 z .0));
     }

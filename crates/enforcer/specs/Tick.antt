@@ -10,12 +10,12 @@ use Rattle.policy.specs.Number.{numberOf}
 use Rattle.enforcer.specs.State.{isMarked}
 
 -- A tick that was released: the event, and the place after it.
-pub record Tick : Type 0 where
+pub record ReleasedTick : Type 0 where
   pub event : Event
   pub place : Place
 
 -- What was released of a stream, the place after it, and whether no input could stand there.
-pub record Ran : Type 0 where
+pub record Progress : Type 0 where
   pub released : Stream
   pub place : Place
   pub stuck : Bool
@@ -45,21 +45,21 @@ module _ (p : Policy) (marks : List ℕ) where
     outputChoice x y = nearest (reaches x) y (outputValues p)
 
     -- "Then the state moves."
-    unfoldable pub moved : ℕ → ℕ → Option Tick
+    unfoldable pub moved : ℕ → ℕ → Option ReleasedTick
     moved x y = bind (step stopped p s (record { x = x; y = y })) (λ t. some (record { event = record { x = x; y = y }; place = t }))
 
     -- The output half with its move, and the two halves one after the other: the input first, without a look at y.
-    unfoldable pub outputTick : ℕ → ℕ → Option Tick
+    unfoldable pub outputTick : ℕ → ℕ → Option ReleasedTick
     outputTick x y = bind (outputChoice x y) (λ z. moved x z)
 
-    unfoldable pub tick : Event → Option Tick
+    unfoldable pub tick : Event → Option ReleasedTick
     tick e = bind (inputChoice (e .x)) (λ x. outputTick x (e .y))
 
-  abbrev pub put : Tick → Ran → Ran
+  abbrev pub put : ReleasedTick → Progress → Progress
   put t r = record { released = t .event ∷ r .released; place = r .place; stuck = r .stuck }
 
   -- "A run takes a state and a slice of events and writes the released ones".
-  unfoldable pub ran : Place → Stream → Ran
+  unfoldable pub ran : Place → Stream → Progress
   ran s [] = record { released = []; place = s; stuck = false }
   ran s (e ∷ es) =
       elim (tick s e) [

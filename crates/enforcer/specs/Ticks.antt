@@ -7,24 +7,25 @@ use Prim.Native.Nat.{ℕ, suc, _≤_, zero-le}
 use native.Mathlib.Omega.{arith}
 use lib.ListN.{length}
 use Rattle.streams.specs.Stream.{Event, Stream}
-use Rattle.streams.specs.Choose.{Among, nearest-is}
+use Rattle.streams.specs.Choose.{Among}
+use Rattle.streams.specs.ChooseLaws.{nearest-is}
 use Rattle.policy.specs.Rules.{Policy, Place, inputValues, outputValues, stopped, step, FitsOne}
-use Rattle.enforcer.specs.Tick.{Tick, reaches, mayStand, inputChoice, outputChoice, moved, outputTick, tick, put, ran}
+use Rattle.enforcer.specs.Tick.{ReleasedTick, reaches, mayStand, inputChoice, outputChoice, moved, outputTick, tick, put, ran}
 
 -- The parts of a tick.
-pub record Ticked (p : Policy) (marks : List ℕ) (s : Place) (e : Event) (r : Tick) : Type 0 where
+pub record TickedBy (p : Policy) (marks : List ℕ) (s : Place) (e : Event) (r : ReleasedTick) : Type 0 where
   pub input : inputChoice p marks s (e .x) ≡ some (r .event .x)
   pub output : outputChoice p marks s (r .event .x) (e .y) ≡ some (r .event .y)
   pub moves : step stopped p s (r .event) ≡ some (r .place)
 
 module _ (p : Policy) (marks : List ℕ) (s : Place) where
-  pub ticked : (e : Event) (r : Tick) → tick p marks s e ≡ some r → Ticked p marks s e r
+  pub ticked : (e : Event) (r : ReleasedTick) → tick p marks s e ≡ some r → TickedBy p marks s e r
   unfolding tick outputTick moved
   ticked e r h =
       let i = bind-eq-some-iff (inputChoice p marks s (e .x)) _ .0 h in
       let o = bind-eq-some-iff (outputChoice p marks s (i .0) (e .y)) _ .0 (i .2) in
       let m = bind-eq-some-iff (step stopped p s (record { x = i .0; y = o .0 })) _ .0 (o .2) in
-      subst (Ticked p marks s e) (Option·some-injective _ r (m .2)) (record { input = i .1; output = o .1; moves = m .1 })
+      subst (TickedBy p marks s e) (Option·some-injective _ r (m .2)) (record { input = i .1; output = o .1; moves = m .1 })
 
   -- What is chosen is one of the values, and may stand.
   pub input-stands : (x z : ℕ) → inputChoice p marks s x ≡ some z → Among (mayStand p marks s) (inputValues p) z
@@ -35,11 +36,11 @@ module _ (p : Policy) (marks : List ℕ) (s : Place) where
   unfolding outputChoice
   output-stands x y z h = nearest-is (reaches p marks s x) y (outputValues p) h .may
 
-  pub ticked-fits : {e : Event} {r : Tick} → Ticked p marks s e r → FitsOne p (r .event)
+  pub ticked-fits : {e : Event} {r : ReleasedTick} → TickedBy p marks s e r → FitsOne p (r .event)
   ticked-fits t = record { x = input-stands _ _ (t .input) .0; y = output-stands _ _ _ (t .output) .0 }
 
   -- A run goes on after a tick, and ends where there is none.
-  pub ran-on : (e : Event) (es : Stream) (r : Tick) → tick p marks s e ≡ some r → ran p marks s (e ∷ es) ≡ put p marks r (ran p marks (r .place) es)
+  pub ran-on : (e : Event) (es : Stream) (r : ReleasedTick) → tick p marks s e ≡ some r → ran p marks s (e ∷ es) ≡ put p marks r (ran p marks (r .place) es)
   unfolding ran
   ran-on e es r h = rw (h, ran)
 
@@ -53,7 +54,7 @@ unfolding ran
 ran-few p marks s [] = zero-le
 ran-few p marks s (e ∷ es) = go (λ t. ran-few p marks (t .place) es) (tick p marks s e) refl
   where
-    go : ((t : Tick) → length (ran p marks (t .place) es .released) ≤ length es) → (o : Option Tick) → tick p marks s e ≡ o →
+    go : ((t : ReleasedTick) → length (ran p marks (t .place) es .released) ≤ length es) → (o : Option ReleasedTick) → tick p marks s e ≡ o →
         length (ran p marks s (e ∷ es) .released) ≤ suc (length es)
     go more none k = rw (ran-none p marks s e es k) zero-le
     go more (some t) k = rw (ran-on p marks s e es t k) (omega (arith, more t))

@@ -15,7 +15,7 @@ ghost use Prim.Native.Nat.{_<_};
 ghost use Rattle.policy.specs.Rules.{inputValues};
 ghost use Rattle.policy.specs.File.{policyOf};
 ghost use Rattle.enforcer.specs.Tick.{inputChoice, outputChoice};
-ghost use Rattle.enforcer.specs.Code.{place};
+ghost use Rattle.enforcer.specs.State.{place};
 ghost use Rattle.enforcer.specs.Ready.{Ready};
 ghost use Rattle.choice.specs.Said.{choiceSaid};
 

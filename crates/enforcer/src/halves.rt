@@ -17,20 +17,19 @@ ghost use Rattle.streams.specs.Answer.{_orElse_, unless};
 ghost use Rattle.policy.specs.Number.{states};
 ghost use Rattle.policy.specs.File.{policyOf, rulesOf};
 ghost use Rattle.policy.specs.Own.{ownOf};
-ghost use Rattle.enforcer.specs.State.{stateGood};
+ghost use Rattle.enforcer.specs.State.{stateGood, place};
 ghost use Rattle.enforcer.specs.Entries.{stateRefusal, inputPast, outputPast};
-ghost use Rattle.enforcer.specs.Code.{asPlace, place};
 ghost use Rattle.enforcer.specs.Ready.{Laid, Standing};
 ghost use Rattle.enforcer.specs.Promises.{InputPromise, OutputPromise, answerSaid, outputSaid};
 
-pub enum Answer {
+pub enum HalfAnswer {
     Value(u8),
     Refused(u8),
 }
 
 // What the output half hands back: where it refuses, the state it was given.
 pub struct Output {
-    pub answer: Answer,
+    pub answer: HalfAnswer,
     pub state: State,
 }
 
@@ -51,7 +50,7 @@ pub fn marks_refusal(checked: Checked, marks: &[u8]) -> u8
 // The location and the clock values are in range. An unused clock has the ceiling 0.
 fn state_good(file: &[u8], layout: Layout, state: State) -> bool
     requires { ⌜ Laid (now file) layout ⌝ }
-    ensures { λ r. ⌜ r ≡ stateGood (policyOf (layout .reading) (now (file .entry))) (asPlace state) ⌝ }
+    ensures { λ r. ⌜ r ≡ stateGood (policyOf (layout .reading) (now (file .entry))) state ⌝ }
 {
     if layout.locations <= state.location as usize {
         return false;
@@ -71,7 +70,7 @@ fn state_good(file: &[u8], layout: Layout, state: State) -> bool
 // 16 where the state is not in range or not marked, else 0.
 pub fn state_refusal(file: &[u8], layout: Layout, marks: &[u8], state: State) -> u8
     requires { ⌜ Laid (now file) layout × (states (policyOf (layout .reading) (now file)) ≤ length (now marks)) ⌝ }
-    ensures { λ r. ⌜ r ≡ stateRefusal (layout .reading) (now (file .entry)) (now (marks .entry)) (asPlace state) ⌝ }
+    ensures { λ r. ⌜ r ≡ stateRefusal (layout .reading) (now (file .entry)) (now (marks .entry)) state ⌝ }
 {
     if !state_good(file, layout, state) {
         return 16;
@@ -81,35 +80,42 @@ pub fn state_refusal(file: &[u8], layout: Layout, marks: &[u8], state: State) ->
     if marks[number] == 1 { 0 } else { 16 }
 }
 
-pub fn input_half(reading: u8, file: &[u8], marks: &[u8], state: State, x: u8) -> Answer
+pub fn input_half(reading: u8, file: &[u8], marks: &[u8], state: State, x: u8) -> HalfAnswer
     ensures { λ r. ⌜ InputPromise reading (now (file .entry)) (now (marks .entry)) state x r ⌝ }
 {
     let checked = policy::check_under(reading, file);
     let r = marks_refusal(checked, marks);
     if r != 0 {
-        return Answer::Refused(r);
+        return HalfAnswer::Refused(r);
     }
     let layout = checked.layout;
     let r = state_refusal(file, layout, marks, state);
     if r != 0 {
-        return Answer::Refused(r);
+        return HalfAnswer::Refused(r);
     }
     let own = own_of(file, layout, state);
     input_by(file, layout, own, marks, state, x)
 }
 
 // The input half past 16, by the rules of the state's location.
-pub fn input_by(file: &[u8], layout: Layout, own: Own, marks: &[u8], state: State, x: u8) -> Answer
+pub fn input_by(
+    file: &[u8],
+    layout: Layout,
+    own: Own,
+    marks: &[u8],
+    state: State,
+    x: u8,
+) -> HalfAnswer
     requires { ⌜ Standing (now file) layout (now marks) state × (own ≡ ownOf (layout .clocks) (state .location) (rulesOf (now file))) ⌝ }
     ensures { λ r. ⌜ answerSaid r ≡ inputPast (layout .reading) (now (file .entry)) (now (marks .entry)) (place (layout .clocks) state) x ⌝ }
 {
     if values(layout.inputs) <= x as usize {
-        return Answer::Refused(15);
+        return HalfAnswer::Refused(15);
     }
     let here = here_by(file, layout, own, state);
     match choose_input(file, layout, here, marks, state, x) {
-        Choice::Value(z) => Answer::Value(z),
-        Choice::Nothing => Answer::Refused(17),
+        Choice::Value(z) => HalfAnswer::Value(z),
+        Choice::Nothing => HalfAnswer::Refused(17),
     }
 }
 
@@ -124,7 +130,7 @@ pub fn output_by(
     y: u8,
 ) -> Output
     requires { ⌜ Standing (now file) layout (now marks) state × (own ≡ ownOf (layout .clocks) (state .location) (rulesOf (now file))) ⌝ }
-    ensures { λ r. ⌜ outputSaid r ≡ outputPast (layout .reading) (now (file .entry)) (now (marks .entry)) (asPlace state) (place (layout .clocks) state) x y ⌝ }
+    ensures { λ r. ⌜ outputSaid r ≡ outputPast (layout .reading) (now (file .entry)) (now (marks .entry)) state (place (layout .clocks) state) x y ⌝ }
 {
     if values(layout.inputs) <= x as usize {
         return refused(state, 15);
@@ -139,7 +145,7 @@ pub fn output_by(
     }
     let next = t.state;
     Output {
-        answer: Answer::Value(t.y),
+        answer: HalfAnswer::Value(t.y),
         state: next,
     }
 }
@@ -165,10 +171,10 @@ impl State {
 }
 
 fn refused(state: State, refusal: u8) -> Output
-    ensures { λ r. ⌜ r ≡ record { answer = Answer.Refused refusal; state = state } ⌝ }
+    ensures { λ r. ⌜ r ≡ record { answer = HalfAnswer.Refused refusal; state = state } ⌝ }
 {
     Output {
-        answer: Answer::Refused(refusal),
+        answer: HalfAnswer::Refused(refusal),
         state,
     }
 }

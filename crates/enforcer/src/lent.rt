@@ -1,5 +1,5 @@
 // The output half over a lent state.
-use crate::halves::Answer;
+use crate::halves::HalfAnswer;
 use crate::state::State;
 ghost use Rattle.enforcer.specs.Promises.{OutputPromise};
 
@@ -11,7 +11,7 @@ pub fn output_half(
     marks: &[u8],
     x: u8,
     y: u8,
-) -> Answer
+) -> HalfAnswer
     ensures { λ r. ⌜ OutputPromise reading (now (file .entry)) (now (marks .entry)) (now (state .entry)) x y (record { answer = r; state = now (state .exit) }) ⌝ }
 {
     let next = (*state).output(reading, file, marks, x, y);

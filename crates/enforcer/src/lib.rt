@@ -10,7 +10,7 @@ mod runs;
 mod state;
 mod tick;
 
-pub use halves::Answer;
+pub use halves::HalfAnswer;
 pub use halves::Output;
 pub use halves::input_by;
 pub use halves::input_half;
@@ -20,7 +20,7 @@ pub use halves::state_refusal;
 pub use lent::output_half;
 pub use matcher::Found;
 pub use matcher::first_rule;
-pub use pass::Part;
+pub use pass::Share;
 pub use pass::To;
 pub use pass::goes_on;
 pub use pass::lead_of;

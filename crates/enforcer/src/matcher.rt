@@ -8,7 +8,8 @@ ghost use lib.ListN.{length, take};
 ghost use Rattle.policy.specs.Rules.{hold, fires, within};
 ghost use Rattle.policy.specs.File.{byteAt, ruleSize, boundsFrom, ruleFrom, rulesFrom};
 ghost use Rattle.policy.specs.Own.{level};
-ghost use Rattle.enforcer.specs.Code.{eventXY, place, decider, foundSaid};
+ghost use Rattle.enforcer.specs.Code.{eventXY, decider, foundSaid};
+ghost use Rattle.enforcer.specs.State.{place};
 
 pub enum Found {
     Rule(usize),

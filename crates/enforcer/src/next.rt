@@ -7,7 +7,8 @@ ghost use mathlib.Core.Path.{_≡_};
 ghost use mathlib.Core.Option.{bind};
 ghost use Rattle.policy.specs.Rules.{stopped, advance, taken};
 ghost use Rattle.policy.specs.File.{policyOf};
-ghost use Rattle.enforcer.specs.Code.{place, stepFrom};
+ghost use Rattle.enforcer.specs.Code.{stepFrom};
+ghost use Rattle.enforcer.specs.State.{place};
 ghost use Rattle.enforcer.specs.Ready.{Laid};
 ghost use Rattle.enforcer.specs.Decided.{ruleSaid, Stands};
 

@@ -18,7 +18,7 @@ ghost use Rattle.policy.specs.Check.{all};
 ghost use Rattle.index.specs.Index.{indexOf};
 ghost use Rattle.enforcer.specs.Tick.{ran};
 ghost use Rattle.enforcer.specs.Entries.{eventOf, eventGood, runFrom};
-ghost use Rattle.enforcer.specs.Code.{asPlace, place, stateFrom};
+ghost use Rattle.enforcer.specs.State.{place, stateOf};
 ghost use Rattle.enforcer.specs.Ready.{Laid, Standing};
 ghost use Rattle.enforcer.specs.Promises.{RunPromise, ranSaid};
 
@@ -60,10 +60,10 @@ fn release(
     events: &[u8],
     out: &mut [u8],
 ) -> Ran
-    requires { ⌜ Standing (now file) layout (now marks) start × (stateFrom (place (layout .clocks) start) ≡ start) ⌝ }
+    requires { ⌜ Standing (now file) layout (now marks) start × (stateOf (place (layout .clocks) start) ≡ start) ⌝ }
     requires { ⌜ (length (now events) ≤ length (now out)) × (all (eventGood (layout .reading) (now file)) (now events) ≡ true) ⌝ }
     requires { ⌜ now index ≡ indexOf (now file) ⌝ }
-    ensures { λ r. ⌜ ranSaid r (now (out .exit)) ≡ runFrom (asPlace start) (now (out .entry)) 0 (ran (policyOf (layout .reading) (now (file .entry))) (now (marks .entry)) (place (layout .clocks) start) (map eventOf (now (events .entry)))) ⌝ }
+    ensures { λ r. ⌜ ranSaid r (now (out .exit)) ≡ runFrom start (now (out .entry)) 0 (ran (policyOf (layout .reading) (now (file .entry))) (now (marks .entry)) (place (layout .clocks) start) (map eventOf (now (events .entry)))) ⌝ }
 {
     let mut state = start;
     let mut i = 0;

@@ -16,7 +16,8 @@ ghost use Rattle.policy.specs.File.{policyOf, rulesOf};
 ghost use Rattle.policy.specs.Own.{ownOf};
 ghost use Rattle.policy.specs.Rules.{inputValues, outputValues};
 ghost use Rattle.enforcer.specs.Tick.{outputTick, tick};
-ghost use Rattle.enforcer.specs.Code.{place, eventXY};
+ghost use Rattle.enforcer.specs.Code.{eventXY};
+ghost use Rattle.enforcer.specs.State.{place};
 ghost use Rattle.enforcer.specs.Ready.{Ready, Standing};
 ghost use Rattle.enforcer.specs.Chosen.{tickFrom};
 

@@ -13,3 +13,4 @@ pub mod Roots
 pub mod Reached
 pub mod Entry
 pub mod Promise
+pub mod PromiseLaws

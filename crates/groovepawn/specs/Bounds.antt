@@ -5,10 +5,11 @@ use mathlib.Core.List.{List}
 use Prim.Native.Nat.{ℕ, _≤_}
 use native.Mathlib.Omega.{arith}
 use lib.ListN.{length}
-use Rattle.streams.specs.Answer.{gives, given-only, none-refused}
+use Rattle.streams.specs.Answer.{gives}
+use Rattle.streams.specs.AnswerLaws.{given-only, none-refused}
 use Rattle.policy.specs.Rules.{start}
 use Rattle.policy.specs.File.{policyOf}
-use Rattle.policy.specs.Check.{under-none}
+use Rattle.policy.specs.CheckLaws.{under-none}
 use Rattle.policy.specs.Number.{numberOf}
 use Rattle.policy.specs.Checked.{frame, longest, checked-file}
 use Rattle.enforcer.specs.Entries.{marksRefusal}
@@ -17,7 +18,8 @@ use Rattle.prepare.specs.Table.{machineOf, marksOf}
 use Rattle.resting.specs.Marks.{total-le}
 use Rattle.resting.specs.Reached.{strayOf}
 use Rattle.prepare.specs.Live.{marks-length, marks-bits}
-use Rattle.prepare.specs.Entry.{Summary, prepareOf}
+use Rattle.prepare.specs.Entry.{prepareOf}
+use Rattle.prepare.specs.declared.Summary.{Summary}
 use Rattle.join.specs.Entry.{joinRefusal, joinedFile, joinOf}
 use Rattle.join.specs.Written.{joined-passes}
 

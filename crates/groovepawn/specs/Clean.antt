@@ -4,7 +4,8 @@ use mathlib.Core.List.{List}
 use Prim.Native.Nat.{ℕ, zero, suc, _+_, _*_, _/_, _%_, _<_}
 use native.Mathlib.Omega.{arith}
 use Rattle.streams.specs.Answer.{Answer, refused, gives, answer, UpTo}
-use Rattle.cleaning.specs.Entry.{Lengths, cleanOf, cleanedOut, struckOut}
+use Rattle.cleaning.specs.Entry.{cleanOf, cleanedOut, struckOut}
+use Rattle.cleaning.specs.declared.Lengths.{Lengths}
 use Rattle.cleaning.specs.Promise.{clean-up-to}
 use Rattle.cleaning.specs.Short.{Few, lengths-few}
 

@@ -7,9 +7,9 @@ use lib.Dec.{leb}
 use Rattle.streams.specs.Answer.{gives}
 use Rattle.policy.specs.File.{policyOf}
 use Rattle.policy.specs.Number.{states}
-use Rattle.prepare.specs.Entry.{Summary}
+use Rattle.prepare.specs.declared.Summary.{Summary}
 use Rattle.fast.specs.Entry.{Work, shortest, lentRefusal, fastOf, fastMarks}
-use Rattle.fast.specs.Promise.{by-length, as-plain, fast-gives, fast-up-to}
+use Rattle.fast.specs.PromiseLaws.{by-length, as-plain, fast-gives, fast-up-to}
 use Rattle.groovepawn.specs.Words.{summaryWord, prepareWord}
 use Rattle.groovepawn.specs.Bounds.{Small, summary-small}
 use Rattle.groovepawn.specs.Fields.{summaryIn, summary-back}

@@ -9,8 +9,9 @@ use lib.ListN.{length}
 use Rattle.streams.specs.Answer.{Answer, refused, gives, answer, UpTo}
 use Rattle.enforcer.specs.Entries.{RunAnswer, inputOf, outputOf, runOf}
 use Rattle.enforcer.specs.Refusals.{input-up-to, output-up-to, run-up-to, run-few}
-use Rattle.prepare.specs.Entry.{Summary, prepareOf}
-use Rattle.prepare.specs.Promise.{prepare-up-to}
+use Rattle.prepare.specs.Entry.{prepareOf}
+use Rattle.prepare.specs.declared.Summary.{Summary}
+use Rattle.prepare.specs.PromiseLaws.{prepare-up-to}
 use Rattle.join.specs.Entry.{joinOf}
 use Rattle.join.specs.Promise.{join-up-to}
 use Rattle.ticks.specs.Conversion.{ticksOf}

@@ -5,7 +5,9 @@ pub mod Stays
 pub mod Fields
 pub mod Waves
 pub mod Indexed
+pub mod IndexedLaws
 pub mod Bays
+pub mod BaysLaws
 pub mod Why
 pub mod Fast
 pub mod Meter

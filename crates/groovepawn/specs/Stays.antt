@@ -10,7 +10,7 @@ use borrow.Author.Tests.{eqb-true}
 use Rattle.streams.specs.Answer.{Answer, refused, gives}
 use Rattle.policy.specs.File.{policyOf}
 use Rattle.enforcer.specs.State.{placeIn}
-use Rattle.enforcer.specs.Tick.{Tick, Ran, outputTick, ran}
+use Rattle.enforcer.specs.Tick.{ReleasedTick, Progress, outputTick, ran}
 use Rattle.enforcer.specs.Entries.{eventOf, chosen, outputFrom, outputRefusal, outputOf, runFrom, runRefusal, runOf}
 use Rattle.groovepawn.specs.Words.{answerWord, ranWord, isState, outputWord, outputState, runWord, runState, runOut}
 use Rattle.bays.specs.Five.{stateWords, stateIn, words-back}
@@ -30,7 +30,7 @@ module _ (reading : ℕ) (file marks state : List ℕ) where
       let s = stateIn state in
       go (isState state) refl (chosen (outputRefusal reading file marks s x y) (outputTick p marks (placeIn p s) x y))
     where
-      go : (t : Bool) → isState state ≡ t → (a : Answer Tick) →
+      go : (t : Bool) → isState state ≡ t → (a : Answer ReleasedTick) →
           (cond t (answerWord (outputFrom (stateIn state) a .answer)) (oddRefusal reading file marks true) % 256 ≡ 0 → ⊥) →
           cond t (stateWords (outputFrom (stateIn state) a .state)) state ≡ state
       go false e a h = refl
@@ -47,7 +47,7 @@ module _ (reading : ℕ) (file marks state : List ℕ) where
       let s = stateIn state in
       go (isState state) refl (runRefusal reading file marks s events out) (ran p marks (placeIn p s) (map eventOf events))
     where
-      go : (t : Bool) → isState state ≡ t → (n : ℕ) (r : Ran) →
+      go : (t : Bool) → isState state ≡ t → (n : ℕ) (r : Progress) →
           let a = runFrom (stateIn state) out n r in
           (cond t (ranWord a) (oddRefusal reading file marks (leb (length events) (length out))) % 256 ≡ 0 → ⊥) →
           (cond t (ranWord a) (oddRefusal reading file marks (leb (length events) (length out))) % 256 ≡ 17 → ⊥) →

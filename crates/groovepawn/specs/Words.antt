@@ -6,7 +6,8 @@ use lib.Dec.{eqb, leb}
 use lib.ListN.{length}
 use Rattle.streams.specs.Answer.{Answer, refused, gives}
 use Rattle.enforcer.specs.Entries.{RunAnswer, inputOf, outputOf, runOf}
-use Rattle.prepare.specs.Entry.{Summary, prepareOf}
+use Rattle.prepare.specs.Entry.{prepareOf}
+use Rattle.prepare.specs.declared.Summary.{Summary}
 use Rattle.join.specs.Entry.{joinOf}
 use Rattle.ticks.specs.Conversion.{ticksOf}
 use Rattle.bays.specs.Five.{stateWords, stateIn}

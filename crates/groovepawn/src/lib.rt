@@ -1,4 +1,4 @@
-// The entries for a controller in C: each answer is one number, and a state is five numbers, the location and then the four clock values.
+// The entries for a controller in C: each answer is one number, a state five. They are the location and then the four clock values.
 // What each call promises stands in specs/.
 mod bay_calls;
 mod clean_call;
@@ -15,7 +15,7 @@ use bays::five::odd_refusal;
 use bays::five::put_state;
 use bays::five::state_of;
 pub use clean_call::groovepawn_clean;
-use enforcer::Answer;
+use enforcer::HalfAnswer;
 use enforcer::Output;
 use enforcer::State;
 use enforcer::input_half;
@@ -40,19 +40,19 @@ pub use why_call::groovepawn_why;
 ghost use mathlib.Core.Path.{_≡_};
 ghost use Rattle.streams.specs.Answer.{gives};
 ghost use Rattle.enforcer.specs.Promises.{answerSaid, OutputPromise};
-ghost use Rattle.prepare.specs.Entry.{Summary};
+ghost use Rattle.prepare.specs.declared.Summary.{Summary};
 ghost use Rattle.prepare.specs.Promise.{preparedSaid};
 ghost use Rattle.groovepawn.specs.Bounds.{Small};
 ghost use Rattle.groovepawn.specs.Indexed.{oddIndexed, IndexCall, InputIndexedCall, OutputIndexedCall};
 ghost use Rattle.groovepawn.specs.Words.{answerWord, summaryWord};
 ghost use Rattle.groovepawn.specs.Calls.{PrepareCall, InputCall, OutputCall, RunCall, JoinCall, TicksCall};
 
-pub(crate) fn answer_word(answer: Answer) -> u32
+pub(crate) fn answer_word(answer: HalfAnswer) -> u32
     ensures { λ r. ⌜ r ≡ answerWord (answerSaid answer) ⌝ }
 {
     match answer {
-        Answer::Value(v) => v as u32 * 256,
-        Answer::Refused(n) => n as u32,
+        HalfAnswer::Value(v) => v as u32 * 256,
+        HalfAnswer::Refused(n) => n as u32,
     }
 }
 

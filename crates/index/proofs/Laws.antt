@@ -8,10 +8,10 @@ use native.Mathlib.Omega.{arith}
 use lib.ListN.{length, getD, take, drop, set, length-append, length-drop}
 use lib.Seq.{take-suc, drop-cons, append-snoc, set-at, take-all}
 use borrow.Author.Tests.{le-leb, lt-leb}
-use Rattle.streams.specs.Answer.{first-refused}
+use Rattle.streams.specs.AnswerLaws.{first-refused}
 use Rattle.policy.specs.Check.{refusalOf}
-use Rattle.policy.specs.Layout.{layoutOf, CheckPromise, checked-says}
-use Rattle.policy.specs.declared.Layout.{Layout}
+use Rattle.policy.specs.Layout.{layoutOf, CheckPromise}
+use Rattle.policy.specs.LayoutLaws.{checked-says}
 use Rattle.policy.specs.declared.Checked.{Checked}
 use Rattle.index.specs.Index.{entryOf, entries, indexOf, same, same-exactly, isIndex}
 use Rattle.index.specs.Names.{entries-length, entries-at, index-length}

@@ -5,8 +5,10 @@ use Prim.Native.Nat.{ℕ, zero, suc, _≤_}
 use native.Mathlib.Omega.{arith}
 use lib.Dec.{leb}
 use lib.ListN.{length, drop}
-use Rattle.streams.specs.Answer.{_orElse_, unless, unless-le, else-le}
-use Rattle.policy.specs.Check.{refusalOf, refusal-le}
+use Rattle.streams.specs.Answer.{_orElse_, unless}
+use Rattle.streams.specs.AnswerLaws.{unless-le, else-le}
+use Rattle.policy.specs.Check.{refusalOf}
+use Rattle.policy.specs.CheckLaws.{refusal-le}
 use Rattle.index.specs.Index.{indexOf}
 
 module _ (f index : List ℕ) where

@@ -8,12 +8,12 @@ use native.Mathlib.Omega.{arith}
 use lib.Dec.{ltb, eqb}
 use lib.ListN.{length, getD, drop, length-append, List·getD-append}
 use lib.Seq.{drop-nil, getD-append-add}
-use borrow.Author.Tests.{lt-ltb, le-ltb, ltb-true, ltb-false, eqb-true, eqb-false, eq-eqb, ne-eqb}
+use borrow.Author.Tests.{lt-ltb, le-ltb, ltb-true, ltb-false, eqb-true, eqb-false, ne-eqb}
 use Rattle.policy.specs.Rules.{Rule}
 use Rattle.policy.specs.File.{byteAt, ruleSize, ruleFrom, rulesFrom, clockCount, locationCount, ruleCount, ruleSection, rulesOf, policyOf}
 use Rattle.policy.specs.Check.{refusalOf}
 use Rattle.policy.specs.Sound.{Each, each-none, each-more, each-weak}
-use Rattle.policy.specs.Checked.{Rising, rising-none, rising-more, frame, checked-file, rules-length, Ruled, well-rising, well-ruled}
+use Rattle.policy.specs.Checked.{Rising, rising-none, rising-more, frame, checked-file, rules-length, well-rising, well-ruled}
 use Rattle.policy.specs.Parts.{rules-drop}
 use Rattle.policy.specs.Own.{below, level, ownOf}
 use Rattle.index.specs.declared.entry.Entry.{Entry}

@@ -11,7 +11,6 @@ use Rattle.policy.specs.Checked.{Framed, frame}
 use Rattle.policy.specs.Parts.{rules-drop}
 use Rattle.policy.specs.Own.{level, ownOf}
 use Rattle.policy.specs.declared.Layout.{Layout}
-use Rattle.policy.specs.declared.own.Own.{Own}
 use Rattle.index.specs.Index.{lower, number, indexOf}
 use Rattle.index.specs.Names.{rising, lower-rules, lower-below, number-level, index-own}
 

@@ -1,4 +1,4 @@
-// The index of a file's rules: for each location the number of its first rule and how many it has. What the numbers are stands in specs/.
+// The index of a file's rules: for each location its first rule and how many it has. What the numbers are stands in specs/.
 mod entry;
 
 pub use entry::Entry;

@@ -1,23 +1,22 @@
 -- What the functions' proofs cite: what is refused up to 10, test by test, and what is left past 16.
-use mathlib.Core.Path.{_≡_, refl, sym, ap, _∙_}
-use mathlib.Core.Bool.{Bool, true, false}
+use mathlib.Core.Path.{_≡_, sym, ap, _∙_}
+use mathlib.Core.Bool.{true, false}
 use mathlib.Core.List.{List}
-use Prim.Native.Nat.{ℕ, zero, suc}
-use native.Mathlib.Omega.{arith}
+use Prim.Native.Nat.{ℕ}
 use lib.Dec.{leb}
 use lib.ListN.{length}
-use Rattle.streams.specs.Answer.{Answer, refused, _orElse_, unless, first-refused}
-use Rattle.policy.specs.File.{policyOf}
+use Rattle.streams.specs.Answer.{refused, _orElse_, unless}
+use Rattle.streams.specs.AnswerLaws.{first-refused}
 use Rattle.policy.specs.Check.{refusalUnder}
-use Rattle.policy.specs.Layout.{checkedUnder, under-says}
+use Rattle.policy.specs.Layout.{checkedUnder}
+use Rattle.policy.specs.LayoutLaws.{under-says}
 use Rattle.policy.specs.Number.{states}
-use Rattle.policy.specs.declared.Layout.{Layout}
 use Rattle.policy.specs.declared.Checked.{Checked}
 use Rattle.index.specs.Index.{indexOf, isIndex}
 use Rattle.index.specs.Sections.{Sections}
-use Rattle.enforcer.specs.Ready.{Laid, Standing}
-use Rattle.enforcer.specs.Entries.{OutputAnswer, marksRefusal, stateRefusal, inputOf, inputRefusal, inputPast, outputOf, outputRefusal, outputFrom, outputPast}
-use Rattle.enforcer.specs.Code.{asPlace, place}
+use Rattle.enforcer.specs.Ready.{Standing}
+use Rattle.enforcer.specs.Entries.{marksRefusal, stateRefusal, inputOf, inputRefusal, inputPast, outputOf, outputRefusal, outputFrom, outputPast}
+use Rattle.enforcer.specs.State.{place}
 use Rattle.enforcer.specs.Laid.{laid-of, laid-place, laid-sections}
 use Rattle.enforcer.specs.States.{chosen-first, Granted, marks-by, granted-laid, granted-standing}
 use Rattle.enforcer.specs.declared.state.State.{State}
@@ -56,35 +55,35 @@ module _ (reading : ℕ) (file : List ℕ) {r : Checked} (e : r ≡ checkedUnder
 
     module _ (s : State) where
       -- 16 is what is refused then.
-      pub input-state : (x : ℕ) {n : ℕ} → n ≡ stateRefusal (r .layout .reading) file marks (asPlace s) → (n ≡ 0 → ⊥) →
-          inputIndexedOf reading file index marks (asPlace s) x ≡ refused n
+      pub input-state : (x : ℕ) {n : ℕ} → n ≡ stateRefusal (r .layout .reading) file marks s → (n ≡ 0 → ⊥) →
+          inputIndexedOf reading file index marks s x ≡ refused n
       unfolding inputOf inputRefusal
       input-state x q h =
-          input-same reading file index marks (asPlace s) early-index x
+          input-same reading file index marks s early-index x
           ∙ rw (early-granted reading file index marks none .1, ← early-laid .named) (chosen-first _ _ _ q h)
 
-      pub output-state : (x y : ℕ) {n : ℕ} → n ≡ stateRefusal (r .layout .reading) file marks (asPlace s) → (n ≡ 0 → ⊥) →
-          outputIndexedOf reading file index marks (asPlace s) x y ≡ record { answer = refused n; state = asPlace s }
+      pub output-state : (x y : ℕ) {n : ℕ} → n ≡ stateRefusal (r .layout .reading) file marks s → (n ≡ 0 → ⊥) →
+          outputIndexedOf reading file index marks s x y ≡ record { answer = refused n; state = s }
       unfolding outputOf outputRefusal
       output-state x y q h =
-          output-same reading file index marks (asPlace s) early-index x y
-          ∙ rw (early-granted reading file index marks none .1, ← early-laid .named) (ap (outputFrom (asPlace s)) (chosen-first _ _ _ q h))
+          output-same reading file index marks s early-index x y
+          ∙ rw (early-granted reading file index marks none .1, ← early-laid .named) (ap (outputFrom s) (chosen-first _ _ _ q h))
 
-      module _ (good : stateRefusal (r .layout .reading) file marks (asPlace s) ≡ 0) where
+      module _ (good : stateRefusal (r .layout .reading) file marks s ≡ 0) where
         pub early-standing : Standing file (r .layout) marks s
         early-standing = granted-standing (early-laid .laid) (early-laid .enough) good
 
         -- Past 16 only 15 and 17 are left.
-        pub input-left : (x : ℕ) → inputIndexedOf reading file index marks (asPlace s) x ≡ inputPast (r .layout .reading) file marks (place (r .layout .clocks) s) x
+        pub input-left : (x : ℕ) → inputIndexedOf reading file index marks s x ≡ inputPast (r .layout .reading) file marks (place (r .layout .clocks) s) x
         unfolding inputOf inputRefusal
         input-left x =
-            input-same reading file index marks (asPlace s) early-index x
+            input-same reading file index marks s early-index x
             ∙ rw (early-granted reading file index marks none .1, ← early-laid .named, good, laid-place (early-laid .laid) s)
 
         pub output-left : (x y : ℕ) →
-            outputIndexedOf reading file index marks (asPlace s) x y
-            ≡ outputPast (r .layout .reading) file marks (asPlace s) (place (r .layout .clocks) s) x y
+            outputIndexedOf reading file index marks s x y
+            ≡ outputPast (r .layout .reading) file marks s (place (r .layout .clocks) s) x y
         unfolding outputOf outputRefusal
         output-left x y =
-            output-same reading file index marks (asPlace s) early-index x y
+            output-same reading file index marks s early-index x y
             ∙ rw (early-granted reading file index marks none .1, ← early-laid .named, good, laid-place (early-laid .laid) s)

@@ -2,10 +2,10 @@
 use mathlib.Core.List.{List}
 use Prim.Native.Nat.{ℕ, zero, suc}
 use Rattle.streams.specs.Answer.{Answer, refused, _orElse_, unless}
-use Rattle.policy.specs.Rules.{Place}
 use Rattle.policy.specs.Check.{refusalUnder}
 use Rattle.index.specs.Index.{isIndex}
 use Rattle.enforcer.specs.Entries.{OutputAnswer, marksRefusal, inputOf, outputOf}
+use Rattle.enforcer.specs.declared.state.State.{State}
 
 -- What a refusal gives, or without one the answer.
 abbrev pub refusedOr : {A : Type 0} → ℕ → (ℕ → A) → A → A
@@ -21,7 +21,7 @@ module _ (reading : ℕ) (file index marks : List ℕ) where
   unfoldable pub earlyRefusal : ℕ
   earlyRefusal = indexRefusal reading file index orElse marksRefusal reading file marks
 
-  module _ (s : Place) where
+  module _ (s : State) where
     -- Past 28 the answer is that of the half without an index: 10 and the rest in their order.
     unfoldable pub inputIndexedOf : ℕ → Answer ℕ
     inputIndexedOf x = refusedOr (indexRefusal reading file index) refused (inputOf reading file marks s x)

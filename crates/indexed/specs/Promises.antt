@@ -4,21 +4,20 @@ use mathlib.Core.List.{List}
 use mathlib.Core.Logic.{_↔_}
 use Prim.Native.Nat.{ℕ}
 use Rattle.index.specs.Index.{indexOf}
-use Rattle.enforcer.specs.Code.{asPlace}
 use Rattle.enforcer.specs.Promises.{answerSaid, outputSaid, answer-one, both-one, InputPromise, OutputPromise}
 use Rattle.enforcer.specs.declared.state.State.{State}
-use Rattle.enforcer.specs.declared.halves.Answer.{Answer}
+use Rattle.enforcer.specs.declared.halves.HalfAnswer.{HalfAnswer}
 use Rattle.enforcer.specs.declared.halves.Output.{Output}
 use Rattle.indexed.specs.Entries.{inputIndexedOf, outputIndexedOf}
 use Rattle.indexed.specs.Same.{input-same, output-same}
 
-pub record InputIndexedPromise (reading : ℕ) (file index marks : List ℕ) (s : State) (x : ℕ) (r : Answer) : Type 0 where
-  pub said : answerSaid r ≡ inputIndexedOf reading file index marks (asPlace s) x
+pub record InputIndexedPromise (reading : ℕ) (file index marks : List ℕ) (s : State) (x : ℕ) (r : HalfAnswer) : Type 0 where
+  pub said : answerSaid r ≡ inputIndexedOf reading file index marks s x
 
 pub record OutputIndexedPromise (reading : ℕ) (file index marks : List ℕ) (s : State) (x y : ℕ) (r : Output) : Type 0 where
-  pub said : outputSaid r ≡ outputIndexedOf reading file index marks (asPlace s) x y
+  pub said : outputSaid r ≡ outputIndexedOf reading file index marks s x y
 
-pub input-one : {reading : ℕ} {file index marks : List ℕ} {s : State} {x : ℕ} {r q : Answer} →
+pub input-one : {reading : ℕ} {file index marks : List ℕ} {s : State} {x : ℕ} {r q : HalfAnswer} →
     InputIndexedPromise reading file index marks s x r → InputIndexedPromise reading file index marks s x q → r ≡ q
 input-one {r = r} {q = q} h g = answer-one r q (h .said ∙ sym (g .said))
 
@@ -28,12 +27,12 @@ output-one {r = r} {q = q} h g = both-one r q (h .said ∙ sym (g .said))
 
 -- With the index of the file each half promises what the present one does, and nothing else.
 module _ (reading : ℕ) (file marks : List ℕ) (s : State) where
-  pub input-alike : (x : ℕ) (r : Answer) → InputIndexedPromise reading file (indexOf file) marks s x r ↔ InputPromise reading file marks s x r
+  pub input-alike : (x : ℕ) (r : HalfAnswer) → InputIndexedPromise reading file (indexOf file) marks s x r ↔ InputPromise reading file marks s x r
   input-alike x r =
-      let e = input-same reading file (indexOf file) marks (asPlace s) refl x in
+      let e = input-same reading file (indexOf file) marks s refl x in
       (λ h. record { said = h .said ∙ e }, λ h. record { said = h .said ∙ sym e })
 
   pub output-alike : (x y : ℕ) (r : Output) → OutputIndexedPromise reading file (indexOf file) marks s x y r ↔ OutputPromise reading file marks s x y r
   output-alike x y r =
-      let e = output-same reading file (indexOf file) marks (asPlace s) refl x y in
+      let e = output-same reading file (indexOf file) marks s refl x y in
       (λ h. record { said = h .said ∙ e }, λ h. record { said = h .said ∙ sym e })

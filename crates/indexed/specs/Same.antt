@@ -6,22 +6,24 @@ use mathlib.Core.Logic.{_↔_}
 use mathlib.Core.Option.{Option}
 use Prim.Native.Nat.{ℕ, zero, suc, _≤_}
 use native.Mathlib.Omega.{arith}
-use Rattle.streams.specs.Answer.{Answer, refused, gives, _orElse_, unless, UpTo, none-refused, none-unless, unless-le, else-le}
-use Rattle.policy.specs.Rules.{Place}
-use Rattle.policy.specs.Check.{refusalUnder, under-le}
+use Rattle.streams.specs.Answer.{Answer, refused, gives, _orElse_, unless, UpTo}
+use Rattle.streams.specs.AnswerLaws.{none-refused, none-unless, unless-le, else-le}
+use Rattle.policy.specs.Check.{refusalUnder}
+use Rattle.policy.specs.CheckLaws.{under-le}
 use Rattle.index.specs.Index.{indexOf, same, same-exactly}
-use Rattle.enforcer.specs.Tick.{Tick}
+use Rattle.enforcer.specs.Tick.{ReleasedTick}
 use Rattle.enforcer.specs.Entries.{OutputAnswer, chosen, outputFrom, marksRefusal, inputOf, inputRefusal, outputOf, outputRefusal}
 use Rattle.enforcer.specs.States.{chosen-first}
 use Rattle.enforcer.specs.Refusals.{marks-le, input-up-to, output-up-to}
 use Rattle.indexed.specs.Entries.{refusedOr, indexRefusal, earlyRefusal, inputIndexedOf, outputIndexedOf}
+use Rattle.enforcer.specs.declared.state.State.{State}
 
 -- Where 28 is not given, what the check refuses is what the half refuses first.
 input-first : {A : Type 0} (n m t : ℕ) (o : Option A) → refusedOr (n orElse 0) refused (chosen ((n orElse m) orElse t) o) ≡ chosen ((n orElse m) orElse t) o
 input-first zero m t o = refl
 input-first (suc n) m t o = refl
 
-output-first : (s : Place) (n m t : ℕ) (o : Option Tick) →
+output-first : (s : State) (n m t : ℕ) (o : Option ReleasedTick) →
     refusedOr {A = OutputAnswer} (n orElse 0) (λ i. record { answer = refused i; state = s }) (outputFrom s (chosen ((n orElse m) orElse t) o)) ≡ outputFrom s (chosen ((n orElse m) orElse t) o)
 output-first s zero m t o = refl
 output-first s (suc n) m t o = refl
@@ -46,7 +48,7 @@ not-index f xs = (λ n e. false≢true (sym n ∙ same-exactly xs (indexOf f) .1
     go true e h = absurd (h (same-exactly xs (indexOf f) .0 e))
     go false e h = refl
 
-module _ (reading : ℕ) (file index marks : List ℕ) (s : Place) where
+module _ (reading : ℕ) (file index marks : List ℕ) (s : State) where
   -- With the file's index: the same answer, whole, and the same state.
   pub input-same : index ≡ indexOf file → (x : ℕ) → inputIndexedOf reading file index marks s x ≡ inputOf reading file marks s x
   unfolding inputIndexedOf indexRefusal inputOf inputRefusal marksRefusal
@@ -101,7 +103,7 @@ early-input zero true m t o e h = chosen-first m t o e h
 early-input zero false m t o e h = ap refused (sym e)
 early-input (suc n) b m t o e h = ap refused (sym e)
 
-early-output : (s : Place) (n : ℕ) (b : Bool) (m t : ℕ) (o : Option Tick) {r : ℕ} → r ≡ ((n orElse unless b 28) orElse (n orElse m)) → (r ≡ 0 → ⊥) →
+early-output : (s : State) (n : ℕ) (b : Bool) (m t : ℕ) (o : Option ReleasedTick) {r : ℕ} → r ≡ ((n orElse unless b 28) orElse (n orElse m)) → (r ≡ 0 → ⊥) →
     refusedOr {A = OutputAnswer} (n orElse unless b 28) (λ i. record { answer = refused i; state = s }) (outputFrom s (chosen ((n orElse m) orElse t) o))
     ≡ record { answer = refused r; state = s }
 early-output s zero true m t o e h = ap (outputFrom s) (chosen-first m t o e h)
@@ -109,11 +111,11 @@ early-output s zero false m t o {r} e h = ap (λ (i : ℕ). record { answer = re
 early-output s (suc n) b m t o {r} e h = ap (λ (i : ℕ). record { answer = refused i; state = s }) (sym e)
 
 module _ (reading : ℕ) (file index marks : List ℕ) where
-  pub input-early : (s : Place) (x : ℕ) {r : ℕ} → r ≡ earlyRefusal reading file index marks → (r ≡ 0 → ⊥) → inputIndexedOf reading file index marks s x ≡ refused r
+  pub input-early : (s : State) (x : ℕ) {r : ℕ} → r ≡ earlyRefusal reading file index marks → (r ≡ 0 → ⊥) → inputIndexedOf reading file index marks s x ≡ refused r
   unfolding inputIndexedOf earlyRefusal indexRefusal inputOf inputRefusal marksRefusal
   input-early s x = early-input (refusalUnder reading file) (same index (indexOf file)) _ _ _
 
-  pub output-early : (s : Place) (x y : ℕ) {r : ℕ} → r ≡ earlyRefusal reading file index marks → (r ≡ 0 → ⊥) →
+  pub output-early : (s : State) (x y : ℕ) {r : ℕ} → r ≡ earlyRefusal reading file index marks → (r ≡ 0 → ⊥) →
       outputIndexedOf reading file index marks s x y ≡ record { answer = refused r; state = s }
   unfolding outputIndexedOf earlyRefusal indexRefusal outputOf outputRefusal marksRefusal
   output-early s x y = early-output s (refusalUnder reading file) (same index (indexOf file)) _ _ _

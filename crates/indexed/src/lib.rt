@@ -1,5 +1,5 @@
 // The halves that use an index. For every input they answer what the present halves do; any other index is refused by 28. What they answer stands in specs/.
-use enforcer::Answer;
+use enforcer::HalfAnswer;
 use enforcer::Output;
 use enforcer::State;
 use enforcer::input_by;
@@ -37,18 +37,18 @@ pub fn input_indexed(
     marks: &[u8],
     state: State,
     x: u8,
-) -> Answer
+) -> HalfAnswer
     ensures { λ r. ⌜ InputIndexedPromise reading (now (file .entry)) (now (index .entry)) (now (marks .entry)) state x r ⌝ }
 {
     let checked = check_under(reading, file);
     let r = early_refusal(reading, file, checked, index, marks);
     if r != 0 {
-        return Answer::Refused(r);
+        return HalfAnswer::Refused(r);
     }
     let layout = checked.layout;
     let r = state_refusal(file, layout, marks, state);
     if r != 0 {
-        return Answer::Refused(r);
+        return HalfAnswer::Refused(r);
     }
     let own = own_at(file, layout, index, state.location);
     input_by(file, layout, own, marks, state, x)
@@ -70,7 +70,7 @@ pub fn output_indexed(
     let r = early_refusal(reading, file, checked, index, marks);
     if r != 0 {
         return Output {
-            answer: Answer::Refused(r),
+            answer: HalfAnswer::Refused(r),
             state,
         };
     }
@@ -78,7 +78,7 @@ pub fn output_indexed(
     let r = state_refusal(file, layout, marks, state);
     if r != 0 {
         return Output {
-            answer: Answer::Refused(r),
+            answer: HalfAnswer::Refused(r),
             state,
         };
     }

@@ -10,18 +10,19 @@ use lib.Dec.{leb, eqb}
 use lib.ListN.{length, getD, take, drop, drop-of-length-le, length-append}
 use lib.Seq.{drop-cons}
 use borrow.Author.Tests.{leb-true, le-leb, lt-leb}
-use Rattle.streams.specs.Answer.{first-refused}
+use Rattle.streams.specs.AnswerLaws.{first-refused}
 use Rattle.policy.specs.Rules.{rests}
 use Rattle.policy.specs.File.{byteAt, part, ruleSize, inputCount, outputsAt, outputCount, clocksAt, clockCount, locationCount, ruleCount, rulesStart, rulesEnd, inputTags, outputTags, ceilingsOf, ruleSection, policyOf}
 use Rattle.policy.specs.Check.{refusalOf}
 use Rattle.policy.specs.Bytes.{pairsBytes, countsBytes, bytesOf}
 use Rattle.policy.specs.Sound.{each-weak}
-use Rattle.policy.specs.Checked.{Framed, passed, frame, checked-file, well-sound, well-rising, inputs-length, outputs-length, section-length, pairs-length}
+use Rattle.policy.specs.Checked.{passed, frame, checked-file, well-sound, well-rising, inputs-length, outputs-length, section-length, pairs-length}
 use Rattle.policy.specs.ReadBack.{rules-length}
 use Rattle.join.specs.Left.{left-length}
 use Rattle.join.specs.Joins.{join-sound, join-clocks}
 use Rattle.policy.specs.Number.{states}
-use Rattle.policy.specs.Layout.{layoutOf, CheckPromise, checked-says}
+use Rattle.policy.specs.Layout.{layoutOf, CheckPromise}
+use Rattle.policy.specs.LayoutLaws.{checked-says}
 use Rattle.policy.specs.declared.Checked.{Checked}
 use Rattle.policy.specs.declared.Layout.{Layout}
 use Rattle.join.specs.Join.{leftAt, join}
@@ -30,7 +31,7 @@ use Rattle.join.specs.Again.{sameTags-is}
 use Rattle.join.specs.declared.Joined.the-variants.{Length, Refused}
 use Rattle.join.specs.Promise.{JoinPromise}
 use Rattle.join.specs.Limits.{states-join}
-use Rattle.join.specs.Lay.{Laid, bytesFrom, Joinable, Section, rulesIn, rowsBytes, LayoutOf, limits, Ready, joinedCount, joinedRules, clocksFor, countsFrom, countsLength}
+use Rattle.join.specs.Lay.{LaidAt, Joinable, Section, rulesIn, rowsBytes, LayoutOf, limits, PartsReady, joinedCount, joinedRules, clocksFor, countsFrom, countsLength}
 use Rattle.join.specs.Laying.{bytes-length, pairs-copied, laid-parts, signals-laid}
 
 -- The tags from i on: the first, and the rest.
@@ -136,7 +137,7 @@ rules-section {f} l =
     }
 
 -- The limits of the join, and its rules.
-module _ {f g : List ℕ} {x y : Layout} (r : Ready f x g y) where
+module _ {f g : List ℕ} {x y : Layout} (r : PartsReady f x g y) where
   pub few : (x .locations * y .locations ≤ 64) × (x .clocks + y .clocks ≤ 4) × (x .states * y .states ≤ 65536)
   unfolding limits
   few =
@@ -184,7 +185,7 @@ unfolding pairsBytes
 pairs-append [] ds = refl
 pairs-append (c ∷ cs) ds = rw (pairs-append cs ds)
 
-module _ {f g : List ℕ} {x y : Layout} (r : Ready f x g y) where
+module _ {f g : List ℕ} {x y : Layout} (r : PartsReady f x g y) where
   -- The bytes before the rules are those of the joined policy.
   pub counts-joined : ((i : ℕ) → byteAt f i < 256) → ((i : ℕ) → byteAt g i < 256) → {n : ℕ} → n ≡ joinedCount f g →
       countsFrom f x g y n ≡ countsBytes (join (said f) (said g))
@@ -279,7 +280,7 @@ module _ {f g : List ℕ} (out : List ℕ) where
         not-refused h = rw (l .passes, m .passes, s, fits-joined l m, e, le-leb (length (joinedFile f g out)) (length out) h)
 
 -- The answers where neither 12 nor, but for the rules, 13 is given.
-module _ {f g : List ℕ} {x y : Layout} (r : Ready f x g y) where
+module _ {f g : List ℕ} {x y : Layout} (r : PartsReady f x g y) where
   pub rules-counted : {n : ℕ} → n ≡ length (joinedRules f g) → n / ruleSize (x .clocks + y .clocks) ≡ joinedCount f g
   rules-counted e = rw (e, joined-length r) (mul-div-cancel _ (omega arith))
 
@@ -291,7 +292,7 @@ module _ {f g : List ℕ} {x y : Layout} (r : Ready f x g y) where
         ∙ ap (λ (n : ℕ). n + length (joinedRules f g)) (ap length (sym (counts-joined r a b refl)) ∙ counts-long r _)
 
     pub file-laid : countsLength x y + length (joinedRules f g) ≤ length out → {n : ℕ} → n ≡ joinedCount f g → {m w : List ℕ} {i j : ℕ} →
-        Laid (countsFrom f x g y n) out 0 m i → Laid (joinedRules f g) (take (length m - i) (drop i m)) 0 w j →
+        LaidAt (countsFrom f x g y n) out 0 m i → LaidAt (joinedRules f g) (take (length m - i) (drop i m)) 0 w j →
         take i m ++ (w ++ drop (length m - i) (drop i m)) ≡ writtenOver f g out 0
     unfolding joinedFile bytesOf
     file-laid h {n} e {i = i} l k =

@@ -10,11 +10,11 @@ use Rattle.policy.specs.Number.{statesOf}
 use Rattle.policy.specs.Check.{all, among, tagsGood, ceilingGood, locationGood, maskGood, headGood, boundGood, boundsGood, ruleRefusal, rulesRefusal}
 use Rattle.policy.specs.Sound.{WellFormed}
 use Rattle.policy.specs.Checked.{well-sound}
-use Rattle.join.specs.Masks.{alike}
-use Rattle.join.specs.Join.{of, agree, target, both, pair, each, cell, rows, leftAt, leftBelow, join}
-use Rattle.join.specs.Entry.{sameTags, sameSignals, joinFits}
+use Rattle.join.specs.Join.{target, join}
+use Rattle.join.specs.Entry.{joinFits}
 use Rattle.join.specs.Laws.{Equal, associates}
 use Rattle.join.specs.Again.{fitting, joins-of, join-well}
+use Rattle.join.specs.Computing.{the-join}
 
 abbrev bound : ℕ → ℕ → Bound
 bound l h = record { low = l; high = h }
@@ -69,7 +69,7 @@ module _ (reading : ℕ) where
       ∷ row 2 1 0 1 0 2 3 (bound 0 2 ∷ bound 2 4 ∷ [])
       ∷ row 3 1 1 1 0 0 2 (bound 0 2 ∷ bound 0 3 ∷ [])
       ∷ [])
-  unfolding join rows cell each pair both agree target of alike leftBelow leftAt rests
+  unfolding the-join rests
   dv = refl
 
   vu : join v u ≡
@@ -82,7 +82,7 @@ module _ (reading : ℕ) where
       ∷ row 3 1 1 1 0 0 1 (bound 0 3 ∷ [])
       ∷ row 3 1 1 1 0 0 0 (bound 0 3 ∷ [])
       ∷ [])
-  unfolding join rows cell each pair both agree target of alike leftBelow leftAt rests
+  unfolding the-join rests
   vu = refl
 
   -- The laws' premises hold of them, and of a join of joins.
@@ -116,10 +116,10 @@ module _ (reading : ℕ) where
   v-well = well _ _ _ (omega arith) refl refl refl refl
 
   dv-well : WellFormed (join d v)
-  unfolding statesOf sameTags sameSignals joinFits join rows cell each pair both agree target of alike
+  unfolding the-join statesOf
   dv-well = join-well d v d-well v-well refl refl
 
   regrouped : Equal (join (join d v) d) (join d (join v d))
-  unfolding statesOf sameTags sameSignals joinFits join rows cell each pair both agree target of alike
+  unfolding the-join statesOf
   regrouped =
       associates d v d (well-sound d d-well) (well-sound v v-well) (well-sound d d-well) (joins-of d v refl refl refl) (joins-of (join d v) d refl refl refl)

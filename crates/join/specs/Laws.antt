@@ -8,13 +8,15 @@ use native.Mathlib.Omega.{arith}
 use Rattle.streams.specs.Stream.{Event, Stream, Language, GoesOn, Hopeless}
 use Rattle.streams.specs.Order.{Order}
 use Rattle.streams.specs.Enforced.{Enforced}
-use Rattle.streams.specs.Laws.{_⊆_, ⊆-refl, ⊆-trans, ∩-first, ∩-second, ∩-into, goes-on, ends, enforced-same, passes}
+use Rattle.streams.specs.Laws.{⊆-refl, ⊆-trans, ∩-first, ∩-second, ∩-into, goes-on, ends, enforced-same, passes}
+use Rattle.streams.specs.Languages.{_⊆_}
 use Rattle.policy.specs.Rules.{Policy, Runs, Permits}
 use Rattle.policy.specs.Sound.{Sound}
 use Rattle.join.specs.Join.{join}
 use Rattle.join.specs.Joins.{Joins, join-sound}
 use Rattle.join.specs.Steps.{fits-same, within-both, both-within}
-use Rattle.join.specs.Free.{free, free-sound, free-permits, free-rests}
+use Rattle.join.specs.Free.{free}
+use Rattle.join.specs.FreeLaws.{free-sound, free-permits, free-rests}
 
 -- Demand 3, "hopeless together, or the same released stream for every event stream": nobody can tell the two policies apart by streams.
 pub record Equal (p q : Policy) : Type 1 where

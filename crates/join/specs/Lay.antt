@@ -15,7 +15,7 @@ use Rattle.policy.specs.Layout.{layoutOf}
 use Rattle.policy.specs.Sound.{Each, Formed}
 use Rattle.policy.specs.Checked.{Rising}
 use Rattle.policy.specs.declared.Layout.{Layout}
-use Rattle.join.specs.Masks.{alike}
+use Rattle.join.specs.Join.{alike}
 use Rattle.join.specs.Join.{both, pair, each, cell, rows, leftBelow, join}
 use Rattle.join.specs.Entry.{sameSignals, said}
 
@@ -30,7 +30,7 @@ eitherFrom f p g q zero = []
 eitherFrom f p g q (suc n) = bitOr (byteAt f p) (byteAt g q) ∷ eitherFrom f (p + 1) g (q + 1) n
 
 -- The bytes stand in the slice from `at` on, as far as it reaches, and `end` is the position after them. All else stayed.
-pub record Laid (bytes before : List ℕ) (at : ℕ) (after : List ℕ) (end : ℕ) : Type 0 where
+pub record LaidAt (bytes before : List ℕ) (at : ℕ) (after : List ℕ) (end : ℕ) : Type 0 where
   pub ends : end ≡ at + length bytes
   pub lies : after ≡ sets before at bytes
 
@@ -100,7 +100,7 @@ unfoldable pub limits : Layout → Layout → Bool
 limits x y = leb (x .locations * y .locations) 64 && (leb (x .clocks + y .clocks) 4 && leb (x .states * y .states) 65536)
 
 -- What the writers of the whole join ask: 12 is not given, nor 13, but for the rules.
-pub record Ready (f : List ℕ) (x : Layout) (g : List ℕ) (y : Layout) : Type 0 where
+pub record PartsReady (f : List ℕ) (x : Layout) (g : List ℕ) (y : Layout) : Type 0 where
   pub first : LayoutOf f x
   pub second : LayoutOf g y
   pub signals : sameSignals (said f) (said g) ≡ true

@@ -10,31 +10,31 @@ use Rattle.policy.specs.Rules.{Rule}
 use Rattle.policy.specs.File.{byteAt, pairAt, part, pairsFrom, boundsFrom, ruleSize, ruleFrom, rulesFrom, inputCount, outputsAt, outputCount, inputTags, outputTags}
 use Rattle.policy.specs.Bytes.{pairBytes, pairsBytes, boundsBytes, rulesBytes}
 use Rattle.policy.specs.Checked.{Framed}
-use Rattle.join.specs.Lay.{Laid, bytesFrom}
+use Rattle.join.specs.Lay.{LaidAt, bytesFrom}
 
 sets-append : (l : List ℕ) (i : ℕ) (xs ys : List ℕ) → sets l i (xs ++ ys) ≡ sets (sets l i xs) (i + length xs) ys
 sets-append l i [] ys = ap (λ (k : ℕ). sets l k ys) (omega arith)
 sets-append l i (x ∷ xs) ys = sets-append (set l i x) (suc i) xs ys ∙ ap (λ (k : ℕ). sets (sets (set l i x) (suc i) xs) k ys) (omega arith)
 
-pub laid-none : (l : List ℕ) (at : ℕ) → Laid [] l at l at
+pub laid-none : (l : List ℕ) (at : ℕ) → LaidAt [] l at l at
 laid-none l at = record { ends = omega arith; lies = refl }
 
-pub laid-more : {xs ys l m n : List ℕ} {at i j : ℕ} → Laid xs l at m i → Laid ys m i n j → Laid (xs ++ ys) l at n j
+pub laid-more : {xs ys l m n : List ℕ} {at i j : ℕ} → LaidAt xs l at m i → LaidAt ys m i n j → LaidAt (xs ++ ys) l at n j
 laid-more {xs} {ys} {l} {m} {n} {at} {i} {j} g h =
     record {
       ends = rw length-append (omega arith);
       lies = h .lies ∙ rw (g .lies, g .ends) (sym (sets-append l at xs ys));
     }
 
-pub laid-as : {xs ys l m : List ℕ} {at i : ℕ} → xs ≡ ys → Laid xs l at m i → Laid ys l at m i
+pub laid-as : {xs ys l m : List ℕ} {at i : ℕ} → xs ≡ ys → LaidAt xs l at m i → LaidAt ys l at m i
 laid-as e g = rw e at g
 
-pub laid-length : {xs l m : List ℕ} {at i : ℕ} → Laid xs l at m i → length m ≡ length l
+pub laid-length : {xs l m : List ℕ} {at i : ℕ} → LaidAt xs l at m i → length m ≡ length l
 laid-length {xs} {l} {m} {at} g = rw (g .lies) (length-sets l at xs)
 
 -- Two parts, the second laid into the part of the slice that begins after the first, and put back.
-pub laid-parts : {xs ys l m n : List ℕ} {i j : ℕ} → length xs + length ys ≤ length l → Laid xs l 0 m i →
-    Laid ys (take (length m - length xs) (drop (length xs) m)) 0 n j →
+pub laid-parts : {xs ys l m n : List ℕ} {i j : ℕ} → length xs + length ys ≤ length l → LaidAt xs l 0 m i →
+    LaidAt ys (take (length m - length xs) (drop (length xs) m)) 0 n j →
     take (length xs) m ++ (n ++ drop (length m - length xs) (drop (length xs) m)) ≡ (xs ++ ys) ++ drop (length (xs ++ ys)) l
 laid-parts {xs} {ys} {l} {m} {n} h g k =
     let t : length (drop (length xs) m) ≤ length m - length xs = simp length-drop (omega arith) in
@@ -51,32 +51,32 @@ sets-out : (l : List ℕ) (i : ℕ) (xs : List ℕ) → length l ≤ i → sets 
 sets-out l i [] h = refl
 sets-out l i (x ∷ xs) h = rw (set-out l i x h) (sets-out l (suc i) xs (omega arith))
 
-pub laid-past : (xs l : List ℕ) (at : ℕ) → length l ≤ at → {end : ℕ} → end ≡ at + length xs → Laid xs l at l end
+pub laid-past : (xs l : List ℕ) (at : ℕ) → length l ≤ at → {end : ℕ} → end ≡ at + length xs → LaidAt xs l at l end
 laid-past xs l at h e = record { ends = e; lies = sym (sets-out l at xs h) }
 
-pub laid-nowhere : {xs m : List ℕ} {at i : ℕ} → Laid xs [] at m i → m ≡ []
+pub laid-nowhere : {xs m : List ℕ} {at i : ℕ} → LaidAt xs [] at m i → m ≡ []
 laid-nowhere {xs} {m} {at} g = g .lies ∙ sets-out [] at xs (omega arith)
 
 -- In the midst of laying the whole: what is left, laid from here on, gives what the whole gives.
-pub record Left (whole rest l : List ℕ) (at : ℕ) (m : List ℕ) (i : ℕ) : Type 0 where
+pub record LeftToLay (whole rest l : List ℕ) (at : ℕ) (m : List ℕ) (i : ℕ) : Type 0 where
   pub ends : i + length rest ≡ at + length whole
   pub lies : sets m i rest ≡ sets l at whole
 
-pub left-start : (whole l : List ℕ) (at : ℕ) → Left whole whole l at l at
+pub left-start : (whole l : List ℕ) (at : ℕ) → LeftToLay whole whole l at l at
 left-start whole l at = record { ends = refl; lies = refl }
 
-module _ {whole rest l m : List ℕ} {at i : ℕ} (g : Left whole rest l at m i) where
-  pub left-turn : {xs ys n : List ℕ} {j : ℕ} → rest ≡ xs ++ ys → Laid xs m i n j → Left whole ys l at n j
+module _ {whole rest l m : List ℕ} {at i : ℕ} (g : LeftToLay whole rest l at m i) where
+  pub left-turn : {xs ys n : List ℕ} {j : ℕ} → rest ≡ xs ++ ys → LaidAt xs m i n j → LeftToLay whole ys l at n j
   left-turn {xs} {ys} {n} {j} e h =
       record {
         ends = omega (arith, simp length-append at (ap length e));
         lies = rw (h .lies, h .ends) (sym (sets-append m i xs ys) ∙ rw (← e) (g .lies));
       }
 
-  pub left-same : {ys : List ℕ} → rest ≡ ys → Left whole ys l at m i
+  pub left-same : {ys : List ℕ} → rest ≡ ys → LeftToLay whole ys l at m i
   left-same e = rw (← e) g
 
-  pub left-end : rest ≡ [] → Laid whole l at m i
+  pub left-end : rest ≡ [] → LaidAt whole l at m i
   left-end e = record { ends = omega (arith, ap length e, g .ends); lies = sym (sym (g .lies) ∙ rw e) }
 
   pub left-length : length m ≡ length l

@@ -1,12 +1,14 @@
-pub mod Masks
 pub mod Join
+pub mod Masks
 pub mod Left
 pub mod Joins
 pub mod Decide
 pub mod Steps
 pub mod Free
+pub mod FreeLaws
 pub mod Laws
 pub mod Entry
+pub mod Computing
 pub mod Again
 pub mod Limits
 pub mod Written

@@ -4,8 +4,10 @@ use mathlib.Core.List.{List}
 use Prim.Native.Nat.{ℕ, _≤_}
 use native.Mathlib.Omega.{arith}
 use lib.ListN.{length}
-use Rattle.streams.specs.Answer.{Answer, refused, gives, UpTo, unless-le, else-le, answer-up-to}
-use Rattle.policy.specs.Check.{refusalOf, refusal-le}
+use Rattle.streams.specs.Answer.{Answer, refused, gives, UpTo}
+use Rattle.streams.specs.AnswerLaws.{unless-le, else-le, answer-up-to}
+use Rattle.policy.specs.Check.{refusalOf}
+use Rattle.policy.specs.CheckLaws.{refusal-le}
 use Rattle.join.specs.declared.Joined.{Joined}
 use Rattle.join.specs.declared.Joined.the-variants.{Length, Refused}
 use Rattle.join.specs.Entry.{joinedFile, joinRefusal, joinOf, joinedOut}

@@ -7,15 +7,17 @@ use lib.ListN.{length, take}
 use lib.Seq.{take-at}
 use borrow.Author.Tests.{leb-true}
 use Rattle.streams.specs.Stream.{_∩_}
-use Rattle.streams.specs.Laws.{_⊆_}
-use Rattle.streams.specs.Answer.{unless, none-refused, none-unless}
+use Rattle.streams.specs.Languages.{_⊆_}
+use Rattle.streams.specs.Answer.{unless}
+use Rattle.streams.specs.AnswerLaws.{none-refused, none-unless}
 use Rattle.policy.specs.Rules.{rests, Permits}
 use Rattle.policy.specs.File.{locationCount, policyOf}
 use Rattle.policy.specs.Check.{refusalOf}
 use Rattle.policy.specs.Sound.{WellFormed}
 use Rattle.policy.specs.Checked.{checked-file, well-sound}
 use Rattle.policy.specs.Bytes.{countsBytes, bytesOf}
-use Rattle.policy.specs.ReadBack.{read-back, written-passes}
+use Rattle.policy.specs.ReadBack.{read-back}
+use Rattle.policy.specs.WrittenPasses.{written-passes}
 use Rattle.join.specs.Join.{leftAt, leftBelow, join}
 use Rattle.join.specs.Joins.{Joins}
 use Rattle.join.specs.Steps.{within-both, both-within}

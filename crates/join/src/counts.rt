@@ -12,7 +12,7 @@ ghost use Prim.Native.Nat.{_+_, _*_, _≤_, _<_, _^_};
 ghost use lib.ListN.{length};
 ghost use Rattle.join.specs.Entry.{sameTags, sameSignals, said};
 ghost use Rattle.join.specs.Join.{leftAt};
-ghost use Rattle.join.specs.Lay.{Laid, LayoutOf, Ready, limits, clocksPart, leftPart, placesPart, countsFrom, countsLength};
+ghost use Rattle.join.specs.Lay.{LaidAt, LayoutOf, PartsReady, limits, clocksPart, leftPart, placesPart, countsFrom, countsLength};
 
 // The same tags in the same order.
 fn same_tags(a: &[u8], b: &[u8]) -> bool
@@ -81,7 +81,7 @@ fn lay_clocks(
 ) -> usize
     requires { ⌜ (p + 1 + 2 * firsts ≤ length (now a)) × (q + 1 + 2 * seconds ≤ length (now b)) ⌝ }
     requires { ⌜ (firsts + seconds ≤ 4) × (at < 2 ^ 16) ⌝ }
-    ensures { λ r. ⌜ Laid (clocksPart (now (a .entry)) p firsts (now (b .entry)) q seconds) (now (out .entry)) at (now (out .exit)) r ⌝ }
+    ensures { λ r. ⌜ LaidAt (clocksPart (now (a .entry)) p firsts (now (b .entry)) q seconds) (now (out .entry)) at (now (out .exit)) r ⌝ }
     ensures { λ r. ⌜ r ≤ at + 9 ⌝ }
 {
     let ceilings = put(firsts + seconds, out, at);
@@ -91,7 +91,7 @@ fn lay_clocks(
 
 // The byte of one location: it must be left if either part must.
 fn left_at(a: &[u8], x: Layout, b: &[u8], y: Layout, location: usize) -> usize
-    requires { ⌜ Ready (now a) x (now b) y × (location < x .locations * y .locations) ⌝ }
+    requires { ⌜ PartsReady (now a) x (now b) y × (location < x .locations * y .locations) ⌝ }
     ensures { λ r. ⌜ (r ≡ leftAt (said (now (a .entry))) (said (now (b .entry))) location) × (r < 256) ⌝ }
 {
     let first = may_rest(a, x, location / y.locations);
@@ -101,8 +101,8 @@ fn left_at(a: &[u8], x: Layout, b: &[u8], y: Layout, location: usize) -> usize
 
 // The bytes of all locations, in number order.
 fn lay_left(a: &[u8], x: Layout, b: &[u8], y: Layout, out: &mut [u8], at: usize) -> usize
-    requires { ⌜ Ready (now a) x (now b) y × (at < 2 ^ 18) ⌝ }
-    ensures { λ r. ⌜ Laid (leftPart (now (a .entry)) x (now (b .entry)) y) (now (out .entry)) at (now (out .exit)) r ⌝ }
+    requires { ⌜ PartsReady (now a) x (now b) y × (at < 2 ^ 18) ⌝ }
+    ensures { λ r. ⌜ LaidAt (leftPart (now (a .entry)) x (now (b .entry)) y) (now (out .entry)) at (now (out .exit)) r ⌝ }
 {
     let locations = x.locations * y.locations;
     let mut next = at;
@@ -124,8 +124,8 @@ fn lay_places(
     out: &mut [u8],
     at: usize,
 ) -> usize
-    requires { ⌜ Ready (now a) x (now b) y × (rules ≤ 256) × (at < 2 ^ 17) ⌝ }
-    ensures { λ r. ⌜ Laid (placesPart (now (a .entry)) x (now (b .entry)) y rules) (now (out .entry)) at (now (out .exit)) r ⌝ }
+    requires { ⌜ PartsReady (now a) x (now b) y × (rules ≤ 256) × (at < 2 ^ 17) ⌝ }
+    ensures { λ r. ⌜ LaidAt (placesPart (now (a .entry)) x (now (b .entry)) y rules) (now (out .entry)) at (now (out .exit)) r ⌝ }
 {
     let left = put(x.locations * y.locations, out, at);
     let count = lay_left(a, x, b, y, out, left);
@@ -141,8 +141,8 @@ pub(crate) fn lay_counts(
     rules: usize,
     out: &mut [u8],
 ) -> usize
-    requires { ⌜ Ready (now a) x (now b) y × (rules ≤ 256) ⌝ }
-    ensures { λ r. ⌜ Laid (countsFrom (now (a .entry)) x (now (b .entry)) y rules) (now (out .entry)) 0 (now (out .exit)) r ⌝ }
+    requires { ⌜ PartsReady (now a) x (now b) y × (rules ≤ 256) ⌝ }
+    ensures { λ r. ⌜ LaidAt (countsFrom (now (a .entry)) x (now (b .entry)) y rules) (now (out .entry)) 0 (now (out .exit)) r ⌝ }
 {
     let p = 2 + x.inputs + x.outputs;
     let q = 2 + y.inputs + y.outputs;

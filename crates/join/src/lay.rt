@@ -4,11 +4,11 @@ ghost use mathlib.Core.List.{[], _∷_};
 ghost use Prim.Native.Nat.{_+_, _≤_, _<_, _^_};
 ghost use lib.ListN.{length};
 ghost use Rattle.policy.specs.Bytes.{pairBytes};
-ghost use Rattle.join.specs.Lay.{Laid, bytesFrom, eitherFrom};
+ghost use Rattle.join.specs.Lay.{LaidAt, bytesFrom, eitherFrom};
 
 pub fn put(byte: usize, out: &mut [u8], at: usize) -> usize
     requires { ⌜ (byte < 256) × (at < 2 ^ 32) ⌝ }
-    ensures { λ r. ⌜ Laid (byte ∷ []) (now (out .entry)) at (now (out .exit)) r ⌝ }
+    ensures { λ r. ⌜ LaidAt (byte ∷ []) (now (out .entry)) at (now (out .exit)) r ⌝ }
 {
     if at < out.len() {
         out[at] = byte as u8;
@@ -19,7 +19,7 @@ pub fn put(byte: usize, out: &mut [u8], at: usize) -> usize
 // A two-byte number, the high byte first.
 pub fn put_pair(n: usize, out: &mut [u8], at: usize) -> usize
     requires { ⌜ (n < 65536) × (at < 2 ^ 31) ⌝ }
-    ensures { λ r. ⌜ Laid (pairBytes n) (now (out .entry)) at (now (out .exit)) r ⌝ }
+    ensures { λ r. ⌜ LaidAt (pairBytes n) (now (out .entry)) at (now (out .exit)) r ⌝ }
 {
     let next = put(n / 256, out, at);
     put(n % 256, out, next)
@@ -28,7 +28,7 @@ pub fn put_pair(n: usize, out: &mut [u8], at: usize) -> usize
 // n bytes from `start` on.
 pub fn copy(from: &[u8], start: usize, n: usize, out: &mut [u8], at: usize) -> usize
     requires { ⌜ (start + n ≤ length (now from)) × (n < 2 ^ 16) × (at < 2 ^ 31) ⌝ }
-    ensures { λ r. ⌜ Laid (bytesFrom (now (from .entry)) start n) (now (out .entry)) at (now (out .exit)) r ⌝ }
+    ensures { λ r. ⌜ LaidAt (bytesFrom (now (from .entry)) start n) (now (out .entry)) at (now (out .exit)) r ⌝ }
 {
     let mut next = at;
     let mut i = 0;
@@ -50,7 +50,7 @@ pub(crate) fn put_either(
     at: usize,
 ) -> usize
     requires { ⌜ (p + n ≤ length (now a)) × (q + n ≤ length (now b)) × (n < 2 ^ 16) × (at < 2 ^ 31) ⌝ }
-    ensures { λ r. ⌜ Laid (eitherFrom (now (a .entry)) p (now (b .entry)) q n) (now (out .entry)) at (now (out .exit)) r ⌝ }
+    ensures { λ r. ⌜ LaidAt (eitherFrom (now (a .entry)) p (now (b .entry)) q n) (now (out .entry)) at (now (out .exit)) r ⌝ }
 {
     let mut next = at;
     let mut i = 0;

@@ -15,7 +15,7 @@ ghost use mathlib.Core.Path.{_≡_};
 ghost use Prim.Native.Nat.{_+_, _≤_, _<_, _^_};
 ghost use lib.ListN.{length};
 ghost use Rattle.join.specs.Entry.{joinedFile, writtenOver};
-ghost use Rattle.join.specs.Lay.{Laid, LayoutOf, Ready, joinedCount, joinedRules, countsLength};
+ghost use Rattle.join.specs.Lay.{LaidAt, LayoutOf, PartsReady, joinedCount, joinedRules, countsLength};
 ghost use Rattle.join.specs.Promise.{JoinPromise};
 
 // The length written, or the refusal's number.
@@ -26,8 +26,8 @@ pub enum Joined {
 
 // The rules of the join of two checked files, from the slice's start on.
 fn lay_joined(a: &[u8], x: Layout, b: &[u8], y: Layout, out: &mut [u8]) -> usize
-    requires { ⌜ Ready (now a) x (now b) y ⌝ }
-    ensures { λ r. ⌜ Laid (joinedRules (now (a .entry)) (now (b .entry))) (now (out .entry)) 0 (now (out .exit)) r ⌝ }
+    requires { ⌜ PartsReady (now a) x (now b) y ⌝ }
+    ensures { λ r. ⌜ LaidAt (joinedRules (now (a .entry)) (now (b .entry))) (now (out .entry)) 0 (now (out .exit)) r ⌝ }
     ensures { λ r. ⌜ r < 2 ^ 27 ⌝ }
 {
     let start = x.rules_start;
@@ -39,7 +39,7 @@ fn lay_joined(a: &[u8], x: Layout, b: &[u8], y: Layout, out: &mut [u8]) -> usize
 
 // How many bytes they take: they are laid into a part with no bytes.
 fn rules_length(a: &[u8], x: Layout, b: &[u8], y: Layout, out: &mut [u8]) -> usize
-    requires { ⌜ Ready (now a) x (now b) y ⌝ }
+    requires { ⌜ PartsReady (now a) x (now b) y ⌝ }
     ensures { λ r. ⌜ (r ≡ length (joinedRules (now (a .entry)) (now (b .entry)))) × (r < 2 ^ 27) × (now (out .exit) ≡ now (out .entry)) ⌝ }
 {
     lay_joined(a, x, b, y, &mut out[..0])
@@ -47,7 +47,7 @@ fn rules_length(a: &[u8], x: Layout, b: &[u8], y: Layout, out: &mut [u8]) -> usi
 
 // The counts, and the rules into the part of the slice that begins after them. The length written is handed back.
 fn write_joined(a: &[u8], x: Layout, b: &[u8], y: Layout, rules: usize, out: &mut [u8]) -> usize
-    requires { ⌜ Ready (now a) x (now b) y ⌝ }
+    requires { ⌜ PartsReady (now a) x (now b) y ⌝ }
     requires { ⌜ (rules ≡ joinedCount (now a) (now b)) × (rules ≤ 256) × (countsLength x y + length (joinedRules (now a) (now b)) ≤ length (now out)) ⌝ }
     ensures { λ r. ⌜ r ≡ length (joinedFile (now (a .entry)) (now (b .entry)) (now (out .entry))) ⌝ }
     ensures { λ r. ⌜ now (out .exit) ≡ writtenOver (now (a .entry)) (now (b .entry)) (now (out .entry)) 0 ⌝ }
@@ -58,7 +58,7 @@ fn write_joined(a: &[u8], x: Layout, b: &[u8], y: Layout, rules: usize, out: &mu
 
 // 13 where there are too many rules, 14 where the slice is too short; otherwise the join is written.
 fn join_within(a: &[u8], x: Layout, b: &[u8], y: Layout, out: &mut [u8]) -> Joined
-    requires { ⌜ Ready (now a) x (now b) y ⌝ }
+    requires { ⌜ PartsReady (now a) x (now b) y ⌝ }
     ensures { λ r. ⌜ JoinPromise (now (a .entry)) (now (b .entry)) (now (out .entry)) r (now (out .exit)) ⌝ }
 {
     let laid = rules_length(a, x, b, y, out);

@@ -5,7 +5,8 @@ use Prim.Native.Nat.{ℕ, suc}
 use lib.ListN.{length}
 use Rattle.policy.specs.Rules.{Policy}
 use Rattle.policy.specs.File.{policyOf}
-use Rattle.policy.specs.Check.{refusalUnder, under-none}
+use Rattle.policy.specs.Check.{refusalUnder}
+use Rattle.policy.specs.CheckLaws.{under-none}
 use Rattle.policy.specs.Bytes.{bytesOf}
 use Rattle.cleaning.specs.Clean.{Struck}
 use Rattle.cleaning.specs.Entry.{cleanedOf, struckOf, cleanedFile}
@@ -15,7 +16,7 @@ use Rattle.console.specs.Text.{refusedLine}
 use Rattle.listing.specs.Listed.{lines, leftLine, written, printed}
 
 -- One list alone says what is struck, and one policy alone is left (cleaning: `lists-one`, `leaves-one`).
-pub record Told (reading : ℕ) (file : List ℕ) : Type 0 where
+pub record SaidByClean (reading : ℕ) (file : List ℕ) : Type 0 where
   pub entries : List Struck
   pub lists : Lists (policyOf reading file) entries
   pub prints : printed reading file ≡ lines entries ++ leftLine (length (written reading file))
@@ -24,7 +25,7 @@ pub record Told (reading : ℕ) (file : List ℕ) : Type 0 where
   pub writes : written reading file ≡ bytesOf policy
 
 module _ (reading : ℕ) (file : List ℕ) where
-  pub told : refusalUnder reading file ≡ 0 → Told reading file
+  pub told : refusalUnder reading file ≡ 0 → SaidByClean reading file
   unfolding printed written cleanedFile
   told passed =
       let c = cleans reading file (under-none reading file .0 passed .1) in

@@ -10,17 +10,18 @@ use lib.Dec.{eqb, leb}
 use lib.ListN.{length, take, drop, getD, length-append, length-drop}
 use lib.Seq.{take-at, drop-cons}
 use borrow.Author.Tests.{le-leb}
-use Rattle.streams.specs.Answer.{refused, answer, given-only, _orElse_, unless}
+use Rattle.streams.specs.Answer.{refused, answer, _orElse_, unless}
+use Rattle.streams.specs.AnswerLaws.{given-only}
 use Rattle.policy.specs.File.{pairAt, policyOf}
-use Rattle.policy.specs.Check.{refusalUnder, under-none}
+use Rattle.policy.specs.Check.{refusalUnder}
+use Rattle.policy.specs.CheckLaws.{under-none}
 use Rattle.policy.specs.Checked.{frame, longest}
 use Rattle.texts.specs.Text.{ascii, decimal}
 use Rattle.texts.specs.Decimal.{decimal-short}
 use Rattle.texts.specs.Wrote.{Wrote}
 use Rattle.cleaning.specs.Clean.{Struck, struckBytes}
-use Rattle.cleaning.specs.Entry as Entry
 use Rattle.cleaning.specs.Entry.{struckOf, cleanedFile, struckList, shortRefusal, cleanRefusal, cleanOf, cleanedOut, struckOut, writtenIn}
-use Rattle.cleaning.specs.Promise.{lengthsSaid, CleanPromise}
+use Rattle.cleaning.specs.Promise.{CleanPromise}
 use Rattle.cleaning.specs.Sizes.{room}
 use Rattle.cleaning.specs.declared.Lengths.{Lengths}
 use Rattle.cleaning.specs.declared.Cleaned.the-variants as Cleaned
@@ -111,7 +112,7 @@ module _ (reading : ℕ) (file out list : List ℕ) (roomOut : length out ≡ 59
   unfolding printed written cleanOf cleanedOut
   refused-way {n} {outAfter} h = rw (← roomy) (go (cleanRefusal reading file out list) _ (h .said) (h .cleaned))
     where
-      go : (k : ℕ) (l : Entry.Lengths) → refused n ≡ answer k l →
+      go : (k : ℕ) (l : Lengths) → refused n ≡ answer k l →
           outAfter ≡ writtenIn k (cleanedFile reading file) out →
           (unlessRefused k (lines (struckOf (policyOf reading file)) ++ leftLine (length (cleanedFile reading file))) ≡ refusedLine n)
           × (noneRefused k (cleanedFile reading file) ≡ []) × (outAfter ≡ out)
@@ -119,20 +120,20 @@ module _ (reading : ℕ) (file out list : List ℕ) (roomOut : length out ≡ 59
       go (suc k) l e o = let h : n ≡ suc k = cc in (rw h, refl, o)
 
   -- It gives lengths: the policy is written, and the list's lines stand in its first bytes.
-  pub record Goes (l : Lengths) (outAfter listAfter : List ℕ) : Type 0 where
+  pub record GoesOut (l : Lengths) (outAfter listAfter : List ℕ) : Type 0 where
     pub left : Wrote out 0 (written reading file) (l .cleaned) outAfter
     pub within : l .struck ≤ length listAfter
     pub few : l .struck ≤ 957
     pub says : printed reading file ≡ bytesLines (take (l .struck) listAfter) ++ leftLine (l .cleaned)
 
-  pub given-way : {l : Lengths} {outAfter listAfter : List ℕ} → CleanPromise reading file out list (Cleaned.Gives l) outAfter listAfter → Goes l outAfter listAfter
+  pub given-way : {l : Lengths} {outAfter listAfter : List ℕ} → CleanPromise reading file out list (Cleaned.Gives l) outAfter listAfter → GoesOut l outAfter listAfter
   unfolding printed written cleanOf cleanedOut struckOut struckList
   given-way {l} {outAfter} {listAfter} h =
-      let k = given-only (cleanRefusal reading file out list) _ (lengthsSaid l) (sym (h .said)) in
+      let k = given-only (cleanRefusal reading file out list) _ l (sym (h .said)) in
       let z : refusalUnder reading file ≡ 0 = sym roomy ∙ k .0 in
       let m = room reading file (under-none reading file .0 z .1) in
-      let a : length (cleanedFile reading file) ≡ l .cleaned = ap (λ (x : Entry.Lengths). x .cleaned) (k .1) in
-      let b : length (struckList reading file) ≡ l .struck = ap (λ (x : Entry.Lengths). x .struck) (k .1) in
+      let a : length (cleanedFile reading file) ≡ l .cleaned = ap (λ (x : Lengths). x .cleaned) (k .1) in
+      let b : length (struckList reading file) ≡ l .struck = ap (λ (x : Lengths). x .struck) (k .1) in
       let o : outAfter ≡ cleanedFile reading file ++ drop (length (cleanedFile reading file)) out = h .cleaned ∙ rw (k .0) in
       let s : listAfter ≡ struckList reading file ++ drop (length (struckList reading file)) list = h .struck ∙ rw (k .0) in
       let t : take (l .struck) listAfter ≡ struckList reading file = rw s (take-at _ _ _ b) in record {

@@ -1,4 +1,4 @@
-// What the program `clean` decides on slices: the reading that it is told, and the lines that it prints for what went.
+// What `clean` decides on slices: the reading that it is told, and the lines that it prints.
 mod lines;
 
 use crate::lines::put_left;

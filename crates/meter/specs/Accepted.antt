@@ -8,16 +8,16 @@ use native.Mathlib.Omega.{arith}
 use lib.ListN.{length}
 use lib.Seq.{take-at}
 use Rattle.streams.specs.Answer.{Answer, refused, gives}
-use Rattle.policy.specs.Rules.{Place}
 use Rattle.enforcer.specs.Entries.{OutputAnswer, inputOf, outputOf}
 use Rattle.bays.specs.Five.{stateWords, stateIn, words-in}
 use Rattle.bays.specs.Halves.{output-four}
 use Rattle.bays.specs.Odd.{oddRefusal}
 use Rattle.meter.specs.Meter.{isStation, areTotals, stationState, lastReading, stationWords, pulsesOf, withPulse, isOn, risen, fits}
 use Rattle.meter.specs.Entries.{MeterAnswer, kept, settled, metered, past, meterRefusal, weightP, weightD, meterInputOf, meterOutputOf}
+use Rattle.enforcer.specs.declared.state.State.{State}
 
 -- The state in a station's numbers is the one that was put there.
-pub station-back : (s : Place) (register : ℕ) → length (s .clocks) ≡ 4 → stationState (stationWords s register) ≡ s
+pub station-back : (s : State) (register : ℕ) → length (s .clocks) ≡ 4 → stationState (stationWords s register) ≡ s
 station-back s register e = ap stateIn (take-at (stateWords s) (register ∷ []) 5 (omega arith)) ∙ words-in s e
 
 not-given : {n y : ℕ} → _≡_ {A = Answer ℕ} (refused n) (gives y) → ⊥

@@ -4,20 +4,20 @@ use mathlib.Core.Bool.{Bool, true, cond, _&&_}
 use mathlib.Core.List.{List, [], _∷_}
 use Prim.Native.Nat.{ℕ, zero, suc}
 use Rattle.streams.specs.Answer.{Answer, refused, gives, _orElse_, unless}
-use Rattle.policy.specs.Rules.{Place}
 use Rattle.policy.specs.File.{policyOf}
 use Rattle.policy.specs.Check.{refusalUnder, among}
 use Rattle.enforcer.specs.Entries.{inputOf, outputOf}
-use Rattle.enforcer.specs.Code.{asPlace, startState}
+use Rattle.enforcer.specs.Code.{startState}
 use Rattle.bays.specs.Odd.{oddRefusal}
 use Rattle.meter.specs.Meter.{isStation, areTotals, stationState, lastReading, stationWords, pulsesOf, weightOf, withPulse, isOn, risen, fits}
+use Rattle.enforcer.specs.declared.state.State.{State}
 
 -- "The first reading is given when the totals are set up, both at 0." 14 for other lengths, and nothing is written.
 unfoldable pub newRefusal : List ℕ → List ℕ → ℕ
 newRefusal station totals = unless (isStation station && areTotals totals) 14
 
 unfoldable pub newStation : List ℕ → List ℕ → ℕ → List ℕ
-newStation station totals register = cond (isStation station && areTotals totals) (stationWords (asPlace startState) register) station
+newStation station totals register = cond (isStation station && areTotals totals) (stationWords startState register) station
 
 unfoldable pub newTotals : List ℕ → List ℕ → List ℕ
 newTotals station totals = cond (isStation station && areTotals totals) (0 ∷ 0 ∷ []) totals
@@ -34,14 +34,14 @@ kept station totals n = record { answer = refused n; station = station; totals =
 
 -- The output half released y, and the state after it is s: the pulses go into the total, and the register is the last reading; or 27, "checked before
 -- any change, after the tick's own refusals".
-unfoldable pub settled : (station totals : List ℕ) → Place → (register : ℕ) → (on : Bool) → (y : ℕ) → MeterAnswer
+unfoldable pub settled : (station totals : List ℕ) → State → (register : ℕ) → (on : Bool) → (y : ℕ) → MeterAnswer
 settled station totals s register on y =
     cond (fits totals on (pulsesOf register (lastReading station)))
     (record { answer = gives y; station = stationWords s register; totals = risen totals on (pulsesOf register (lastReading station)) })
     (kept station totals 27)
 
 -- What follows from what the output half answers. D is looked for in the output that it released.
-abbrev pub metered : (station totals : List ℕ) → (register weight : ℕ) → Place → Answer ℕ → MeterAnswer
+abbrev pub metered : (station totals : List ℕ) → (register weight : ℕ) → State → Answer ℕ → MeterAnswer
 metered station totals register weight s (refused n) = kept station totals n
 metered station totals register weight s (gives y) = settled station totals s register (isOn weight y) y
 

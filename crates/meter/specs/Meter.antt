@@ -6,8 +6,8 @@ use Prim.Native.Nat.{ℕ, _+_, _-_, _*_, _%_}
 use lib.Dec.{leb, eqb}
 use lib.Bits.{bitAnd, bitOr}
 use lib.ListN.{length, getD, take}
-use Rattle.policy.specs.Rules.{Place}
 use Rattle.bays.specs.Five.{stateWords, stateIn}
+use Rattle.enforcer.specs.declared.state.State.{State}
 
 abbrev pub isStation : List ℕ → Bool
 isStation station = eqb (length station) 6
@@ -15,13 +15,13 @@ isStation station = eqb (length station) 6
 abbrev pub areTotals : List ℕ → Bool
 areTotals totals = eqb (length totals) 2
 
-abbrev pub stationState : List ℕ → Place
+abbrev pub stationState : List ℕ → State
 stationState station = stateIn (take 5 station)
 
 abbrev pub lastReading : List ℕ → ℕ
 lastReading station = getD station 5 0
 
-abbrev pub stationWords : Place → ℕ → List ℕ
+abbrev pub stationWords : State → ℕ → List ℕ
 stationWords s register = stateWords s ++ (register ∷ [])
 
 abbrev pub billed : List ℕ → ℕ

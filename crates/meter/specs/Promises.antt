@@ -4,10 +4,9 @@ use mathlib.Core.Bool.{Bool}
 use mathlib.Core.List.{List}
 use Prim.Native.Nat.{ℕ}
 use Rattle.enforcer.specs.Entries.{outputOf}
-use Rattle.enforcer.specs.Code.{asPlace}
 use Rattle.enforcer.specs.Promises.{answerSaid, answer-one}
 use Rattle.enforcer.specs.declared.state.State.{State}
-use Rattle.enforcer.specs.declared.halves.Answer.{Answer}
+use Rattle.enforcer.specs.declared.halves.HalfAnswer.{HalfAnswer}
 use Rattle.meter.specs.Entries.{MeterAnswer, newRefusal, newStation, newTotals, settled, metered, meterInputOf, meterOutputOf}
 use Rattle.meter.specs.Meter.{stationState}
 
@@ -17,18 +16,18 @@ pub record MeterNewPromise (station totals : List ℕ) (register r : ℕ) (after
   pub placed : after ≡ newStation station totals register
   pub cleared : risen ≡ newTotals station totals
 
-pub record MeterInputPromise (reading : ℕ) (file marks station : List ℕ) (register x : ℕ) (r : Answer) : Type 0 where
+pub record MeterInputPromise (reading : ℕ) (file marks station : List ℕ) (register x : ℕ) (r : HalfAnswer) : Type 0 where
   pub said : answerSaid r ≡ meterInputOf reading file marks station register x
 
-pub record MeterOutputPromise (reading : ℕ) (file marks station totals : List ℕ) (register x y : ℕ) (r : Answer) (after risen : List ℕ) : Type 0 where
+pub record MeterOutputPromise (reading : ℕ) (file marks station totals : List ℕ) (register x y : ℕ) (r : HalfAnswer) (after risen : List ℕ) : Type 0 where
   pub said : record { answer = answerSaid r; station = after; totals = risen } ≡ meterOutputOf reading file marks station totals register x y
 
 -- Of the part past the output half.
-pub record SettledPromise (station totals : List ℕ) (next : State) (register : ℕ) (on : Bool) (y : ℕ) (r : Answer) (after risen : List ℕ) : Type 0 where
-  pub said : record { answer = answerSaid r; station = after; totals = risen } ≡ settled station totals (asPlace next) register on y
+pub record SettledPromise (station totals : List ℕ) (next : State) (register : ℕ) (on : Bool) (y : ℕ) (r : HalfAnswer) (after risen : List ℕ) : Type 0 where
+  pub said : record { answer = answerSaid r; station = after; totals = risen } ≡ settled station totals next register on y
 
 -- Of the second half past the refusals of its own: what follows from what the output half answers.
-pub record ReleasePromise (reading : ℕ) (file marks station totals : List ℕ) (register x y weight : ℕ) (r : Answer) (after risen : List ℕ) : Type 0 where
+pub record ReleasePromise (reading : ℕ) (file marks station totals : List ℕ) (register x y weight : ℕ) (r : HalfAnswer) (after risen : List ℕ) : Type 0 where
   pub said :
       let o = outputOf reading file marks (stationState station) x y in
       record { answer = answerSaid r; station = after; totals = risen } ≡ metered station totals register weight (o .state) (o .answer)
@@ -38,7 +37,7 @@ pub meter-new-one : {station totals : List ℕ} {register r q : ℕ} {after rise
     (r ≡ q) × (after ≡ also) × (risen ≡ other)
 meter-new-one h g = (h .said ∙ sym (g .said), h .placed ∙ sym (g .placed), h .cleared ∙ sym (g .cleared))
 
-module _ {reading : ℕ} {file marks station : List ℕ} {register x : ℕ} {r q : Answer} where
+module _ {reading : ℕ} {file marks station : List ℕ} {register x : ℕ} {r q : HalfAnswer} where
   pub meter-input-one : MeterInputPromise reading file marks station register x r → MeterInputPromise reading file marks station register x q → r ≡ q
   meter-input-one h g = answer-one r q (h .said ∙ sym (g .said))
 

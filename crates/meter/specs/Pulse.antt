@@ -10,9 +10,10 @@ use lib.Dec.{eqb}
 use lib.Bits.{bitAnd, bitOr}
 use lib.ListN.{length}
 use borrow.Author.Tests.{eqb-true}
-use Rattle.streams.specs.Answer.{none-refused, none-unless}
+use Rattle.streams.specs.AnswerLaws.{none-refused, none-unless}
 use Rattle.policy.specs.File.{policyOf}
-use Rattle.policy.specs.Check.{refusalUnder, under-none, all, among}
+use Rattle.policy.specs.Check.{refusalUnder, all, among}
+use Rattle.policy.specs.CheckLaws.{under-none}
 use Rattle.policy.specs.Checked.{all-at, checked-file}
 use Rattle.resting.specs.Table.{tab}
 use Rattle.resting.specs.Marks.{length-tab, getD-tab}

@@ -4,9 +4,11 @@ use mathlib.Core.Bool.{Bool, true, false, cond, _&&_}
 use mathlib.Core.List.{List}
 use Prim.Native.Nat.{ℕ, zero, suc, _≤_}
 use native.Mathlib.Omega.{arith}
-use Rattle.streams.specs.Answer.{Answer, refused, gives, UpTo, unless-le, else-le}
+use Rattle.streams.specs.Answer.{Answer, refused, gives, UpTo}
+use Rattle.streams.specs.AnswerLaws.{unless-le, else-le}
 use Rattle.policy.specs.File.{policyOf}
-use Rattle.policy.specs.Check.{refusalUnder, under-le, among}
+use Rattle.policy.specs.Check.{refusalUnder, among}
+use Rattle.policy.specs.CheckLaws.{under-le}
 use Rattle.enforcer.specs.Entries.{OutputAnswer, inputOf, outputOf}
 use Rattle.enforcer.specs.Refusals as Half
 use Rattle.bays.specs.Odd.{oddRefusal, odd-some, odd-le}

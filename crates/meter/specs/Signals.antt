@@ -11,7 +11,8 @@ use lib.ListN.{length, take}
 use lib.Seq.{take-all}
 use Rattle.streams.specs.Answer.{_orElse_, unless}
 use Rattle.policy.specs.File.{byteAt, part, policyOf, outputsAt, inputTags, outputTags}
-use Rattle.policy.specs.Check.{refusalUnder, under-none, among}
+use Rattle.policy.specs.Check.{refusalUnder, among}
+use Rattle.policy.specs.CheckLaws.{under-none}
 use Rattle.policy.specs.Checked.{frame, inputs-length, outputs-length}
 use Rattle.meter.specs.Meter.{weightOf}
 use Rattle.meter.specs.Entries.{tagP, tagD, meterRefusal, weightP, weightD}

@@ -7,13 +7,13 @@ use Prim.Native.Nat.{ℕ, zero, suc, _+_, _-_, _*_, _/_, _%_, _≤_, _<_}
 use native.Mathlib.Omega.{arith}
 use lib.ListN.{length, getD}
 use Rattle.streams.specs.Answer.{Answer, refused, gives, unless}
-use Rattle.policy.specs.Rules.{Place}
 use Rattle.enforcer.specs.Entries.{OutputAnswer, outputOf}
-use Rattle.enforcer.specs.Code.{asPlace, startState}
+use Rattle.enforcer.specs.Code.{startState}
 use Rattle.bays.specs.Halves.{output-four}
 use Rattle.bays.specs.Odd.{oddRefusal}
 use Rattle.meter.specs.Meter.{isStation, areTotals, stationState, lastReading, stationWords, billed, unbilled, pulsesOf, isOn, risen, fits}
 use Rattle.meter.specs.Entries.{MeterAnswer, kept, settled, metered, past, meterRefusal, weightD, newRefusal, newStation, newTotals, meterOutputOf}
+use Rattle.enforcer.specs.declared.state.State.{State}
 
 -- "so 65,530 followed by 4 is 10 pulses"
 pub over-the-top : pulsesOf 4 65530 ≡ 10
@@ -31,14 +31,14 @@ unfolding pulsesOf
 advance-round c k = omega arith
 
 -- What the second half can do: it refuses and all stays, or the state goes on, the register is the last reading, and the pulses go into a total.
-pub data Turned (station totals : List ℕ) (register : ℕ) : MeterAnswer → Type 0 where
-  stays : {n : ℕ} → Turned station totals register (kept station totals n)
-  moves : {y : ℕ} (on : Bool) (s : Place) → length (s .clocks) ≡ 4 → fits totals on (pulsesOf register (lastReading station)) ≡ true →
-      Turned station totals register
+pub data MeterTurned (station totals : List ℕ) (register : ℕ) : MeterAnswer → Type 0 where
+  stays : {n : ℕ} → MeterTurned station totals register (kept station totals n)
+  moves : {y : ℕ} (on : Bool) (s : State) → length (s .clocks) ≡ 4 → fits totals on (pulsesOf register (lastReading station)) ≡ true →
+      MeterTurned station totals register
       (record { answer = gives y; station = stationWords s register; totals = risen totals on (pulsesOf register (lastReading station)) })
 
 module _ (reading : ℕ) (file marks station totals : List ℕ) (register x y : ℕ) where
-  pub turned : Turned station totals register (meterOutputOf reading file marks station totals register x y)
+  pub turned : MeterTurned station totals register (meterOutputOf reading file marks station totals register x y)
   unfolding meterOutputOf settled
   turned = first (meterRefusal reading file)
     where
@@ -46,25 +46,25 @@ module _ (reading : ℕ) (file marks station totals : List ℕ) (register x y : 
       o = outputOf reading file marks (stationState station) x y
 
       last : (on : Bool) (z : ℕ) (t : Bool) → fits totals on (pulsesOf register (lastReading station)) ≡ t →
-          Turned station totals register
+          MeterTurned station totals register
           (cond t
           (record { answer = gives z; station = stationWords (o .state) register; totals = risen totals on (pulsesOf register (lastReading station)) })
           (kept station totals 27))
       last on z true e = moves on (o .state) (output-four reading file marks (stationState station) x y refl) e
       last on z false e = stays
 
-      third : (a : Answer ℕ) → Turned station totals register (metered station totals register (weightD reading file) (o .state) a)
+      third : (a : Answer ℕ) → MeterTurned station totals register (metered station totals register (weightD reading file) (o .state) a)
       third (refused n) = stays
       third (gives z) = last (isOn (weightD reading file) z) z (fits totals (isOn (weightD reading file) z) (pulsesOf register (lastReading station))) refl
 
       second : (t : Bool) →
-          Turned station totals register
+          MeterTurned station totals register
           (cond t (metered station totals register (weightD reading file) (o .state) (o .answer)) (kept station totals (oddRefusal reading file marks (areTotals totals))))
       second true = third (o .answer)
       second false = stays
 
       first : (n : ℕ) →
-          Turned station totals register
+          MeterTurned station totals register
           (past n (kept station totals)
           (cond (isStation station && areTotals totals)
           (metered station totals register (weightD reading file) (o .state) (o .answer)) (kept station totals (oddRefusal reading file marks (areTotals totals)))))
@@ -72,7 +72,7 @@ module _ (reading : ℕ) (file marks station totals : List ℕ) (register x y : 
       first (suc n) = stays
 
 -- "A refused tick changes no total, last reading or state."
-turned-stays : {station totals : List ℕ} {register n : ℕ} (a : MeterAnswer) → Turned station totals register a → a .answer ≡ refused n →
+turned-stays : {station totals : List ℕ} {register n : ℕ} (a : MeterAnswer) → MeterTurned station totals register a → a .answer ≡ refused n →
     (a .station ≡ station) × (a .totals ≡ totals)
 turned-stays _ stays e = (refl, refl)
 turned-stays _ (moves on s f h) e = let z : _≡_ {A = ℕ} 0 1 = cc in absurd (omega arith)
@@ -115,7 +115,7 @@ pub record OneTick (totals : List ℕ) (c k : ℕ) (a : MeterAnswer) : Type 0 wh
   pub whole : FewerOne (a .answer) c k → both (a .totals) + c ≡ both totals + reached (a .answer) c k
   pub round : (both (a .totals) + c) % 65536 ≡ (both totals + reached (a .answer) c k) % 65536
 
-one-tick : (station totals : List ℕ) (c k : ℕ) (a : MeterAnswer) → Turned station totals (k % 65536) a → lastReading station ≡ c % 65536 → OneTick totals c k a
+one-tick : (station totals : List ℕ) (c k : ℕ) (a : MeterAnswer) → MeterTurned station totals (k % 65536) a → lastReading station ≡ c % 65536 → OneTick totals c k a
 one-tick station totals c k _ stays e = record { last = e; whole = λ _. refl; round = refl }
 one-tick station totals c k _ (moves on s f h) e =
     let n = pulsesOf (k % 65536) (lastReading station) in
@@ -132,7 +132,7 @@ unfolding risen
 risen-more totals true n = (omega arith, omega arith)
 risen-more totals false n = (omega arith, omega arith)
 
-no-fall : {station totals : List ℕ} {register : ℕ} (a : MeterAnswer) → Turned station totals register a →
+no-fall : {station totals : List ℕ} {register : ℕ} (a : MeterAnswer) → MeterTurned station totals register a →
     (billed totals ≤ billed (a .totals)) × (unbilled totals ≤ unbilled (a .totals))
 no-fall _ stays = (omega arith, omega arith)
 no-fall {station} {totals} {register} _ (moves on s f h) = risen-more totals on (pulsesOf register (lastReading station))
@@ -170,7 +170,7 @@ module _ (station totals : List ℕ) (granted : newRefusal station totals ≡ 0)
   fresh-both = rw good
 
   -- and the state is the start.
-  pub new-state : stationState (newStation station totals c) ≡ asPlace startState
+  pub new-state : stationState (newStation station totals c) ≡ startState
   unfolding newStation
   new-state = rw good
 

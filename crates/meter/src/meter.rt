@@ -12,7 +12,7 @@ use crate::station::pulses;
 use crate::station::put_station;
 use crate::station::station_state;
 use bays::five::odd_refusal;
-use enforcer::Answer;
+use enforcer::HalfAnswer;
 use enforcer::State;
 use enforcer::input_half;
 ghost use mathlib.Core.Path.{_≡_};
@@ -41,18 +41,18 @@ pub fn meter_input(
     station: &[u16],
     register: u16,
     x: u8,
-) -> Answer
+) -> HalfAnswer
     ensures { λ r. ⌜ MeterInputPromise reading (now (file .entry)) (now (marks .entry)) (now (station .entry)) register x r ⌝ }
 {
     let signals = signals_of(file);
     if signals.pulse == 0 {
-        return Answer::Refused(no_signals(reading, file));
+        return HalfAnswer::Refused(no_signals(reading, file));
     }
     if signals.dispense == 0 {
-        return Answer::Refused(no_signals(reading, file));
+        return HalfAnswer::Refused(no_signals(reading, file));
     }
     if station.len() != STATION {
-        return Answer::Refused(odd_refusal(reading, file, marks, true));
+        return HalfAnswer::Refused(odd_refusal(reading, file, marks, true));
     }
     let n = pulses(register, station[LAST]);
     let z = with_pulse(x, signals.pulse, n);
@@ -67,17 +67,17 @@ fn settle(
     register: u16,
     billed: bool,
     y: u8,
-) -> Answer
+) -> HalfAnswer
     requires { ⌜ (length (now station) ≡ 6) × (length (now totals) ≡ 2) ⌝ }
     ensures { λ r. ⌜ SettledPromise (now (station .entry)) (now (totals .entry)) next register billed y r (now (station .exit)) (now (totals .exit)) ⌝ }
 {
     let n = pulses(register, station[LAST]);
     if !has_room(totals, billed, n) {
-        return Answer::Refused(27);
+        return HalfAnswer::Refused(27);
     }
     put_station(station, next, register);
     add_pulses(totals, billed, n);
-    Answer::Value(y)
+    HalfAnswer::Value(y)
 }
 
 // The output half of a station with a meter, past 26, 14 and numbers that are not six. D has this weight in an output.
@@ -91,7 +91,7 @@ fn release(
     x: u8,
     y: u8,
     weight: u8,
-) -> Answer
+) -> HalfAnswer
     requires { ⌜ (length (now station) ≡ 6) × (length (now totals) ≡ 2) ⌝ }
     ensures { λ r. ⌜ ReleasePromise reading (now (file .entry)) (now (marks .entry)) (now (station .entry)) (now (totals .entry)) register x y weight r (now (station .exit)) (now (totals .exit)) ⌝ }
 {
@@ -100,11 +100,11 @@ fn release(
     let next = output.state;
     let answer = output.answer;
     match answer {
-        Answer::Value(z) => {
+        HalfAnswer::Value(z) => {
             let billed = z & weight != 0;
             settle(station, totals, next, register, billed, z)
         }
-        Answer::Refused(n) => Answer::Refused(n),
+        HalfAnswer::Refused(n) => HalfAnswer::Refused(n),
     }
 }
 
@@ -117,21 +117,21 @@ pub fn meter_output(
     register: u16,
     x: u8,
     y: u8,
-) -> Answer
+) -> HalfAnswer
     ensures { λ r. ⌜ MeterOutputPromise reading (now (file .entry)) (now (marks .entry)) (now (station .entry)) (now (totals .entry)) register x y r (now (station .exit)) (now (totals .exit)) ⌝ }
 {
     let signals = signals_of(file);
     if signals.pulse == 0 {
-        return Answer::Refused(no_signals(reading, file));
+        return HalfAnswer::Refused(no_signals(reading, file));
     }
     if signals.dispense == 0 {
-        return Answer::Refused(no_signals(reading, file));
+        return HalfAnswer::Refused(no_signals(reading, file));
     }
     if totals.len() != TOTALS {
-        return Answer::Refused(odd_refusal(reading, file, marks, false));
+        return HalfAnswer::Refused(odd_refusal(reading, file, marks, false));
     }
     if station.len() != STATION {
-        return Answer::Refused(odd_refusal(reading, file, marks, true));
+        return HalfAnswer::Refused(odd_refusal(reading, file, marks, true));
     }
     release(
         reading,

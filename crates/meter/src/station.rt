@@ -9,7 +9,6 @@ ghost use mathlib.Core.List.{[], _∷_};
 ghost use Prim.Native.Nat.{_+_};
 ghost use lib.Dec.{leb};
 ghost use lib.ListN.{length};
-ghost use Rattle.enforcer.specs.Code.{asPlace};
 ghost use Rattle.meter.specs.Meter.{stationState, stationWords, pulsesOf, fits, risen};
 
 // Where the last register stands: after the state.
@@ -24,14 +23,14 @@ const MOST: u32 = 4294967295;
 
 pub(crate) fn station_state(station: &[u16]) -> State
     requires { ⌜ length (now station) ≡ 6 ⌝ }
-    ensures { λ r. ⌜ asPlace r ≡ stationState (now (station .entry)) ⌝ }
+    ensures { λ r. ⌜ r ≡ stationState (now (station .entry)) ⌝ }
 {
     state_of(&station[..NUMBERS])
 }
 
 pub(crate) fn put_station(station: &mut [u16], next: State, register: u16)
     requires { ⌜ length (now station) ≡ 6 ⌝ }
-    ensures { λ _. ⌜ now (station .exit) ≡ stationWords (asPlace next) register ⌝ }
+    ensures { λ _. ⌜ now (station .exit) ≡ stationWords next register ⌝ }
 {
     station[LAST] = register;
     put_state(&mut station[..NUMBERS], next);

@@ -7,13 +7,15 @@ use lib.Dec.{leb}
 use lib.ListN.{length, getD}
 use lib.Seq.{getD-take}
 use borrow.Author.Tests.{le-leb, lt-leb}
-use Rattle.streams.specs.Answer.{_orElse_, unless, first-refused, next-refused}
+use Rattle.streams.specs.Answer.{_orElse_, unless}
+use Rattle.streams.specs.AnswerLaws.{first-refused, next-refused}
 use Rattle.policy.specs.File.{byteAt, pairAt, pairsFrom, ruleSize, outputsAt, outputCount, clocksAt, clockCount, locationsAt, locationCount}
 use Rattle.policy.specs.File.{rulesAt, rulesStart, rulesEnd, ceilingsOf}
 use Rattle.policy.specs.Check.{inputsRefusal, outputsRefusal, clocksRefusal, locationsRefusal, rulesSectionRefusal, refusalOf}
 use Rattle.policy.specs.Number.{four, statesOf}
 use Rattle.policy.specs.Numbered.{states-take}
-use Rattle.policy.specs.Layout.{layoutOf, noLayout, ShapeOf, CheckPromise, checked-passed, checked-refused}
+use Rattle.policy.specs.Layout.{layoutOf, noLayout, CheckPromise}
+use Rattle.policy.specs.LayoutLaws.{ShapeOf, checked-passed, checked-refused}
 use Rattle.policy.specs.declared.Layout.{Layout}
 use Rattle.policy.specs.declared.Checked.{Checked}
 use Rattle.policy.specs.declared.rules.Shape.{Shape}

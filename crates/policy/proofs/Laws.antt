@@ -8,7 +8,7 @@ use native.Mathlib.Omega.{arith}
 use lib.Dec.{eqb}
 use lib.ListN.{length, getD, take, drop, set, replicate, length-append, drop-of-length-le}
 use lib.Seq.{take-suc, drop-cons, set-at}
-use Rattle.streams.specs.Answer.{none-unless}
+use Rattle.streams.specs.AnswerLaws.{none-unless}
 use Rattle.policy.specs.File.{pairAt, pairsFrom, inputCount, outputsAt, outputCount, clocksAt, clockCount, locationsAt, locationCount}
 use Rattle.policy.specs.File.{ceilingsOf}
 use Rattle.policy.specs.Check.{all, among, tagsGood, isCapital, inputsRefusal, outputsRefusal, clocksRefusal, locationsRefusal}

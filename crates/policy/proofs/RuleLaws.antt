@@ -14,7 +14,7 @@ use Rattle.streams.specs.Answer.{_orElse_}
 use Rattle.policy.specs.Rules.{Bound}
 use Rattle.policy.specs.File.{byteAt, pairAt, boundsFrom, ruleSize, ruleFrom, rulesFrom}
 use Rattle.policy.specs.File.{inputCount, outputCount, clocksAt, clockCount, locationCount, rulesAt, rulesStart, ceilingsOf, rulesOf}
-use Rattle.policy.specs.Layout.{ShapeOf}
+use Rattle.policy.specs.LayoutLaws.{ShapeOf}
 use Rattle.policy.specs.declared.rules.Shape.{Shape}
 use Rattle.policy.specs.Check.{boundGood, boundsGood, ruleRefusal, rulesRefusal}
 use Rattle.policy.specs.Checked.{pairs-length}

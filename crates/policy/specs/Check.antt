@@ -1,16 +1,12 @@
 -- The check of a policy file: refusals 1 to 9, "the file from left to right (for a section: count, limit, length, contents; each rule 6 before 7), then
 -- 8, 9". A refusal of 0 is none.
-use mathlib.Core.Path.{_≡_, refl}
 use mathlib.Core.Bool.{Bool, true, false, not, _&&_, _||_}
 use mathlib.Core.List.{List, [], _∷_, _++_}
-use mathlib.Core.Logic.{_⊎_, _↔_, ⊎-elim}
-use Prim.Native.Nat.{ℕ, zero, suc, _+_, _*_, _^_, _≤_, _<_, zero-le}
-use native.Mathlib.Omega.{arith}
+use Prim.Native.Nat.{ℕ, _+_, _*_, _^_}
 use lib.Dec.{leb, ltb, eqb}
 use lib.Bits.{bitAnd}
-use borrow.Author.Tests.{ne-eqb}
 use lib.ListN.{length}
-use Rattle.streams.specs.Answer.{_orElse_, unless, none-refused, unless-le, else-le}
+use Rattle.streams.specs.Answer.{_orElse_, unless}
 use Rattle.policy.specs.Rules.{Bound, Rule}
 use Rattle.policy.specs.File
 use Rattle.policy.specs.Number.{statesOf}
@@ -110,52 +106,10 @@ module _ (f : List ℕ) where
       orElse unless (leb (length f) (File.rulesEnd f)) 8
       orElse unless (leb (statesOf (File.ceilingsOf f) (File.clockCount f) (File.locationCount f)) 65536) 9
 
--- The check refuses by 1 to 9 alone.
-section-le : (f : List ℕ) (at width n low high size : ℕ) → sectionRefusal f at width n low high size ≤ 9
-unfolding sectionRefusal
-section-le f at width n low high size = search (else-le, unless-le)
-
-rule-le : (inputs outputs : ℕ) (cs : List ℕ) (locations before : ℕ) (r : Rule) → ruleRefusal inputs outputs cs locations before r ≤ 9
-unfolding ruleRefusal
-rule-le inputs outputs cs locations before r = search (else-le, unless-le)
-
-rules-le : (inputs outputs : ℕ) (cs : List ℕ) (locations before : ℕ) (rs : List Rule) → rulesRefusal inputs outputs cs locations before rs ≤ 9
-unfolding rulesRefusal
-rules-le inputs outputs cs locations before [] = zero-le
-rules-le inputs outputs cs locations before (r ∷ rs) =
-    else-le (rule-le inputs outputs cs locations before r) (rules-le inputs outputs cs locations (r .source) rs)
-
-module _ (f : List ℕ) where
-  pub refusal-le : refusalOf f ≤ 9
-  unfolding refusalOf inputsRefusal outputsRefusal clocksRefusal locationsRefusal rulesSectionRefusal
-  refusal-le = search (else-le, unless-le, section-le, rules-le) depth 9
-
 -- "Callers name reading 1 or 2." "22 for any other number, before all else."
 unfoldable pub readingRefusal : ℕ → ℕ
 readingRefusal reading = unless (eqb reading 1 || eqb reading 2) 22
 
-pub a-reading : (reading : ℕ) → 1 ≤ reading → reading ≤ 2 → readingRefusal reading ≡ 0
-unfolding readingRefusal
-a-reading zero l u = absurd (omega arith)
-a-reading (suc zero) l u = refl
-a-reading (suc (suc zero)) l u = refl
-a-reading (suc (suc (suc n))) l u = absurd (omega arith)
-
-pub no-reading : (reading : ℕ) → (reading < 1) ⊎ (2 < reading) → readingRefusal reading ≡ 22
-unfolding readingRefusal
-no-reading zero h = refl
-no-reading (suc zero) h = absurd (⊎-elim (λ l. omega arith) (λ l. omega arith) h)
-no-reading (suc (suc zero)) h = absurd (⊎-elim (λ l. omega arith) (λ l. omega arith) h)
-no-reading (suc (suc (suc n))) h = rw (ne-eqb (suc (suc (suc n))) 1 (λ e. omega arith), ne-eqb (suc (suc (suc n))) 2 (λ e. omega arith))
-
 -- The refusal of a file that is read under a reading.
 unfoldable pub refusalUnder : ℕ → List ℕ → ℕ
 refusalUnder reading f = readingRefusal reading orElse refusalOf f
-
-pub under-none : (reading : ℕ) (f : List ℕ) → (refusalUnder reading f ≡ 0) ↔ ((readingRefusal reading ≡ 0) × (refusalOf f ≡ 0))
-unfolding refusalUnder
-under-none reading f = none-refused (readingRefusal reading) (refusalOf f)
-
-pub under-le : (reading : ℕ) (f : List ℕ) → refusalUnder reading f ≤ 22
-unfolding refusalUnder readingRefusal
-under-le reading f = let h : refusalOf f ≤ 22 = omega (arith, refusal-le f) in else-le (unless-le (eqb reading 1 || eqb reading 2) 22 22 refl) h

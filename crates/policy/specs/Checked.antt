@@ -10,9 +10,10 @@ use lib.Dec.{leb, ltb}
 use lib.Bits.{bitAnd}
 use lib.ListN.{length, getD, length-take, length-drop}
 use borrow.Author.Tests.{leb-true, ltb-true, eqb-true}
-use Rattle.streams.specs.Answer.{_orElse_, unless, none-refused, none-unless}
+use Rattle.streams.specs.Answer.{_orElse_, unless}
+use Rattle.streams.specs.AnswerLaws.{none-refused, none-unless}
 use Rattle.policy.specs.Rules.{Bound, Rule, Policy}
-use Rattle.policy.specs.Stopped.{Lawful, AllLawful, lawful-none, lawful-more, Checked, checked-none, checked-more}
+use Rattle.policy.specs.Stopped.{Lawful, AllLawful, lawful-none, lawful-more, LawfulRules, checked-none, checked-more}
 use Rattle.policy.specs.Number.{statesOf}
 use Rattle.policy.specs.File.{part, pairsFrom, boundsFrom, rulesFrom, ruleSize, inputCount, outputsAt, outputCount, clocksAt, clockCount, locationsAt, locationCount, rulesAt, ruleCount, rulesStart, rulesEnd, inputTags, outputTags, ceilingsOf, locationBytes, ruleSection, rulesOf, policyOf}
 use Rattle.policy.specs.Check.{all, sectionRefusal, tagsGood, ceilingGood, locationGood, maskGood, headGood, boundGood, boundsGood, ruleRefusal, rulesRefusal, inputsRefusal, outputsRefusal, clocksRefusal, locationsRefusal, rulesSectionRefusal, refusalOf}
@@ -277,7 +278,7 @@ module _ (inputs outputs : ℕ) (cs : List ℕ) (locations : ℕ) where
       let t = rules-good (r .source) rs (k .1) in
       (rising-more (h .0) (t .0), each-more (h .1) (t .1))
 
-  each-checked : {rs : List Rule} → Each (Ruled inputs outputs cs locations) rs → Checked cs rs
+  each-checked : {rs : List Rule} → Each (Ruled inputs outputs cs locations) rs → LawfulRules cs rs
   each-checked each-none = checked-none
   each-checked (each-more g h) = checked-more (g .lawful) (each-checked h)
 
@@ -294,7 +295,7 @@ module _ (p : Policy) (k : WellFormed p) where
   pub well-sound : Sound p
   well-sound = record { start = k .start; rules = each-weak (λ r g. g .formed) well-ruled }
 
-  pub well-checked : Checked (p .ceilings) (p .rules)
+  pub well-checked : LawfulRules (p .ceilings) (p .rules)
   well-checked = each-checked (length (p .inputs)) (length (p .outputs)) (p .ceilings) (p .locations) well-ruled
 
   pub well-ceiling : (i : ℕ) → i < length (p .ceilings) → (1 ≤ getD (p .ceilings) i 0) × (getD (p .ceilings) i 0 ≤ 1001)

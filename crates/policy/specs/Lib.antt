@@ -1,8 +1,10 @@
 pub mod Rules
+pub mod Stop
 pub mod Stopped
 pub mod Number
 pub mod File
 pub mod Check
+pub mod CheckLaws
 pub mod Sound
 pub mod Numbered
 pub mod Checked
@@ -12,4 +14,7 @@ pub mod Parts
 pub mod Own
 pub mod Bytes
 pub mod ReadBack
+pub mod WrittenBytes
+pub mod WrittenPasses
 pub mod Layout
+pub mod LayoutLaws

@@ -1,29 +1,19 @@
--- The file written from a policy passes the check and reads back as that policy.
+-- The file written from a policy reads back as that policy.
 use mathlib.Core.Path.{_≡_, refl, ap₂, sym, _∙_}
-use mathlib.Core.Bool.{true, and-eq-true-iff}
 use mathlib.Core.List.{List, [], _∷_, _++_, append-assoc, append-nil}
-use mathlib.Core.Logic.{_⊎_, ⊎-elim}
-use Prim.Native.Nat.{ℕ, zero, suc, _+_, _*_, _^_, _≤_, _<_}
-use native.Mathlib.Nat.{div-add-mod', mul-le-mul, pow-le-pow-right}
+use Prim.Native.Nat.{ℕ, _+_, _*_, _≤_}
+use native.Mathlib.Nat.{div-add-mod', mul-le-mul}
 use native.Mathlib.Omega.{arith}
-use lib.Bits.{and-le-r}
-use lib.ListN.{length, getD, drop, length-append}
+use lib.ListN.{length, drop, length-append}
 use lib.Seq.{drop-drop, drop-append-seam, take-append-seam, getD-drop}
-use borrow.Author.Tests.{leb-true, le-leb}
-use Rattle.streams.specs.Answer.{gives}
 use Rattle.policy.specs.Rules.{Bound, Rule, Policy}
-use Rattle.policy.specs.Number.{states}
 use Rattle.policy.specs.File.{byteAt, pairAt, part, pairsFrom, boundsFrom, ruleSize, ruleFrom, rulesFrom}
 use Rattle.policy.specs.File.{inputCount, outputsAt, outputCount, clocksAt, clockCount, locationsAt, locationCount, rulesAt, ruleCount}
 use Rattle.policy.specs.File.{rulesStart, rulesEnd, inputTags, outputTags, ceilingsOf, locationBytes, rulesOf, policyOf}
-use Rattle.policy.specs.Check.{all, tagsGood, ceilingGood, locationGood}
-use Rattle.policy.specs.Check.{sectionRefusal, inputsRefusal, outputsRefusal, clocksRefusal, locationsRefusal, rulesSectionRefusal}
-use Rattle.policy.specs.Check.{refusalOf}
 use Rattle.policy.specs.Parts.{rules-part}
 use Rattle.policy.specs.Bytes.{pairBytes, pairsBytes, boundsBytes, ruleBytes, rulesBytes, countsBytes, bytesOf}
-use Rattle.policy.specs.Stopped.{AllLawful, lawful-none, lawful-more}
 use Rattle.policy.specs.Sound.{WellFormed, Each, each-none, each-more, each-weak}
-use Rattle.policy.specs.Checked.{Ruled, well-ruled}
+use Rattle.policy.specs.Checked.{well-ruled}
 
 -- What is read at a position from which on the file is known.
 module _ (f : List ℕ) where
@@ -257,162 +247,3 @@ module _ (p : Policy) (w : WellFormed p) where
         count-locations p,
         ap₂ (λ (n k : ℕ). n * ruleSize k) count-rules (count-clocks p),
       )
-
-section-passes : (f : List ℕ) (at width n low high size : ℕ) → low ≤ n → n ≤ high → at + width + n * size ≤ length f
-    → sectionRefusal f at width n low high size ≡ 0
-unfolding sectionRefusal
-section-passes f at width n low high size a b c =
-    rw (le-leb (at + width) (length f) (omega arith), le-leb low n a, le-leb n high b, le-leb (at + width + n * size) (length f) c)
-
-module _ (p : Policy) (w : WellFormed p) where
-  inputs-pass : inputsRefusal (bytesOf p) ≡ 0
-  unfolding inputsRefusal rulesEnd rulesStart rulesAt locationsAt clocksAt outputsAt
-  inputs-pass =
-      rw (
-        section-passes (bytesOf p) 0 1 (inputCount (bytesOf p)) 0 4 1 (omega arith) (omega (arith, count-inputs p)) (omega (arith, file-ends p w)),
-        inputs-back p,
-        w .inputTags,
-      )
-
-  outputs-pass : outputsRefusal (bytesOf p) ≡ 0
-  unfolding outputsRefusal rulesEnd rulesStart rulesAt locationsAt clocksAt
-  outputs-pass =
-      rw (
-        section-passes (bytesOf p) (outputsAt (bytesOf p)) 1 (outputCount (bytesOf p)) 0 4 1 (omega arith) (omega (arith, count-outputs p))
-            (omega (arith, file-ends p w)),
-        inputs-back p,
-        outputs-back p,
-        w .outputTags,
-      )
-
-  clocks-pass : clocksRefusal (bytesOf p) ≡ 0
-  unfolding clocksRefusal rulesEnd rulesStart rulesAt locationsAt
-  clocks-pass =
-      rw (
-        section-passes (bytesOf p) (clocksAt (bytesOf p)) 1 (clockCount (bytesOf p)) 0 4 2 (omega arith) (omega (arith, count-clocks p))
-            (omega (arith, file-ends p w)),
-        ceilings-back p,
-        w .ceilings,
-      )
-
-  locations-pass : locationsRefusal (bytesOf p) ≡ 0
-  unfolding locationsRefusal rulesEnd rulesStart rulesAt
-  locations-pass =
-      rw (
-        section-passes (bytesOf p) (locationsAt (bytesOf p)) 1 (locationCount (bytesOf p)) 1 64 1 (omega (arith, count-locations p))
-            (omega (arith, count-locations p)) (omega (arith, file-ends p w)),
-        locations-back p w,
-        w .left,
-      )
-
-  rules-pass : rulesSectionRefusal (bytesOf p) ≡ 0
-  unfolding rulesSectionRefusal rulesEnd rulesStart
-  rules-pass =
-      rw (
-        section-passes (bytesOf p) (rulesAt (bytesOf p)) 2 (ruleCount (bytesOf p)) 0 256 (ruleSize (clockCount (bytesOf p))) (omega arith)
-            (omega (arith, count-rules p w)) (omega (arith, file-ends p w)),
-        rules-back p w,
-        ceilings-back p,
-        count-inputs p,
-        count-outputs p,
-        count-locations p,
-        w .rules,
-      )
-
-  pub written-passes : refusalOf (bytesOf p) ≡ 0
-  unfolding refusalOf
-  written-passes =
-      rw (
-        inputs-pass,
-        outputs-pass,
-        clocks-pass,
-        locations-pass,
-        rules-pass,
-        le-leb (length (bytesOf p)) (rulesEnd (bytesOf p)) (omega (arith, file-ends p w)),
-        ceilings-back p,
-        count-clocks p,
-        count-locations p,
-        le-leb (states p) 65536 (w .states),
-      )
-
--- Each element is a byte.
-abbrev pub AllBytes : List ℕ → Type 0
-AllBytes [] = Unit {0}
-AllBytes (b ∷ bs) = (b < 256) × AllBytes bs
-
-bytes-append : (xs ys : List ℕ) → AllBytes xs → AllBytes ys → AllBytes (xs ++ ys)
-bytes-append [] ys a b = b
-bytes-append (x ∷ xs) ys a b = (a .0, bytes-append xs ys (a .1) b)
-
--- Past the end stands 0.
-bytes-at : (bs : List ℕ) → AllBytes bs → (i : ℕ) → getD bs i 0 < 256
-bytes-at [] a i = omega arith
-bytes-at (b ∷ bs) a zero = a .0
-bytes-at (b ∷ bs) a (suc i) = bytes-at bs (a .1) i
-
-tags-bytes : (before ts : List ℕ) → tagsGood before ts ≡ true → AllBytes ts
-unfolding tagsGood
-tags-bytes before [] e = tt
-tags-bytes before (t ∷ ts) e =
-    let good = simp and-eq-true-iff at e in
-    (omega (arith, leb-true), tags-bytes (before ++ (t ∷ [])) ts (good .1 .1))
-
-ceilings-bytes : (cs : List ℕ) → all ceilingGood cs ≡ true → AllBytes (pairsBytes cs)
-unfolding all pairsBytes
-ceilings-bytes [] e = tt
-ceilings-bytes (c ∷ cs) e =
-    let good = simp and-eq-true-iff at e in
-    (omega (arith, leb-true), (omega arith, ceilings-bytes cs (good .1)))
-
-left-bytes : (bs : List ℕ) → all locationGood bs ≡ true → AllBytes bs
-unfolding all
-left-bytes [] e = tt
-left-bytes (b ∷ bs) e =
-    let good = simp and-eq-true-iff at e in
-    (omega (arith, leb-true), left-bytes bs (good .1))
-
--- A target, or a high: below a limit, or the one number that has a meaning of its own.
-below-or-at : {n limit own : ℕ} → limit ≤ own → (n < limit) ⊎ (n ≡ own) → n ≤ own
-below-or-at h = ⊎-elim (λ l. omega arith) (λ e. omega arith)
-
-bounds-bytes : {cs : List ℕ} {bs : List Bound} → all ceilingGood cs ≡ true → AllLawful cs bs → AllBytes (boundsBytes bs)
-unfolding all boundsBytes
-bounds-bytes e lawful-none = tt
-bounds-bytes e (lawful-more {c = c} {b = b} l ls) =
-    let ceiling = simp and-eq-true-iff at e in
-    let limit : c ≤ 1001 = omega (arith, leb-true) in
-    let high : b .high ≤ 65535 = below-or-at (omega arith) (l .high) in
-    (omega arith, (omega arith, (omega arith, (omega arith, bounds-bytes (ceiling .1) ls))))
-
-rules-bytes : {rs : List Rule} → Each (λ r. AllBytes (ruleBytes r)) rs → AllBytes (rulesBytes rs)
-unfolding rulesBytes
-rules-bytes each-none = tt
-rules-bytes (each-more {r = r} {rs = rs} b bs) = bytes-append (ruleBytes r) (rulesBytes rs) b (rules-bytes bs)
-
--- A mask of at most four signals or clocks.
-mask-small : (n : ℕ) → n ≤ 4 → 2 ^ n ≤ 16
-mask-small n h = pow-le-pow-right (omega arith) h
-
-module _ (p : Policy) (w : WellFormed p) where
-  rule-bytes : (r : Rule) → Ruled (length (p .inputs)) (length (p .outputs)) (p .ceilings) (p .locations) r → AllBytes (ruleBytes r)
-  unfolding ruleBytes
-  rule-bytes r q =
-      let inValue : r .inValue ≤ r .inCare = omega (arith, and-le-r (r .inValue) (r .inCare)) in
-      let outValue : r .outValue ≤ r .outCare = omega (arith, and-le-r (r .outValue) (r .outCare)) in
-      let target = below-or-at (omega arith) (q .formed .target) in
-      let inputs = mask-small _ (w .inputs) in
-      let outputs = mask-small _ (w .outputs) in
-      let clocks = mask-small _ (w .clocks) in
-      (omega arith, (omega arith, (omega arith, (omega arith, (omega arith, (omega arith, (omega arith, bounds-bytes (w .ceilings) (q .lawful))))))))
-
-  pub all-bytes : AllBytes (bytesOf p)
-  all-bytes =
-      let rules = rules-bytes (each-weak rule-bytes (well-ruled p w)) in
-      let locations = bytes-append (p .left) (fromRules p) (left-bytes (p .left) (w .left)) (omega arith, (omega arith, rules)) in
-      let clocks = bytes-append (pairsBytes (p .ceilings)) (fromLocations p) (ceilings-bytes (p .ceilings) (w .ceilings)) (omega arith, locations) in
-      let outputs = bytes-append (p .outputs) (fromClocks p) (tags-bytes (p .inputs) (p .outputs) (w .outputTags)) (omega arith, clocks) in
-      let inputs = bytes-append (p .inputs) (fromOutputs p) (tags-bytes [] (p .inputs) (w .inputTags)) (omega arith, outputs) in
-      rw (at-inputs p) (omega arith, inputs)
-
-  pub bytes-are-bytes : (i : ℕ) → getD (bytesOf p) i 0 < 256
-  bytes-are-bytes = bytes-at (bytesOf p) all-bytes

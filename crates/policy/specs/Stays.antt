@@ -10,9 +10,11 @@ use lib.Dec.{eqb}
 use lib.ListN.{length, getD, take, length-replicate}
 use borrow.Author.Tests.{eqb-false}
 use Rattle.streams.specs.Stream.{Event, Stream, _after_, GoesOn, Ends}
-use Rattle.streams.specs.Laws.{_⊆_, Closed, goes-on, ends}
+use Rattle.streams.specs.Laws.{goes-on, ends}
+use Rattle.streams.specs.Languages.{_⊆_, Closed}
 use Rattle.policy.specs.Rules.{Rule, Policy, Place, start, fires, decides, unlimited, stopped, advance, looked, taken, step, steps, Fits, fits-none, fits-more, rests, Runs, Rests, from, Live, Dead}
-use Rattle.policy.specs.Stopped.{Checked, mins, stop, shown, steps-same, start-stops}
+use Rattle.policy.specs.Stopped.{LawfulRules, steps-same, start-stops}
+use Rattle.policy.specs.Stop.{mins, stop, shown}
 use Rattle.policy.specs.Sound.{Each, each-none, each-more, Formed, Sound, In, Inside}
 
 -- What holds of a decision or of a place, if there is one.
@@ -222,7 +224,7 @@ module _ (p : Policy) where
   shown-some (some s) (some u) k t r =
       (u, refl, ap (λ (z : Place). z .location) (sym (Option·some-injective s t r)) ∙ ap (λ (z : Place). z .location) (Option·some-injective (stop p s) (stop p u) k))
 
-  module _ (ok : Checked (p .ceilings) (p .rules)) where
+  module _ (ok : LawfulRules (p .ceilings) (p .rules)) where
     -- From two places that the stopped clocks show alike the same streams run, and rest.
     module _ (s t : Place) (k : stop p s ≡ stop p t) where
       ends-alike : (w : Stream) (u : Place) → steps unlimited p s w ≡ some u → (v : Place) × (steps unlimited p t w ≡ some v) × (u .location ≡ v .location)

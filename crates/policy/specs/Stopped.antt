@@ -11,6 +11,7 @@ use lib.ListN.{length, replicate}
 use borrow.Author.Tests.{le-leb, lt-leb, eq-eqb, leb-true, leb-false}
 use Rattle.streams.specs.Stream.{Event, Stream}
 use Rattle.policy.specs.Rules.{Bound, Rule, Policy, Place, start, within, hold, fires, decides, unlimited, stopped, advance, tested, looked, taken, step, steps}
+use Rattle.policy.specs.Stop.{mins, shown, stop}
 
 -- The bounds of a checked file: low is at most the ceiling; high is below it, or is no bound.
 pub record Lawful (c : ℕ) (b : Bound) : Type 0 where
@@ -21,9 +22,9 @@ pub data AllLawful : List ℕ → List Bound → Type 0 where
   lawful-none : AllLawful [] []
   lawful-more : {c : ℕ} {cs : List ℕ} {b : Bound} {bs : List Bound} → Lawful c b → AllLawful cs bs → AllLawful (c ∷ cs) (b ∷ bs)
 
-pub data Checked (cs : List ℕ) : List Rule → Type 0 where
-  checked-none : Checked cs []
-  checked-more : {r : Rule} {rs : List Rule} → AllLawful cs (r .bounds) → Checked cs rs → Checked cs (r ∷ rs)
+pub data LawfulRules (cs : List ℕ) : List Rule → Type 0 where
+  checked-none : LawfulRules cs []
+  checked-more : {r : Rule} {rs : List Rule} → AllLawful cs (r .bounds) → LawfulRules cs rs → LawfulRules cs (r ∷ rs)
 
 above : (a v c : ℕ) → a ≤ c → leb a (min v c) ≡ leb a v
 above a v c h = go (leb a v) refl
@@ -52,12 +53,6 @@ within-same c v b l =
     way (_⊎_.inl h) = _⊎_.inr (below (b .high) v c h)
     way (_⊎_.inr e) = _⊎_.inl (eq-eqb _ _ e)
 
--- Each clock no further than its ceiling.
-unfoldable pub mins : List ℕ → List ℕ → List ℕ
-mins [] vs = []
-mins (c ∷ cs) [] = []
-mins (c ∷ cs) (v ∷ vs) = min v c ∷ mins cs vs
-
 pub hold-same : {cs : List ℕ} {bs : List Bound} → AllLawful cs bs → (vs : List ℕ) → hold bs (mins cs vs) ≡ hold bs vs
 unfolding hold mins
 hold-same lawful-none vs = refl
@@ -77,16 +72,8 @@ advance-same mask (c ∷ cs) (v ∷ vs) =
     ap (λ (z : ℕ). z ∷ advance stopped (mask / 2) cs (mins cs vs)) (one-same (eqb (mask % 2) 1) c v)
     ∙ ap (λ (z : List ℕ). min (cond (eqb (mask % 2) 1) 0 (suc v)) c ∷ z) (advance-same (mask / 2) cs vs)
 
--- The place that the stopped clocks show.
-abbrev pub stop : Policy → Place → Place
-stop p s = record { location = s .location; clocks = mins (p .ceilings) (s .clocks) }
-
-unfoldable pub shown : Policy → Option Place → Option Place
-shown p none = none
-shown p (some s) = some (stop p s)
-
 module _ (p : Policy) where
-  decides-same : {rs : List Rule} → Checked (p .ceilings) rs → (s : Place) (e : Event) → decides rs (stop p s) e ≡ decides rs s e
+  decides-same : {rs : List Rule} → LawfulRules (p .ceilings) rs → (s : Place) (e : Event) → decides rs (stop p s) e ≡ decides rs s e
   unfolding decides fires
   decides-same checked-none s e = refl
   decides-same (checked-more {r = r} {rs = rs} l ls) s e = rw (hold-same l (s .clocks), decides-same ls s e)
@@ -102,7 +89,7 @@ module _ (p : Policy) where
       go true = advance-same 0 (p .ceilings) vs
       go false = refl
 
-  looked-same : Checked (p .ceilings) (p .rules) → (s : Place) (e : Event) →
+  looked-same : LawfulRules (p .ceilings) (p .rules) → (s : Place) (e : Event) →
       decides (p .rules) (looked stopped p (stop p s)) e ≡ decides (p .rules) (looked unlimited p s) e
   looked-same ok s e = rw (tested-same (s .clocks)) (decides-same ok (looked unlimited p s) e)
 
@@ -117,7 +104,7 @@ module _ (p : Policy) where
       go false = ap (λ (z : List ℕ). some (record { location = r .target; clocks = z })) (advance-same (r .reset) (p .ceilings) (s .clocks))
 
   -- One tick with stopped clocks shows what one tick without limit shows.
-  pub step-same : Checked (p .ceilings) (p .rules) → (s : Place) (e : Event) → step stopped p (stop p s) e ≡ shown p (step unlimited p s e)
+  pub step-same : LawfulRules (p .ceilings) (p .rules) → (s : Place) (e : Event) → step stopped p (stop p s) e ≡ shown p (step unlimited p s e)
   unfolding step bind shown
   step-same ok s e = rw (looked-same ok s e) (go (decides (p .rules) (looked unlimited p s) e))
     where
@@ -125,7 +112,7 @@ module _ (p : Policy) where
       go none = refl
       go (some r) = taken-same s r
 
-  pub steps-same : Checked (p .ceilings) (p .rules) → (s : Place) (es : Stream) → steps stopped p (stop p s) es ≡ shown p (steps unlimited p s es)
+  pub steps-same : LawfulRules (p .ceilings) (p .rules) → (s : Place) (es : Stream) → steps stopped p (stop p s) es ≡ shown p (steps unlimited p s es)
   unfolding steps shown bind
   steps-same ok s [] = refl
   steps-same ok s (e ∷ es) = rw (step-same ok s e) (go (λ t. steps-same ok t es) (step unlimited p s e))

@@ -10,7 +10,7 @@ ghost use Prim.Native.Nat.{_+_, _*_, _≤_, _<_, _^_};
 ghost use lib.ListN.{length, take};
 ghost use Rattle.policy.specs.File.{ruleSize, ruleFrom, rulesFrom, boundsFrom, rulesAt};
 ghost use Rattle.policy.specs.Check.{maskGood, headGood, boundsGood, ruleRefusal, rulesRefusal, rulesSectionRefusal};
-ghost use Rattle.policy.specs.Layout.{Shaped, ShapeOf};
+ghost use Rattle.policy.specs.LayoutLaws.{Shaped, ShapeOf};
 
 // How much the sections before the rules hold.
 pub struct Shape {

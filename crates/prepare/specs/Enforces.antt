@@ -6,52 +6,33 @@ use mathlib.Core.Logic.{_↔_, Iff·trans}
 use mathlib.Core.Option.{none, some, bind, Option·some-injective}
 use Prim.Native.Nat.{ℕ, _<_}
 use lib.Dec.{eqb}
-use lib.ListN.{length, List·getD-append}
+use lib.ListN.{List·getD-append}
 use borrow.Author.Tests.{eqb-true, eq-eqb}
 use Rattle.streams.specs.Stream.{Event, Stream, GoesOn}
 use Rattle.streams.specs.Order.{Nearest}
 use Rattle.streams.specs.Corrections.{corrections}
-use Rattle.streams.specs.Choose.{any-has, any-from, Among, nearest-may, nearest-some}
+use Rattle.streams.specs.Choose.{Among}
+use Rattle.streams.specs.ChooseLaws.{any-has, any-from, nearest-may, nearest-some}
 use Rattle.streams.specs.Enforced.{then, MayOut, MayIn, Enforced, done}
 use Rattle.streams.specs.Enforced
 use Rattle.streams.specs.Laws.{permitted}
-use Rattle.policy.specs.Rules.{Policy, Place, start, unlimited, stopped, step, steps, inputValues, outputValues, FitsOne, Fits, fits-none, fits-more, Permits}
-use Rattle.policy.specs.Stopped.{stop, shown, step-same, start-stops}
-use Rattle.policy.specs.Number.{states, numberOf}
+use Rattle.policy.specs.Rules.{Policy, Place, start, stopped, step, steps, inputValues, outputValues, FitsOne, fits-none, fits-more, Permits}
+use Rattle.policy.specs.Stopped.{step-same, start-stops}
+use Rattle.policy.specs.Stop.{stop, shown}
+use Rattle.policy.specs.Number.{numberOf}
 use Rattle.policy.specs.Sound.{WellFormed, Sound, Inside}
 use Rattle.policy.specs.Numbered.{numberOf-below}
 use Rattle.policy.specs.Stays.{of-some, step-inside, steps-append, stop-inside, fits-append, runs-append, closed}
 use Rattle.policy.specs.Checked.{well-sound, well-checked}
 use Rattle.enforcer.specs.State.{isMarked}
-use Rattle.enforcer.specs.Tick.{Tick, Ran, arrives, reaches, mayStand, inputChoice, outputChoice, moved, outputTick, tick, ran}
-pub use Rattle.enforcer.specs.Ticks.{Ticked, ticked, input-stands, output-stands, ran-on}
+use Rattle.enforcer.specs.Tick.{ReleasedTick, Progress, arrives, reaches, mayStand, inputChoice, outputChoice, moved, outputTick, tick, ran}
+pub use Rattle.enforcer.specs.Ticks.{TickedBy, ticked, input-stands, output-stands, ran-on}
 use Rattle.prepare.specs.Table.{marksOf}
 use Rattle.prepare.specs.Live.{arrived, onward, markOf, marks-length, marks-onward, runs-more, unlimited-step, after-in, goes-on-marked}
+use Rattle.prepare.specs.Enforcing.{Enforces, Leads, AsPrepared, MarkedPlace, ins, outs}
 
--- How many signals there are.
-abbrev ins : Policy → ℕ
-ins p = length (p .inputs)
-
-abbrev outs : Policy → ℕ
-outs p = length (p .outputs)
-
--- What is released for es after w, by the permitted streams of p.
-abbrev pub EnforcedBy : Policy → Stream → List Event → List Event → Type 0
-EnforcedBy p = Enforced corrections (Permits p) (ins p) (outs p)
-
--- The marks of prepare. Past them anything may stand.
-abbrev pub Prepared : Policy → List ℕ → Type 0
-Prepared p marks = (n : ℕ) → n < states p → isMarked marks n ≡ isMarked (marksOf p) n
-
-pub prepared-front : (p : Policy) (rest : List ℕ) → Prepared p (marksOf p ++ rest)
+pub prepared-front : (p : Policy) (rest : List ℕ) → AsPrepared p (marksOf p ++ rest)
 prepared-front p rest n h = ap (λ (m : ℕ). eqb m 1) (List·getD-append (marksOf p) rest 0 n (rw marks-length h))
-
--- The permitted stream w leads, over clocks without limit, to a place that the stopped clocks show as s.
-pub record Leads (p : Policy) (w : Stream) (s : Place) : Type 0 where
-  pub fits : Fits p w
-  pub place : Place
-  pub leads : steps unlimited p (start p) w ≡ some place
-  pub shows : stop p place ≡ s
 
 pub leads-start : (p : Policy) → Leads p [] (start p)
 unfolding steps
@@ -85,19 +66,19 @@ module _ (p : Policy) (ok : WellFormed p) {w : Stream} {s : Place} (h : Leads p 
 
 -- Whatever the marks are.
 module _ (p : Policy) (marks : List ℕ) (s : Place) where
-  pub output-ticked : (e : Event) (r : Tick) → Ticked p marks s e r → outputTick p marks s (r .event .x) (e .y) ≡ some r
+  pub output-ticked : (e : Event) (r : ReleasedTick) → TickedBy p marks s e r → outputTick p marks s (r .event .x) (e .y) ≡ some r
   unfolding outputTick moved bind
   output-ticked e r t = rw (t .output, t .moves)
 
   -- An input that may stand has an output for every answer of the controller.
-  pub output-found : (x y : ℕ) → mayStand p marks s x ≡ true → (r : Tick) × (outputTick p marks s x y ≡ some r)
+  pub output-found : (x y : ℕ) → mayStand p marks s x ≡ true → (r : ReleasedTick) × (outputTick p marks s x y ≡ some r)
   unfolding mayStand outputTick moved outputChoice bind
   output-found x y h =
       let z = nearest-some (reaches p marks s x) y (outputValues p) h in
       let t = arrived p marks s x (z .0) (output-stands p marks s x y (z .0) (z .1) .1) in
       (record { event = record { x = x; y = z .0 }; place = t .0 }, rw (z .1, t .1))
 
-  pub tick-found : (e : Event) (x : ℕ) → inputChoice p marks s (e .x) ≡ some x → (r : Tick) × (tick p marks s e ≡ some r)
+  pub tick-found : (e : Event) (x : ℕ) → inputChoice p marks s (e .x) ≡ some x → (r : ReleasedTick) × (tick p marks s e ≡ some r)
   unfolding tick bind
   tick-found e x h = let r = output-found x (e .y) (input-stands p marks s (e .x) x h .1) in (r .0, rw (h, r .1))
 
@@ -105,13 +86,8 @@ module _ (p : Policy) (marks : List ℕ) (s : Place) where
   unfolding ran tick bind
   ran-stuck e es h = rw (h, ran)
 
--- A place of the policy that is marked: what the halves and the run do not refuse by 16.
-pub record Ready (p : Policy) (marks : List ℕ) (s : Place) : Type 0 where
-  pub inside : Inside p s
-  pub marked : isMarked marks (numberOf p s) ≡ true
-
 pub ticked-ready :
-    (p : Policy) (marks : List ℕ) (s : Place) (e : Event) (r : Tick) → Sound p → Inside p s → Ticked p marks s e r → Ready p marks (r .place)
+    (p : Policy) (marks : List ℕ) (s : Place) (e : Event) (r : ReleasedTick) → Sound p → Inside p s → TickedBy p marks s e r → MarkedPlace p marks (r .place)
 unfolding reaches
 ticked-ready p marks s e r k i t =
     record {
@@ -119,14 +95,7 @@ ticked-ready p marks s e r k i t =
       marked = ap (arrives p marks) (sym (t .moves)) ∙ output-stands p marks s (r .event .x) (e .y) (r .event .y) (t .output) .1;
     }
 
--- A run over the events es, after w was released: it never stops for want of an input that may stand, "one event is released for each one read", and
--- the place after them is the one that the released stream leads to.
-pub record Enforces (p : Policy) (w : Stream) (es : List Event) (r : Ran) : Type 0 where
-  pub moving : r .stuck ≡ false
-  pub enforced : EnforcedBy p w es (r .released)
-  pub leads : Leads p (w ++ r .released) (r .place)
-
-module _ (p : Policy) (ok : WellFormed p) (marks : List ℕ) (by : Prepared p marks) where
+module _ (p : Policy) (ok : WellFormed p) (marks : List ℕ) (by : AsPrepared p marks) where
   marked-by : {s : Place} → Inside p s → (markOf p s ≡ 1) ↔ (isMarked marks (numberOf p s) ≡ true)
   marked-by {s} i = let e = by (numberOf p s) (numberOf-below p i) in (λ m. e ∙ eq-eqb _ 1 m, λ k. eqb-true _ 1 (sym e ∙ k))
 
@@ -174,7 +143,7 @@ module _ (p : Policy) (ok : WellFormed p) (marks : List ℕ) (by : Prepared p ma
     output-nearest x k = nearest-may (reaches p marks s x) (outputValues p) (MayOut (Permits p) (ins p) (outs p) w x) (reaches-may x k)
 
     pub tick-right :
-        (e : Event) (r : Tick) → tick p marks s e ≡ some r →
+        (e : Event) (r : ReleasedTick) → tick p marks s e ≡ some r →
         Enforced.Tick corrections (Permits p) (ins p) (outs p) w e (r .event) × Leads p (w ++ (r .event ∷ [])) (r .place)
     tick-right e r k =
         let t = ticked p marks s e r k in
@@ -182,11 +151,11 @@ module _ (p : Policy) (ok : WellFormed p) (marks : List ℕ) (by : Prepared p ma
         let y = output-nearest (r .event .x) (x .may .0) (e .y) (r .event .y) .0 (t .output) in
         (record { input = x; output = y }, leads-on p ok h (r .event) (r .place) (record { x = x .may .0; y = y .may .0 }) (t .moves))
 
-  pub leads-ready : {w : Stream} {s : Place} → Leads p w s → GoesOn (Permits p) w → Ready p marks s
+  pub leads-ready : {w : Stream} {s : Place} → Leads p w s → GoesOn (Permits p) w → MarkedPlace p marks s
   leads-ready h g = record { inside = leads-inside p ok h; marked = goes-on-ready h .0 g }
 
   -- "With the marks of prepare and a live state, run and the input half never give 17".
-  module _ {s : Place} (k : Ready p marks s) where
+  module _ {s : Place} (k : MarkedPlace p marks s) where
     pub input-found : (x : ℕ) → (z : ℕ) × (inputChoice p marks s x ≡ some z)
     unfolding inputChoice
     input-found x =
@@ -202,16 +171,16 @@ module _ (p : Policy) (ok : WellFormed p) (marks : List ℕ) (by : Prepared p ma
           marked = eqb-true _ 1 (marked-by i .0 (o .marked));
         }))
 
-    pub tick-ready : (e : Event) → (r : Tick) × (tick p marks s e ≡ some r) × Ready p marks (r .place)
+    pub tick-ready : (e : Event) → (r : ReleasedTick) × (tick p marks s e ≡ some r) × MarkedPlace p marks (r .place)
     tick-ready e =
         let z = input-found (e .x) in
         let r = tick-found p marks s e (z .0) (z .1) in
         (r .0, r .1, ticked-ready p marks s e (r .0) (well-sound p ok) (k .inside) (ticked p marks s e (r .0) (r .1)))
 
-  pub never-stuck : {s : Place} → Ready p marks s → (es : Stream) → ran p marks s es .stuck ≡ false
+  pub never-stuck : {s : Place} → MarkedPlace p marks s → (es : Stream) → ran p marks s es .stuck ≡ false
   unfolding ran
   never-stuck k [] = refl
-  never-stuck {s} k (e ∷ es) = let r = tick-ready k e in ap (λ (q : Ran). q .stuck) (ran-on p marks s e es (r .0) (r .1)) ∙ never-stuck (r .2) es
+  never-stuck {s} k (e ∷ es) = let r = tick-ready k e in ap (λ (q : Progress). q .stuck) (ran-on p marks s e es (r .0) (r .1)) ∙ never-stuck (r .2) es
 
   pub ran-enforces : {w : Stream} {s : Place} → Leads p w s → GoesOn (Permits p) w → (es : List Event) → Enforces p w es (ran p marks s es)
   unfolding ran

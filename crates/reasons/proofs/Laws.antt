@@ -17,20 +17,21 @@ use Rattle.policy.specs.Number.{states}
 use Rattle.policy.specs.Own.{below, below-le, own}
 use Rattle.policy.specs.declared.Layout.{Layout}
 use Rattle.policy.specs.declared.own.Own.{Own}
-use Rattle.enforcer.specs.Code.{place, decider}
+use Rattle.enforcer.specs.Code.{decider}
+use Rattle.enforcer.specs.State.{place}
 use Rattle.enforcer.specs.Decider.{decider-lt, decider-decides}
 use Rattle.enforcer.specs.Ready.{Laid, HereOf}
 use Rattle.enforcer.specs.Laid.{laid-well, own-fits}
-use Rattle.enforcer.specs.Pass.{RuleAt, own-here, own-ahead}
+use Rattle.enforcer.specs.RuleAhead.{RuleAt, own-here, own-ahead}
 use Rattle.enforcer.specs.declared.state.State.{State}
 use Rattle.enforcer.specs.declared.reach.Here.{Here}
 use Rattle.resting.specs.Machine.{Machine}
-use Rattle.resting.specs.Walk.{Step}
+use Rattle.resting.specs.Walk.{MachineStep}
 use Rattle.reasons.specs.Said.{ahead-nth}
 
 -- The greatest so far is 0, or that of a state that an event leads to.
-abbrev pub Met : Machine → List ℕ → ℕ → ℕ → Type 0
-Met a A s r = (r ≡ 0) ⊎ ((t : ℕ) × Step a s t × (getD A t 0 ≡ r))
+abbrev pub MetAt : Machine → List ℕ → ℕ → ℕ → Type 0
+MetAt a A s r = (r ≡ 0) ⊎ ((t : ℕ) × MachineStep a s t × (getD A t 0 ≡ r))
 
 -- The state's numbers are not above the greatest so far.
 abbrev pub Low : List ℕ → ℕ → List ℕ → ℕ → ℕ → Type 0
@@ -46,10 +47,10 @@ abbrev pub higher : List ℕ → Bool → ℕ → ℕ → ℕ
 higher A goes to r = cond goes (max (getD A to 0) r) r
 
 module _ (A : List ℕ) (to r : ℕ) where
-  pub higher-met : (a : Machine) (s : ℕ) (goes : Bool) → Met a A s r → (goes ≡ true → (getD A to 0 ≤ r → ⊥) → Step a s to) → Met a A s (higher A goes to r)
+  pub higher-met : (a : Machine) (s : ℕ) (goes : Bool) → MetAt a A s r → (goes ≡ true → (getD A to 0 ≤ r → ⊥) → MachineStep a s to) → MetAt a A s (higher A goes to r)
   higher-met a s true h f =
       by-cases (decLt r (getD A to 0)) (λ l. inr (to, f refl (λ g. omega arith), omega arith))
-      (λ g. subst (Met a A s) (omega arith) h)
+      (λ g. subst (MetAt a A s) (omega arith) h)
   higher-met a s false h f = h
 
   pub higher-keeps : (goes : Bool) (t : ℕ) → getD A t 0 ≤ r → getD A t 0 ≤ higher A goes to r

@@ -8,23 +8,17 @@ use mathlib.Core.Option.{none, some, bind, Option·none-ne-some, Option·some-in
 use Prim.Native.Nat.{ℕ, zero, suc, _≤_}
 use native.Mathlib.Omega.{arith}
 use lib.Bits.{and-zero-r}
-use lib.Count.{ones, onesIn}
 use lib.ListN.{length}
 use Rattle.streams.specs.Stream.{Event, Stream, Rested}
 use Rattle.streams.specs.Laws.{rested-same}
-use Rattle.streams.specs.Choose.{any, nearest}
-use Rattle.streams.specs.Choose as Choose
-use Rattle.streams.specs.Corrections.{distance, nearer, spares}
-use Rattle.policy.specs.Rules.{Bound, Policy, Place, within, hold, fires, decides, unlimited, advance, tested, taken, step, steps, FitsOne, fits-none, Runs, Rests, rests as atRest}
-use Rattle.policy.specs.Number.{statesOf, numberFrom, locationFrom, clocksFrom}
-use Rattle.enforcer.specs.Tick.{outputChoice, inputChoice, mayStand, reaches}
+use Rattle.policy.specs.Rules.{Bound, Policy, Place, fires, decides, unlimited, step, steps, FitsOne, fits-none, Runs, Rests, rests as atRest}
+use Rattle.policy.specs.Number.{statesOf}
 use Rattle.enforcer.specs.Code.{eventXY, decider}
-use Rattle.resting.specs.Table.{roundsBy, roundBy, tab}
-use Rattle.resting.specs.Keeps.{keeps, leadsTo, stays, someEvent}
 use Rattle.prepare.specs.Table.{marksOf}
 use Rattle.prepare.specs.Live.{runs-more}
-use Rattle.reasons.specs.Reasons.{Reason, kept, rule, unmatched, ticks, rests, TicksLeft, Lasting, RestsLeft, Says, by-rule, by-none, by-ticks, by-rests, SaysIn, Given, forwarded, edited, Explained, rested-less}
+use Rattle.reasons.specs.Reasons.{Reason, kept, rule, unmatched, ticks, rests, TicksLeft, Lasting, RestsLeft, SaysWhy, by-rule, by-none, by-ticks, by-rests, SaysIn, Given, forwarded, edited, Explained, rested-less}
 use Rattle.reasons.specs.Better.{better, best-first, best-more}
+use Rattle.prepare.specs.Computing.{a-step, the-marks, the-run}
 
 abbrev free : Bound
 free = record { low = 0; high = 65535 }
@@ -50,7 +44,7 @@ abbrev pub Tells : Policy → Place → ℕ → ℕ → Reason → Reason → Ty
 Tells p = Explained p (marksOf p)
 
 -- An edited input, of a policy with two outputs.
-judged : {p : Policy} {s : Place} {x v : ℕ} {r q : Reason} → (x ≡ v → ⊥) → Says p s (eventXY x 0) r → Says p s (eventXY x 1) q → Given (SaysIn p s 2 x) x v (better r q)
+judged : {p : Policy} {s : Place} {x v : ℕ} {r q : Reason} → (x ≡ v → ⊥) → SaysWhy p s (eventXY x 0) r → SaysWhy p s (eventXY x 1) q → Given (SaysIn p s 2 x) x v (better r q)
 judged n a b = edited n (best-more (omega arith) (best-first a) b)
 
 abbrev here : Place
@@ -58,9 +52,7 @@ here = record { location = 0; clocks = [] }
 
 -- A with B: every output is a violation at once, by the first rule; A is passed on, and R with it stays. B with R: by the second.
 pub S-cases : Tells S here 3 1 (rule 0) kept × Tells S here 2 1 kept (rule 1)
-unfolding
-    roundsBy roundBy keeps leadsTo stays someEvent atRest tab locationFrom clocksFrom statesOf numberFrom outputChoice inputChoice mayStand
-    reaches nearest nearer distance spares any Choose.better ones onesIn step bind decides fires hold within tested taken advance decider
+unfolding a-step the-marks the-run atRest statesOf decider
 S-cases = (
   record {
     x' = 1;
@@ -94,9 +86,7 @@ abbrev waits : ℕ → Place
 waits v = record { location = 1; clocks = v ∷ [] }
 
 pub D-cases : Tells (D 1) (waits 3) 0 0 kept unmatched × Tells (D 2) (waits 2) 0 0 kept unmatched
-unfolding
-    roundsBy roundBy keeps leadsTo stays someEvent atRest tab locationFrom clocksFrom statesOf numberFrom outputChoice inputChoice mayStand
-    reaches nearest nearer distance spares any Choose.better ones onesIn step bind decides fires hold within tested taken advance
+unfolding a-step the-marks the-run atRest statesOf
 D-cases = (
   record { x' = 0; y' = 1; passed = refl; released = refl; for-input = forwarded refl; for-output = edited (λ e. omega arith) (by-none refl) },
   record { x' = 0; y' = 1; passed = refl; released = refl; for-input = forwarded refl; for-output = edited (λ e. omega arith) (by-none refl) },
@@ -184,9 +174,7 @@ unfolding step bind decides fires
 T-left = ended T stuck (λ e. refl)
 
 pub T-case : Tells T here 1 1 (ticks 0) kept
-unfolding
-    roundsBy roundBy keeps leadsTo stays someEvent atRest tab locationFrom clocksFrom statesOf numberFrom outputChoice inputChoice mayStand
-    reaches nearest nearer distance spares any Choose.better ones onesIn step bind decides fires hold within tested taken advance
+unfolding a-step the-marks the-run atRest statesOf
 T-case =
     record {
       x' = 0;
@@ -211,9 +199,7 @@ lone =
     }
 
 pub lone-case : Tells lone here 1 0 unmatched kept
-unfolding
-    roundsBy roundBy keeps leadsTo stays someEvent atRest tab locationFrom clocksFrom statesOf numberFrom outputChoice inputChoice mayStand
-    reaches nearest nearer distance spares any Choose.better ones onesIn step bind decides fires hold within tested taken advance
+unfolding a-step the-marks the-run atRest statesOf
 lone-case =
     record {
       x' = 0;
@@ -248,19 +234,19 @@ down-quiet reading = record { x = omega arith; y = omega arith }
 
 -- Where the clock lets it go on, and where not.
 on-one : (e : Event) → step unlimited (down 1) (waits 1) e ≡ some (waits 2)
-unfolding step bind decides fires hold within tested taken advance
+unfolding a-step
 on-one e = simp (and-zero-r (e .x), and-zero-r (e .y)) refl
 
 on-two : (e : Event) → step unlimited (down 1) (waits 2) e ≡ some (waits 3)
-unfolding step bind decides fires hold within tested taken advance
+unfolding a-step
 on-two e = simp (and-zero-r (e .x), and-zero-r (e .y)) refl
 
 none-three : (e : Event) → step unlimited (down 1) (waits 3) e ≡ none
-unfolding step bind decides fires hold within tested taken advance
+unfolding a-step
 none-three e = simp (and-zero-r (e .x), and-zero-r (e .y)) refl
 
 none-four : (e : Event) → step unlimited (down 1) (waits 4) e ≡ none
-unfolding step bind decides fires hold within tested taken advance
+unfolding a-step
 none-four e = simp (and-zero-r (e .x), and-zero-r (e .y)) refl
 
 left-three : TicksLeft (down 1) (waits 3) 0
@@ -277,9 +263,7 @@ left-four = ended (down 1) (waits 4) none-four
 
 -- At the clock values 0, 1, 2 and 3 the count is 2, 1, 0 and 0, with either output.
 pub down-cases : Tells (down 1) (idle 0) 1 0 (ticks 2) kept × Tells (down 1) (idle 1) 1 0 (ticks 1) kept × Tells (down 1) (idle 2) 1 0 (ticks 0) kept × Tells (down 1) (idle 3) 1 0 (ticks 0) kept
-unfolding
-    roundsBy roundBy keeps leadsTo stays someEvent atRest tab locationFrom clocksFrom statesOf numberFrom outputChoice inputChoice mayStand
-    reaches nearest nearer distance spares any Choose.better ones onesIn step bind decides fires hold within tested taken advance
+unfolding a-step the-marks the-run atRest statesOf
 down-cases = (
   record { x' = 0; y' = 0; passed = refl; released = refl; for-input = judged (λ e. omega arith) (by-ticks refl left-one) (by-ticks refl left-one); for-output = forwarded refl },
   record { x' = 0; y' = 0; passed = refl; released = refl; for-input = judged (λ e. omega arith) (by-ticks refl left-two) (by-ticks refl left-two); for-output = forwarded refl },
@@ -289,19 +273,19 @@ down-cases = (
 
 -- Under reading 2 each bound is tested one tick earlier: 1, 0, 0 and 0.
 later-one : (e : Event) → step unlimited (down 2) (waits 1) e ≡ some (waits 2)
-unfolding step bind decides fires hold within tested taken advance
+unfolding a-step
 later-one e = simp (and-zero-r (e .x), and-zero-r (e .y)) refl
 
 later-two : (e : Event) → step unlimited (down 2) (waits 2) e ≡ none
-unfolding step bind decides fires hold within tested taken advance
+unfolding a-step
 later-two e = simp (and-zero-r (e .x), and-zero-r (e .y)) refl
 
 later-three : (e : Event) → step unlimited (down 2) (waits 3) e ≡ none
-unfolding step bind decides fires hold within tested taken advance
+unfolding a-step
 later-three e = simp (and-zero-r (e .x), and-zero-r (e .y)) refl
 
 later-four : (e : Event) → step unlimited (down 2) (waits 4) e ≡ none
-unfolding step bind decides fires hold within tested taken advance
+unfolding a-step
 later-four e = simp (and-zero-r (e .x), and-zero-r (e .y)) refl
 
 later-end : TicksLeft (down 2) (waits 2) 0
@@ -311,9 +295,7 @@ later-left : TicksLeft (down 2) (waits 1) 1
 later-left = one-more (down 2) (down-quiet 2) (waits 1) (waits 2) later-one later-end
 
 pub later-cases : Tells (down 2) (idle 0) 1 0 (ticks 1) kept × Tells (down 2) (idle 1) 1 0 (ticks 0) kept × Tells (down 2) (idle 2) 1 0 (ticks 0) kept × Tells (down 2) (idle 3) 1 0 (ticks 0) kept
-unfolding
-    roundsBy roundBy keeps leadsTo stays someEvent atRest tab locationFrom clocksFrom statesOf numberFrom outputChoice inputChoice mayStand
-    reaches nearest nearer distance spares any Choose.better ones onesIn step bind decides fires hold within tested taken advance
+unfolding a-step the-marks the-run atRest statesOf
 later-cases =
     let three = ended (down 2) (waits 3) later-three in
     let four = ended (down 2) (waits 4) later-four in (
@@ -352,23 +334,23 @@ held-quiet : FitsOne held (eventXY 0 0)
 held-quiet = record { x = omega arith; y = omega arith }
 
 held-one : (e : Event) → step unlimited held (at 1) e ≡ some (at 2)
-unfolding step bind decides fires hold tested taken advance
+unfolding a-step
 held-one e = simp (and-zero-r (e .x), and-zero-r (e .y)) refl
 
 held-two : (e : Event) → step unlimited held (at 2) e ≡ some (at 3)
-unfolding step bind decides fires hold tested taken advance
+unfolding a-step
 held-two e = simp (and-zero-r (e .x), and-zero-r (e .y)) refl
 
 held-three : (e : Event) → step unlimited held (at 3) e ≡ some (at 3)
-unfolding step bind decides fires hold tested taken advance
+unfolding a-step
 held-three e = simp (and-zero-r (e .x), and-zero-r (e .y)) refl
 
 held-four : (e : Event) → step unlimited held (at 4) e ≡ some (at 5)
-unfolding step bind decides fires hold tested taken advance
+unfolding a-step
 held-four e = simp (and-zero-r (e .x), and-zero-r (e .y)) refl
 
 held-five : (e : Event) → step unlimited held (at 5) e ≡ none
-unfolding step bind decides fires hold tested taken advance
+unfolding a-step
 held-five e = refl
 
 never-two : (v : Stream) → Runs held (at 2) v → Rested (Rests held (at 2)) 1 v → ⊥
@@ -409,9 +391,7 @@ held-left = record { lasts = lasting; some = once; most = most }
 
 -- Rests go before the ticks of the output beside it, and the event's own rest is not counted. The output is judged with the input 0, as passed on: one more tick.
 pub held-cases : Tells held here 1 0 (rests 1) kept × Tells held here 0 1 kept (ticks 1) × Tells held here 1 1 (rests 1) (ticks 1)
-unfolding
-    roundsBy roundBy keeps leadsTo stays someEvent atRest tab locationFrom clocksFrom statesOf numberFrom outputChoice inputChoice mayStand
-    reaches nearest nearer distance spares any Choose.better ones onesIn step bind decides fires hold within tested taken advance
+unfolding a-step the-marks the-run atRest statesOf
 held-cases =
     let end = ended held (at 5) held-five in
     let one = one-more held held-quiet (at 4) (at 5) held-four end in (
@@ -437,14 +417,12 @@ parked =
     }
 
 parked-one : (e : Event) → step unlimited parked (at 1) e ≡ some (at 1)
-unfolding step bind decides fires hold tested taken advance
+unfolding a-step
 parked-one e = simp (and-zero-r (e .x), and-zero-r (e .y)) refl
 
 -- It never comes to rest again.
 pub parked-case : Tells parked here 0 1 kept (rests 0)
-unfolding
-    roundsBy roundBy keeps leadsTo stays someEvent atRest tab locationFrom clocksFrom statesOf numberFrom outputChoice inputChoice mayStand
-    reaches nearest nearer distance spares any Choose.better ones onesIn step bind decides fires hold within tested taken advance
+unfolding a-step the-marks the-run atRest statesOf
 parked-case =
     record {
       x' = 0;

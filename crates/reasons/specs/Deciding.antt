@@ -9,11 +9,13 @@ use lib.Dec.{ltb, eqb}
 use lib.ListN.{take, drop}
 use borrow.Author.Tests.{ltb-true, ltb-false, eqb-false, ne-eqb}
 use Rattle.streams.specs.Stream.{Event}
-use Rattle.policy.specs.Rules.{Rule, Policy, Place, fires, decides, unlimited, stopped, tested, looked, taken, step}
+use Rattle.policy.specs.Rules.{Rule, Policy, Place, fires, decides, unlimited, stopped, looked, taken}
 use Rattle.policy.specs.Checked.{Rising, rising-none, rising-more}
-use Rattle.policy.specs.Stopped.{AllLawful, Checked, checked-none, checked-more, stop, shown, step-same}
+use Rattle.policy.specs.Stopped.{AllLawful, LawfulRules, checked-none, checked-more, step-same}
+use Rattle.policy.specs.Stop.{stop, shown}
 use Rattle.policy.specs.Own.{below, level, own}
 use Rattle.enforcer.specs.Code.{decider}
+use Rattle.prepare.specs.Computing.{a-step}
 
 -- Numbers that count from n on.
 abbrev pub onFrom : ℕ → Option ℕ → Option ℕ
@@ -99,7 +101,7 @@ module _ (p : Policy) (s : Place) (e : Event) where
 
   -- "the stop changes no answer": nor whether a rule fires, which is whether its policy takes a step.
   fires-same : (r : Rule) → AllLawful (p .ceilings) (r .bounds) → fires r (looked stopped p (stop p s)) e ≡ fires r (looked unlimited p s) e
-  unfolding step decides taken fires tested bind shown
+  unfolding a-step shown
   fires-same r l = go (fires r (looked stopped p (stop p s)) e) (fires r (looked unlimited p s) e) (step-same (alone r) (checked-more l checked-none) s e)
     where
       go : (b c : Bool) →
@@ -110,12 +112,12 @@ module _ (p : Policy) (s : Place) (e : Event) where
       go false true q = absurd (Option·none-ne-some _ q)
       go false false q = refl
 
-  pub decider-same : {rs : List Rule} → Checked (p .ceilings) rs → decider rs (looked stopped p (stop p s)) e ≡ decider rs (looked unlimited p s) e
+  pub decider-same : {rs : List Rule} → LawfulRules (p .ceilings) rs → decider rs (looked stopped p (stop p s)) e ≡ decider rs (looked unlimited p s) e
   unfolding decider
   decider-same checked-none = refl
   decider-same (checked-more {r = r} {rs = rs} l ls) = rw (fires-same r l, decider-same ls)
 
-  pub decides-same : {rs : List Rule} → Checked (p .ceilings) rs → decides rs (looked stopped p (stop p s)) e ≡ decides rs (looked unlimited p s) e
+  pub decides-same : {rs : List Rule} → LawfulRules (p .ceilings) rs → decides rs (looked stopped p (stop p s)) e ≡ decides rs (looked unlimited p s) e
   unfolding decides
   decides-same checked-none = refl
   decides-same (checked-more {r = r} {rs = rs} l ls) = rw (fires-same r l, decides-same ls)

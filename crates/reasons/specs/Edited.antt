@@ -8,7 +8,7 @@ use lib.Dec.{eqb}
 use lib.ListN.{getD}
 use borrow.Author.Tests.{lt-ltb, eqb-true, not-false}
 use Rattle.streams.specs.Answer.{gives}
-use Rattle.streams.specs.Choose.{any-none, nearest-kept, nearest-some}
+use Rattle.streams.specs.ChooseLaws.{any-none, nearest-kept, nearest-some}
 use Rattle.policy.specs.Rules.{Policy, Place, inputValues, outputValues, stopped, step}
 use Rattle.policy.specs.File.{policyOf}
 use Rattle.policy.specs.Number.{states, numberOf}
@@ -22,11 +22,12 @@ use Rattle.enforcer.specs.Chosen.{output-chosen}
 use Rattle.enforcer.specs.Entries.{inputPast, outputPast}
 use Rattle.resting.specs.Leads.{is-false}
 use Rattle.prepare.specs.Table.{marksOf}
-use Rattle.prepare.specs.Enforces.{Prepared}
+use Rattle.prepare.specs.Enforcing.{AsPrepared}
 use Rattle.reasons.specs.Entry.{differ, otherMarks}
+use Rattle.enforcer.specs.declared.state.State.{State}
 
 -- Marks that are not refused by 20 are those of prepare.
-pub marks-prepared : (p : Policy) (marks : List ℕ) → otherMarks p marks ≡ false → Prepared p marks
+pub marks-prepared : (p : Policy) (marks : List ℕ) → otherMarks p marks ≡ false → AsPrepared p marks
 unfolding differ
 marks-prepared p marks h n l =
     let e = any-none (λ i. not (eqb (getD marks i 0) (getD (marksOf p) i 0))) (states p) h n l in
@@ -46,7 +47,7 @@ module _ (p : Policy) (marks : List ℕ) (s : Place) where
       (is-false _ (λ r. n (Option·some-injective x z (sym (nearest-kept (mayStand p marks s) x (inputValues p) l r) ∙ h))))
 
   -- By the marks of prepare.
-  pub reaches-prepared : WellFormed p → Prepared p marks → Inside p s → (x y : ℕ) → reaches p marks s x y ≡ false → reaches p (marksOf p) s x y ≡ false
+  pub reaches-prepared : WellFormed p → AsPrepared p marks → Inside p s → (x y : ℕ) → reaches p marks s x y ≡ false → reaches p (marksOf p) s x y ≡ false
   unfolding reaches
   reaches-prepared ok by i x y = go (step stopped p s (eventXY x y)) (step-inside p (well-sound p ok) s i (eventXY x y))
     where
@@ -64,7 +65,7 @@ module _ (reading : ℕ) (file marks : List ℕ) (t : Place) where
   pub input-answer : (x : ℕ) {z : ℕ} → x < inputValues (policyOf reading file) → inputChoice (policyOf reading file) marks t x ≡ some z → inputPast reading file marks t x ≡ gives z
   input-answer x l h = rw (lt-ltb x (inputValues (policyOf reading file)) l, h)
 
-  pub output-answer : (given : Place) (x y : ℕ) {z : ℕ} → x < inputValues (policyOf reading file) → y < outputValues (policyOf reading file) →
+  pub output-answer : (given : State) (x y : ℕ) {z : ℕ} → x < inputValues (policyOf reading file) → y < outputValues (policyOf reading file) →
       outputChoice (policyOf reading file) marks t x y ≡ some z → outputPast reading file marks given t x y .answer ≡ gives z
   output-answer given x y l u h =
       let o = output-chosen (policyOf reading file) marks t x y h in

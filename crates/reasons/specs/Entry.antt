@@ -6,10 +6,12 @@ use Prim.Native.Nat.{ℕ, suc, _≤_, _<_}
 use native.Mathlib.Omega.{arith}
 use lib.Dec.{eqb}
 use lib.ListN.{getD}
-use Rattle.streams.specs.Answer.{Answer, refused, gives, _orElse_, unless, UpTo, else-le, unless-le}
+use Rattle.streams.specs.Answer.{Answer, refused, gives, _orElse_, unless, UpTo}
+use Rattle.streams.specs.AnswerLaws.{else-le, unless-le}
 use borrow.Author.Tests.{eq-eqb, ne-eqb}
-use Rattle.streams.specs.Choose.{any, any-has, any-fails, any-ext}
-use Rattle.policy.specs.Rules.{Policy, Place}
+use Rattle.streams.specs.Choose.{any}
+use Rattle.streams.specs.ChooseLaws.{any-has, any-fails, any-ext}
+use Rattle.policy.specs.Rules.{Policy}
 use Rattle.policy.specs.File.{policyOf}
 use Rattle.policy.specs.Number.{states}
 use Rattle.enforcer.specs.State.{placeIn}
@@ -17,6 +19,7 @@ use Rattle.enforcer.specs.Entries.{xGood, yGood, marksRefusal, stateRefusal}
 use Rattle.enforcer.specs.Refusals.{marks-le}
 use Rattle.prepare.specs.Table.{marksOf}
 use Rattle.reasons.specs.Reasons.{Reason, Explained, explained-one}
+use Rattle.enforcer.specs.declared.state.State.{State}
 
 -- A reason for each half.
 pub record Reasons : Type 0 where
@@ -45,7 +48,7 @@ module _ (A B : List ℕ) where
   unfolding differ
   differ-front D n h = any-ext _ _ n (λ i l. ap (λ (m : ℕ). not (eqb (getD A i 0) m)) (h i l))
 
-module _ (reading : ℕ) (file marks : List ℕ) (s : Place) (x y : ℕ) where
+module _ (reading : ℕ) (file marks : List ℕ) (s : State) (x y : ℕ) where
   -- "Refusals: as the input half; marks that are not those of prepare give the new number 20, after 16." 17 cannot come: from a live state, with the marks of
   -- prepare, some input reaches a marked state, and for the x' that is passed on some output does.
   unfoldable pub whyRefusal : ℕ
@@ -53,13 +56,13 @@ module _ (reading : ℕ) (file marks : List ℕ) (s : Place) (x y : ℕ) where
       marksRefusal reading file marks orElse stateRefusal reading file marks s orElse unless (not (otherMarks (policyOf reading file) marks)) 20
       orElse unless (xGood reading file x && yGood reading file y) 15
 
-  pub data Answers : Answer Reasons → Type 0 where
-    refuses : {n : ℕ} → whyRefusal ≡ suc n → Answers (refused (suc n))
+  pub data WhyAnswers : Answer Reasons → Type 0 where
+    refuses : {n : ℕ} → whyRefusal ≡ suc n → WhyAnswers (refused (suc n))
     explains : {i o : Reason} → whyRefusal ≡ 0 → Explained (policyOf reading file) marks (placeIn (policyOf reading file) s) x y i o →
-        Answers (gives (record { input = i; output = o }))
+        WhyAnswers (gives (record { input = i; output = o }))
 
   -- One answer alone is right.
-  pub answers-one : {r q : Answer Reasons} → Answers r → Answers q → r ≡ q
+  pub answers-one : {r q : Answer Reasons} → WhyAnswers r → WhyAnswers q → r ≡ q
   answers-one (refuses {n = n} a) (refuses {n = m} b) = ap refused (sym a ∙ b)
   answers-one (refuses a) (explains b h) = absurd (omega arith)
   answers-one (explains a h) (refuses b) = absurd (omega arith)
@@ -70,6 +73,6 @@ module _ (reading : ℕ) (file marks : List ℕ) (s : Place) (x y : ℕ) where
   unfolding whyRefusal stateRefusal
   refusal-le = let m = marks-le reading file marks in search (else-le, unless-le) depth 9
 
-  pub answers-up-to : {r : Answer Reasons} → Answers r → UpTo 22 r
+  pub answers-up-to : {r : Answer Reasons} → WhyAnswers r → UpTo 22 r
   answers-up-to (refuses e) = (omega arith, omega (arith, refusal-le))
   answers-up-to (explains e h) = tt

@@ -7,26 +7,25 @@ use native.Mathlib.Omega.{arith}
 use lib.ListN.{getD, take}
 use lib.Seq.{getD-take}
 use borrow.Author.Tests.{lt-ltb, le-ltb, ltb-true, not-true}
-use Rattle.streams.specs.Answer.{refused, gives, unless, none-refused, none-unless}
+use Rattle.streams.specs.Answer.{refused, gives, unless}
+use Rattle.streams.specs.AnswerLaws.{none-refused, none-unless}
 use Rattle.policy.specs.Rules.{Policy, Place, inputValues, outputValues}
 use Rattle.policy.specs.File.{policyOf}
 use Rattle.policy.specs.Number.{states, numberOf}
-use Rattle.policy.specs.Check.{refusalUnder}
-use Rattle.enforcer.specs.State.{placeIn, isMarked}
+use Rattle.enforcer.specs.State.{placeIn, isMarked, place}
 use Rattle.enforcer.specs.Entries.{xGood, yGood, marksRefusal, stateRefusal}
 use Rattle.policy.specs.declared.Layout.{Layout}
-use Rattle.enforcer.specs.Code.{asPlace, place}
 use Rattle.enforcer.specs.Ready.{Standing}
 use Rattle.enforcer.specs.Laid.{laid-place}
-use Rattle.enforcer.specs.States.{Granted, marks-granted, state-granted, granted-standing}
+use Rattle.enforcer.specs.States.{Granted, state-granted, granted-standing}
 use Rattle.enforcer.specs.declared.state.State.{State}
 use Rattle.prepare.specs.Table.{marksOf}
-use Rattle.prepare.specs.Enforces.{Prepared}
+use Rattle.prepare.specs.Enforcing.{AsPrepared}
 use Rattle.reasons.specs.Reasons.{Explained}
-use Rattle.reasons.specs.Entry.{Reasons, differ, differ-front, otherMarks, whyRefusal, Answers, refuses, explains}
+use Rattle.reasons.specs.Entry.{Reasons, differ, differ-front, otherMarks, whyRefusal, WhyAnswers, refuses, explains}
 use Rattle.reasons.specs.Edited.{marks-prepared}
 use Rattle.reasons.specs.Halves.{BothTold}
-use Rattle.reasons.specs.Said.{Counts}
+use Rattle.reasons.specs.Said.{CountsOf}
 
 -- Marks in a slice that is long enough: the comparison sees them alone.
 pub front-differ : (p : Policy) (marks after : List ℕ) → take (states p) after ≡ marksOf p → differ marks after (states p) ≡ otherMarks p marks
@@ -35,14 +34,14 @@ front-differ p marks after e =
 
 -- The tables begin with the counts.
 abbrev pub CountsFront : Policy → (T R : List ℕ) → Type 0
-CountsFront p T R = Counts p (take (states p) T) (take (states p) R)
+CountsFront p T R = CountsOf p (take (states p) T) (take (states p) R)
 
 -- The refusal that the code finds, and what its tables hold then.
-pub record Refuses (reading : ℕ) (file marks : List ℕ) (s : Place) (x y r : ℕ) (T R : List ℕ) : Type 0 where
+pub record Refuses (reading : ℕ) (file marks : List ℕ) (s : State) (x y r : ℕ) (T R : List ℕ) : Type 0 where
   pub is : r ≡ whyRefusal reading file marks s x y
   pub left : r ≡ 0 → CountsFront (policyOf reading file) T R
 
-module _ (reading : ℕ) (file marks : List ℕ) (s : Place) (x y : ℕ) where
+module _ (reading : ℕ) (file marks : List ℕ) (s : State) (x y : ℕ) where
   -- The first that is given, in their order.
   module _ (T R : List ℕ) where
     pub by-marks : {r : ℕ} → r ≡ marksRefusal reading file marks → (r ≡ 0 → ⊥) → Refuses reading file marks s x y r T R
@@ -78,7 +77,7 @@ module _ (reading : ℕ) (file marks : List ℕ) (s : Place) (x y : ℕ) where
   pub record Allowed : Type 0 where
     pub no-early : marksRefusal reading file marks ≡ 0
     pub no-16 : stateRefusal reading file marks s ≡ 0
-    pub prepared : Prepared (policyOf reading file) marks
+    pub prepared : AsPrepared (policyOf reading file) marks
     pub live : isMarked marks (numberOf (policyOf reading file) (placeIn (policyOf reading file) s)) ≡ true
     pub x-fits : x < inputValues (policyOf reading file)
     pub y-fits : y < outputValues (policyOf reading file)
@@ -100,26 +99,26 @@ module _ (reading : ℕ) (file marks : List ℕ) (s : Place) (x y : ℕ) where
       }
 
   -- What the entry answers.
-  pub answers-refused : {r : ℕ} {T R : List ℕ} → Refuses reading file marks s x y r T R → (r ≡ 0 → ⊥) → Answers reading file marks s x y (refused r)
+  pub answers-refused : {r : ℕ} {T R : List ℕ} → Refuses reading file marks s x y r T R → (r ≡ 0 → ⊥) → WhyAnswers reading file marks s x y (refused r)
   answers-refused {r = zero} h n = absurd (n refl)
   answers-refused {r = suc r} h n = refuses (sym (h .is))
 
   pub answers-given : {r : ℕ} {T R : List ℕ} {q : Reasons} → Refuses reading file marks s x y r T R → r ≡ 0 →
-      Explained (policyOf reading file) marks (placeIn (policyOf reading file) s) x y (q .input) (q .output) → Answers reading file marks s x y (gives q)
+      Explained (policyOf reading file) marks (placeIn (policyOf reading file) s) x y (q .input) (q .output) → WhyAnswers reading file marks s x y (gives q)
   answers-given h z e = explains (sym (h .is) ∙ z) e
 
 -- The same under the reading that the layout has.
-module _ {reading : ℕ} {file marks : List ℕ} {s : State} {x y : ℕ} {l : Layout} (k : Granted reading file marks l) (h : Allowed reading file marks (asPlace s) x y) where
+module _ {reading : ℕ} {file marks : List ℕ} {s : State} {x y : ℕ} {l : Layout} (k : Granted reading file marks l) (h : Allowed reading file marks s x y) where
   pub at-standing : Standing file l marks s
-  at-standing = granted-standing (k .laid) (k .enough) (subst (λ (r : ℕ). stateRefusal r file marks (asPlace s) ≡ 0) (sym (k .named)) (h .no-16))
+  at-standing = granted-standing (k .laid) (k .enough) (subst (λ (r : ℕ). stateRefusal r file marks s ≡ 0) (sym (k .named)) (h .no-16))
 
-  pub at-prepared : Prepared (policyOf (l .reading) file) marks
-  at-prepared = subst (λ (r : ℕ). Prepared (policyOf r file) marks) (sym (k .named)) (h .prepared)
+  pub at-prepared : AsPrepared (policyOf (l .reading) file) marks
+  at-prepared = subst (λ (r : ℕ). AsPrepared (policyOf r file) marks) (sym (k .named)) (h .prepared)
 
   pub at-live : isMarked marks (numberOf (policyOf (l .reading) file) (place (l .clocks) s)) ≡ true
   at-live =
       ap (λ (t : Place). isMarked marks (numberOf (policyOf (l .reading) file) t)) (laid-place (k .laid) s)
-      ∙ subst (λ (r : ℕ). isMarked marks (numberOf (policyOf r file) (placeIn (policyOf r file) (asPlace s))) ≡ true) (sym (k .named)) (h .live)
+      ∙ subst (λ (r : ℕ). isMarked marks (numberOf (policyOf r file) (placeIn (policyOf r file) s)) ≡ true) (sym (k .named)) (h .live)
 
   pub at-x : x < inputValues (policyOf (l .reading) file)
   at-x = subst (λ (r : ℕ). x < inputValues (policyOf r file)) (sym (k .named)) (h .x-fits)
@@ -128,15 +127,15 @@ module _ {reading : ℕ} {file marks : List ℕ} {s : State} {x y : ℕ} {l : La
   at-y = subst (λ (r : ℕ). y < outputValues (policyOf r file)) (sym (k .named)) (h .y-fits)
 
   pub at-told : {q : Reasons} → BothTold (policyOf (l .reading) file) marks (place (l .clocks) s) x y q →
-      Explained (policyOf reading file) marks (placeIn (policyOf reading file) (asPlace s)) x y (q .input) (q .output)
+      Explained (policyOf reading file) marks (placeIn (policyOf reading file) s) x y (q .input) (q .output)
   at-told {q} t =
-      subst (λ (r : ℕ). Explained (policyOf r file) marks (placeIn (policyOf r file) (asPlace s)) x y (q .input) (q .output)) (k .named)
+      subst (λ (r : ℕ). Explained (policyOf r file) marks (placeIn (policyOf r file) s) x y (q .input) (q .output)) (k .named)
       (subst (λ (z : Place). Explained (policyOf (l .reading) file) marks z x y (q .input) (q .output)) (laid-place (k .laid) s) (t .explained))
 
 pub at-counts : {reading : ℕ} {file marks : List ℕ} {l : Layout} (T R : List ℕ) → Granted reading file marks l → CountsFront (policyOf reading file) T R →
-    Counts (policyOf (l .reading) file) (take (l .states) T) (take (l .states) R)
+    CountsOf (policyOf (l .reading) file) (take (l .states) T) (take (l .states) R)
 at-counts {file = file} {l = l} T R k e = rw (k .laid .states, k .named) e
 
 pub at-front : {reading : ℕ} {file marks : List ℕ} {l : Layout} (T R : List ℕ) → Granted reading file marks l →
-    Counts (policyOf (l .reading) file) (take (l .states) T) (take (l .states) R) → CountsFront (policyOf reading file) T R
+    CountsOf (policyOf (l .reading) file) (take (l .states) T) (take (l .states) R) → CountsFront (policyOf reading file) T R
 at-front {file = file} {l = l} T R k e = rw (k .laid .states, k .named) at e

@@ -14,9 +14,10 @@ use Rattle.enforcer.specs.Tick.{reaches, inputChoice, outputChoice}
 use Rattle.enforcer.specs.Ticks.{input-stands}
 use Rattle.enforcer.specs.Code.{eventXY}
 use Rattle.prepare.specs.Table.{marksOf}
-use Rattle.prepare.specs.Enforces.{Prepared, Ready, input-found}
-use Rattle.reasons.specs.Reasons.{Reason, kept, countOf, Says, SaysIn, Given, forwarded, edited, Explained}
-use Rattle.reasons.specs.Said.{Told, ToldIn}
+use Rattle.prepare.specs.Enforces.{input-found}
+use Rattle.prepare.specs.Enforcing.{AsPrepared, MarkedPlace}
+use Rattle.reasons.specs.Reasons.{Reason, kept, countOf, SaysWhy, SaysIn, Given, forwarded, edited, Explained}
+use Rattle.reasons.specs.Said.{ToldWhy, ToldIn}
 use Rattle.reasons.specs.Entry.{Reasons}
 use Rattle.reasons.specs.Edited.{edited-output, edited-input, reaches-prepared, output-there}
 
@@ -30,7 +31,7 @@ pub record GivenIn (p : Policy) (s : Place) (x x' : ℕ) (r : Reason) : Type 0 w
   pub few : countOf r < 65536
 
 pub record GivenOut (p : Policy) (s : Place) (x y y' : ℕ) (r : Reason) : Type 0 where
-  pub given : Given (Says p s (eventXY x y)) y y' r
+  pub given : Given (SaysWhy p s (eventXY x y)) y y' r
   pub few : countOf r < 65536
 
 pub record BothTold (p : Policy) (marks : List ℕ) (s : Place) (x y : ℕ) (r : Reasons) : Type 0 where
@@ -48,12 +49,12 @@ module _ {p : Policy} {s : Place} {x : ℕ} where
   pub output-kept : {y y' : ℕ} → y ≡ y' → GivenOut p s x y y' kept
   output-kept e = record { given = forwarded e; few = omega arith }
 
-  pub output-edited : {y y' : ℕ} {r : Reason} → (y ≡ y' → ⊥) → Told p s (eventXY x y) r → GivenOut p s x y y' r
+  pub output-edited : {y y' : ℕ} {r : Reason} → (y ≡ y' → ⊥) → ToldWhy p s (eventXY x y) r → GivenOut p s x y y' r
   output-edited n t = record { given = edited n (t .says); few = t .few }
 
 -- What the halves release, where 17 cannot come.
-module _ (p : Policy) (ok : WellFormed p) (marks : List ℕ) (by : Prepared p marks) (s : Place) (i : Inside p s) (m : isMarked marks (numberOf p s) ≡ true) (x y : ℕ) where
-  ready : Ready p marks s
+module _ (p : Policy) (ok : WellFormed p) (marks : List ℕ) (by : AsPrepared p marks) (s : Place) (i : Inside p s) (m : isMarked marks (numberOf p s) ≡ true) (x y : ℕ) where
+  ready : MarkedPlace p marks s
   ready = record { inside = i; marked = m }
 
   pub passed : (z : ℕ) × (inputChoice p marks s x ≡ some z)

@@ -4,17 +4,16 @@ use mathlib.Core.List.{List}
 use Prim.Native.Nat.{ℕ, _<_}
 use Rattle.streams.specs.Answer.{refused, gives}
 use Rattle.streams.specs.Answer as Said
-use Rattle.enforcer.specs.Code.{asPlace}
 use Rattle.enforcer.specs.declared.state.State.{State}
 use Rattle.reasons.specs.Reasons.{kept, rule, unmatched, ticks, rests, countOf}
 use Rattle.reasons.specs.Reasons as Reasons
-use Rattle.reasons.specs.Entry.{Answers, answers-one}
+use Rattle.reasons.specs.Entry.{WhyAnswers, answers-one}
 use Rattle.reasons.specs.Entry as Entry
 use Rattle.reasons.specs.declared.reason.Reason.{Reason}
 use Rattle.reasons.specs.declared.reason.Reason.the-variants as Reason
 use Rattle.reasons.specs.declared.reason.Reasons.{Reasons as Both}
-use Rattle.reasons.specs.declared.entry.Answer.{Answer}
-use Rattle.reasons.specs.declared.entry.Answer.the-variants as Answer
+use Rattle.reasons.specs.declared.entry.WhyAnswer.{WhyAnswer}
+use Rattle.reasons.specs.declared.entry.WhyAnswer.the-variants as WhyAnswer
 
 -- What the answers say, in 02's words.
 abbrev pub reasonSaid : Reason → Reasons.Reason
@@ -27,12 +26,12 @@ reasonSaid (Reason.Rests k) = rests k
 abbrev pub bothSaid : Both → Entry.Reasons
 bothSaid r = record { input = reasonSaid (r .input); output = reasonSaid (r .output) }
 
-abbrev pub answerSaid : Answer → Said.Answer Entry.Reasons
-answerSaid (Answer.Gives r) = gives (bothSaid r)
-answerSaid (Answer.Refused n) = refused n
+abbrev pub answerSaid : WhyAnswer → Said.Answer Entry.Reasons
+answerSaid (WhyAnswer.Gives r) = gives (bothSaid r)
+answerSaid (WhyAnswer.Refused n) = refused n
 
-pub record WhyPromise (reading : ℕ) (file marks : List ℕ) (s : State) (x y : ℕ) (r : Answer) : Type 0 where
-  pub answers : Answers reading file marks (asPlace s) x y (answerSaid r)
+pub record WhyPromise (reading : ℕ) (file marks : List ℕ) (s : State) (x y : ℕ) (r : WhyAnswer) : Type 0 where
+  pub answers : WhyAnswers reading file marks s x y (answerSaid r)
 
 -- One answer alone meets it.
 abbrev reasonAs : Reasons.Reason → Reason
@@ -49,19 +48,19 @@ reason-back Reason.Unmatched = refl
 reason-back (Reason.Ticks k) = refl
 reason-back (Reason.Rests k) = refl
 
-abbrev answerAs : Said.Answer Entry.Reasons → Answer
-answerAs (gives r) = Answer.Gives (record { input = reasonAs (r .input); output = reasonAs (r .output) })
-answerAs (refused n) = Answer.Refused n
+abbrev answerAs : Said.Answer Entry.Reasons → WhyAnswer
+answerAs (gives r) = WhyAnswer.Gives (record { input = reasonAs (r .input); output = reasonAs (r .output) })
+answerAs (refused n) = WhyAnswer.Refused n
 
-answer-back : (r : Answer) → answerAs (answerSaid r) ≡ r
-answer-back (Answer.Gives r) = λ i. Answer.Gives (record { input = reason-back (r .input) i; output = reason-back (r .output) i })
-answer-back (Answer.Refused n) = refl
+answer-back : (r : WhyAnswer) → answerAs (answerSaid r) ≡ r
+answer-back (WhyAnswer.Gives r) = λ i. WhyAnswer.Gives (record { input = reason-back (r .input) i; output = reason-back (r .output) i })
+answer-back (WhyAnswer.Refused n) = refl
 
-pub why-one : {reading : ℕ} {file marks : List ℕ} {s : State} {x y : ℕ} {r q : Answer} → WhyPromise reading file marks s x y r → WhyPromise reading file marks s x y q → r ≡ q
+pub why-one : {reading : ℕ} {file marks : List ℕ} {s : State} {x y : ℕ} {r q : WhyAnswer} → WhyPromise reading file marks s x y r → WhyPromise reading file marks s x y q → r ≡ q
 why-one {reading} {file} {marks} {s} {x} {y} {r} {q} h g =
-    sym (answer-back r) ∙ ap answerAs (answers-one reading file marks (asPlace s) x y (h .answers) (g .answers)) ∙ answer-back q
+    sym (answer-back r) ∙ ap answerAs (answers-one reading file marks s x y (h .answers) (g .answers)) ∙ answer-back q
 
 -- Each number is below that of the states that a policy can have.
-abbrev pub Small : Said.Answer Entry.Reasons → Type 0
-Small (gives r) = (countOf (r .input) < 65536) × (countOf (r .output) < 65536)
-Small (refused n) = Unit {0}
+abbrev pub SmallReasons : Said.Answer Entry.Reasons → Type 0
+SmallReasons (gives r) = (countOf (r .input) < 65536) × (countOf (r .output) < 65536)
+SmallReasons (refused n) = Unit {0}

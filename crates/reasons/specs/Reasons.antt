@@ -55,19 +55,19 @@ countOf (rests k) = k
 module _ (p : Policy) (s : Place) where
   -- "the number (from 0) of the rule that sent it to 255, or that no rule matched, or that the stream could have gone on for at most k more ticks after it"; "a
   -- further reason holds where the stream could go on for ever". The event itself is not counted.
-  pub data Says (e : Event) : Reason → Type 0 where
-    by-rule : {i : ℕ} {r : Rule} → decider (p .rules) (looked unlimited p s) e ≡ some i → decides (p .rules) (looked unlimited p s) e ≡ some r → r .target ≡ 255 → Says e (rule i)
-    by-none : decides (p .rules) (looked unlimited p s) e ≡ none → Says e unmatched
-    by-ticks : {k : ℕ} {t : Place} → step unlimited p s e ≡ some t → TicksLeft p t k → Says e (ticks k)
-    by-rests : {k : ℕ} {t : Place} → step unlimited p s e ≡ some t → RestsLeft p t k → Says e (rests k)
+  pub data SaysWhy (e : Event) : Reason → Type 0 where
+    by-rule : {i : ℕ} {r : Rule} → decider (p .rules) (looked unlimited p s) e ≡ some i → decides (p .rules) (looked unlimited p s) e ≡ some r → r .target ≡ 255 → SaysWhy e (rule i)
+    by-none : decides (p .rules) (looked unlimited p s) e ≡ none → SaysWhy e unmatched
+    by-ticks : {k : ℕ} {t : Place} → step unlimited p s e ≡ some t → TicksLeft p t k → SaysWhy e (ticks k)
+    by-rests : {k : ℕ} {t : Place} → step unlimited p s e ≡ some t → RestsLeft p t k → SaysWhy e (rests k)
 
   -- "For an input, the greatest k over all outputs, or that every output is a violation at once, with the reason for the lowest output." A count of rests "goes
   -- before a count of ticks, with the greatest such k". The outputs are those below n.
   pub data SaysIn (n x : ℕ) : Reason → Type 0 where
-    most-rests : {k y : ℕ} → y < n → Says (eventXY x y) (rests k) → ((z j : ℕ) → z < n → Says (eventXY x z) (rests j) → j ≤ k) → SaysIn n x (rests k)
-    most-ticks : {k y : ℕ} → y < n → Says (eventXY x y) (ticks k) → ((z j : ℕ) → z < n → Says (eventXY x z) (ticks j) → j ≤ k) →
+    most-rests : {k y : ℕ} → y < n → SaysWhy (eventXY x y) (rests k) → ((z j : ℕ) → z < n → SaysWhy (eventXY x z) (rests j) → j ≤ k) → SaysIn n x (rests k)
+    most-ticks : {k y : ℕ} → y < n → SaysWhy (eventXY x y) (ticks k) → ((z j : ℕ) → z < n → SaysWhy (eventXY x z) (ticks j) → j ≤ k) →
         ((z : ℕ) (t : Place) → z < n → step unlimited p s (eventXY x z) ≡ some t → Lasting p t → ⊥) → SaysIn n x (ticks k)
-    at-once : {r : Reason} → ((z : ℕ) → z < n → step unlimited p s (eventXY x z) ≡ none) → Says (eventXY x 0) r → SaysIn n x r
+    at-once : {r : Reason} → ((z : ℕ) → z < n → step unlimited p s (eventXY x z) ≡ none) → SaysWhy (eventXY x 0) r → SaysIn n x r
 
 -- "It is .. given exactly for an edited half."
 pub data Given (says : Reason → Type 0) (wanted released : ℕ) : Reason → Type 0 where
@@ -81,7 +81,7 @@ pub record Explained (p : Policy) (marks : List ℕ) (s : Place) (x y : ℕ) (in
   pub passed : inputChoice p marks s x ≡ some x'
   pub released : outputChoice p marks s x' y ≡ some y'
   pub for-input : Given (SaysIn p s (outputValues p) x) x x' input
-  pub for-output : Given (Says p s (eventXY x' y)) y y' output
+  pub for-output : Given (SaysWhy p s (eventXY x' y)) y y' output
 
 -- ---- One reason alone is true.
 module _ {p : Policy} {t : Place} where
@@ -132,7 +132,7 @@ same : {A : Type 0} {d : Option A} {a b : A} → d ≡ some a → d ≡ some b �
 same {a} {b} h g = Option·some-injective a b (sym h ∙ g)
 
 module _ {p : Policy} {s : Place} {e : Event} where
-  pub says-one : {r q : Reason} → Says p s e r → Says p s e q → r ≡ q
+  pub says-one : {r q : Reason} → SaysWhy p s e r → SaysWhy p s e q → r ≡ q
   says-one (by-rule i d t) (by-rule j c u) = ap rule (same i j)
   says-one (by-rule i d t) (by-none n) = absurd (clash n d)
   says-one (by-rule i d t) (by-ticks h g) = absurd (clash (rule-stops p s e d t) h)
@@ -151,20 +151,20 @@ module _ {p : Policy} {s : Place} {e : Event} where
   says-one (by-rests {k = k} h g) (by-rests c f) = ap rests (rests-one (subst (λ (t : Place). RestsLeft p t k) (same h c) g) f)
 
   -- The next place, if ticks or rests are said.
-  pub ticks-next : {k : ℕ} → Says p s e (ticks k) → (t : Place) × (step unlimited p s e ≡ some t) × TicksLeft p t k
+  pub ticks-next : {k : ℕ} → SaysWhy p s e (ticks k) → (t : Place) × (step unlimited p s e ≡ some t) × TicksLeft p t k
   ticks-next (by-ticks {t = t} h g) = (t, h, g)
 
-  pub rests-next : {k : ℕ} → Says p s e (rests k) → (t : Place) × (step unlimited p s e ≡ some t) × RestsLeft p t k
+  pub rests-next : {k : ℕ} → SaysWhy p s e (rests k) → (t : Place) × (step unlimited p s e ≡ some t) × RestsLeft p t k
   rests-next (by-rests {t = t} h g) = (t, h, g)
 
-  some-kind : {r : Reason} → Says p s e r → 0 < kindOf r
+  some-kind : {r : Reason} → SaysWhy p s e r → 0 < kindOf r
   some-kind (by-rule i d t) = omega arith
   some-kind (by-none n) = omega arith
   some-kind (by-ticks h g) = omega arith
   some-kind (by-rests h g) = omega arith
 
   -- A kept half has no reason of its own.
-  pub never-kept : Says p s e kept → ⊥
+  pub never-kept : SaysWhy p s e kept → ⊥
   never-kept h = omega (arith, some-kind h)
 
 module _ {p : Policy} {s : Place} {n x : ℕ} where
@@ -194,6 +194,6 @@ explained-one {p} {marks} {s} {x} {y} {q = q} h g =
     let b = Option·some-injective (h .y') (g .y') (sym r ∙ g .released) in (
       given-one (λ a b. says-in-one) (h .for-input) (subst (λ (z : ℕ). Given (SaysIn p s (outputValues p) x) x z _) (sym a) (g .for-input)),
       given-one (λ a b. says-one) (h .for-output)
-          (subst (λ (z : ℕ). Given (Says p s (eventXY (h .x') y)) y z q) (sym b)
-          (subst (λ (z : ℕ). Given (Says p s (eventXY z y)) y (g .y') q) (sym a) (g .for-output))),
+          (subst (λ (z : ℕ). Given (SaysWhy p s (eventXY (h .x') y)) y z q) (sym b)
+          (subst (λ (z : ℕ). Given (SaysWhy p s (eventXY z y)) y (g .y') q) (sym a) (g .for-output))),
     )

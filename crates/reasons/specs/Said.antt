@@ -11,7 +11,7 @@ use lib.ListN.{getD}
 use Rattle.streams.specs.Stream.{Event}
 use Rattle.policy.specs.Rules.{Rule, Policy, Place, unlimited, stopped, decides, looked, taken, step}
 use Rattle.policy.specs.File.{ruleSize}
-use Rattle.policy.specs.Stopped.{stop}
+use Rattle.policy.specs.Stop.{stop}
 use Rattle.policy.specs.Number.{states, numberOf}
 use Rattle.policy.specs.Sound.{WellFormed, In, Inside}
 use Rattle.policy.specs.Stays.{stop-same}
@@ -21,7 +21,8 @@ use Rattle.policy.specs.declared.Layout.{Layout}
 use Rattle.enforcer.specs.Code.{eventXY, decider}
 use Rattle.enforcer.specs.Tick.{arrives, reaches}
 use Rattle.enforcer.specs.Ready.{Laid}
-use Rattle.enforcer.specs.Pass.{Led, Ahead, RuleAt, ahead-rule, ahead-rest}
+use Rattle.enforcer.specs.Pass.{Led}
+use Rattle.enforcer.specs.RuleAhead.{Ahead, RuleAt, ahead-rule, ahead-rest}
 use Rattle.resting.specs.Table.{bit}
 use Rattle.resting.specs.Marks.{bit-le}
 use Rattle.resting.specs.Machine.{Machine}
@@ -31,15 +32,15 @@ use Rattle.prepare.specs.Table.{machineOf, marksOf}
 use Rattle.prepare.specs.Live.{within, marks-bits}
 use Rattle.reasons.specs.Exact.{Exact, exact-few, calm, within-calm}
 use Rattle.reasons.specs.Tables.{endless, TicksTable, RestsTable}
-use Rattle.reasons.specs.Loops.{Long}
-use Rattle.reasons.specs.Reasons.{Reason, rule, unmatched, ticks, rests, countOf, Says, by-rule, by-none, by-ticks, by-rests, SaysIn}
+use Rattle.reasons.specs.Loops.{LastsLong}
+use Rattle.reasons.specs.Reasons.{Reason, rule, unmatched, ticks, rests, countOf, SaysWhy, by-rule, by-none, by-ticks, by-rests, SaysIn}
 use Rattle.reasons.specs.Better.{better, better-few, best-first, best-more}
 use Rattle.reasons.specs.Deciding.{onFrom, decider-own, decider-same, decides-same}
 use Rattle.reasons.specs.Shown.{ticks-left, lasting, rests-left, led-some, led-none, next-shown}
 
 -- A true reason whose number is below that of the states that a policy can have.
-pub record Told (p : Policy) (s : Place) (e : Event) (r : Reason) : Type 0 where
-  pub says : Says p s e r
+pub record ToldWhy (p : Policy) (s : Place) (e : Event) (r : Reason) : Type 0 where
+  pub says : SaysWhy p s e r
   pub few : countOf r < 65536
 
 -- The same for an input, by the outputs below n.
@@ -49,31 +50,31 @@ pub record ToldIn (p : Policy) (s : Place) (n x : ℕ) (r : Reason) : Type 0 whe
 
 -- The lowest output alone, and one output more.
 module _ {p : Policy} {s : Place} {x : ℕ} where
-  pub told-first : {r : Reason} → Told p s (eventXY x 0) r → ToldIn p s 1 x r
+  pub told-first : {r : Reason} → ToldWhy p s (eventXY x 0) r → ToldIn p s 1 x r
   told-first t = record { says = best-first (t .says); few = t .few }
 
-  pub told-more : {n : ℕ} {b r : Reason} → 0 < n → ToldIn p s n x b → Told p s (eventXY x n) r → ToldIn p s (suc n) x (better b r)
+  pub told-more : {n : ℕ} {b r : Reason} → 0 < n → ToldIn p s n x b → ToldWhy p s (eventXY x n) r → ToldIn p s (suc n) x (better b r)
   told-more {b = b} {r = r} o h t = record { says = best-more o (h .says) (t .says); few = better-few b r (h .few) (t .few) }
 
 -- The tables of a policy.
-pub record Counts (p : Policy) (T R : List ℕ) : Type 0 where
+pub record CountsOf (p : Policy) (T R : List ℕ) : Type 0 where
   pub ticks : TicksTable (machineOf p) T
   pub rests : RestsTable (machineOf p) R
 
 -- What they say of a state that is not live.
-pub data Counted (a : Machine) (n : ℕ) : Reason → Type 0 where
-  ends : {k : ℕ} → Exact (calm a) k n → Counted a n (ticks k)
-  lasts : {k : ℕ} → Long a n → Exact a k n → Counted a n (rests k)
+pub data SaidCount (a : Machine) (n : ℕ) : Reason → Type 0 where
+  ends : {k : ℕ} → Exact (calm a) k n → SaidCount a n (ticks k)
+  lasts : {k : ℕ} → LastsLong a n → Exact a k n → SaidCount a n (rests k)
 
-module _ {p : Policy} (ok : WellFormed p) {T R : List ℕ} (c : Counts p T R) {n : ℕ} (l : n < states p) where
+module _ {p : Policy} (ok : WellFormed p) {T R : List ℕ} (c : CountsOf p T R) {n : ℕ} (l : n < states p) where
   -- An entry below that of a state without an end is one more than the number of ticks.
-  pub counted-ticks : getD T n 0 < endless → Counted (machineOf p) n (ticks (getD T n 0 - 1)) × (0 < getD T n 0)
+  pub counted-ticks : getD T n 0 < endless → SaidCount (machineOf p) n (ticks (getD T n 0 - 1)) × (0 < getD T n 0)
   counted-ticks h =
       ⊎-elim (λ q. absurd (omega (arith, q .0)))
-      (λ x. (subst (λ (k : ℕ). Counted (machineOf p) n (ticks k)) (omega (arith, x .1)) (ends (x .2)), omega (arith, x .1))) (c .ticks .each n l)
+      (λ x. (subst (λ (k : ℕ). SaidCount (machineOf p) n (ticks k)) (omega (arith, x .1)) (ends (x .2)), omega (arith, x .1))) (c .ticks .each n l)
 
   -- Else the other table has the state's own rest and those after it.
-  pub counted-rests : endless ≤ getD T n 0 → getD (marksOf p) n 0 ≡ 0 → {k : ℕ} → getD R n 0 ≡ bit (machineOf p .rest n) + k → Counted (machineOf p) n (rests k)
+  pub counted-rests : endless ≤ getD T n 0 → getD (marksOf p) n 0 ≡ 0 → {k : ℕ} → getD R n 0 ≡ bit (machineOf p .rest n) + k → SaidCount (machineOf p) n (rests k)
   counted-rests h z {k} e =
       let x = c .rests .each n l z in
       ⊎-elim (λ q. lasts (q .1) (subst (λ (j : ℕ). Exact (machineOf p) j n) (omega (arith, x .1)) (x .2)))
@@ -114,11 +115,11 @@ module _ (p : Policy) (ok : WellFormed p) (s : Place) (i : Inside p s) (e : Even
       sym (decider-same p s e (well-checked p ok)) ∙ ap (λ (t : Place). decider (p .rules) (looked stopped p t) e) (stop-same p s i)
       ∙ decider-own (looked stopped p s) e (well-rising p ok) ∙ ap (onFrom (below (s .location) (p .rules))) q
 
-  pub told-none : decides (own (s .location) (p .rules)) (looked stopped p s) e ≡ none → Told p s e unmatched
+  pub told-none : decides (own (s .location) (p .rules)) (looked stopped p s) e ≡ none → ToldWhy p s e unmatched
   told-none q = record { says = by-none (looked-as q); few = omega arith }
 
   module _ {r : Rule} (q : decides (own (s .location) (p .rules)) (looked stopped p s) e ≡ some r) where
-    pub told-rule : {j to n : ℕ} → decider (own (s .location) (p .rules)) (looked stopped p s) e ≡ some j → Led s p r false to → below (s .location) (p .rules) + j ≡ n → n < 65536 → Told p s e (rule n)
+    pub told-rule : {j to n : ℕ} → decider (own (s .location) (p .rules)) (looked stopped p s) e ≡ some j → Led s p r false to → below (s .location) (p .rules) + j ≡ n → n < 65536 → ToldWhy p s e (rule n)
     told-rule d w c few = record { says = by-rule (decider-as d ∙ ap some c) (looked-as q) (led-none w); few = few }
 
     -- It leads to the state with the number `to`.
@@ -131,7 +132,7 @@ module _ (p : Policy) (ok : WellFormed p) (s : Place) (i : Inside p s) (e : Even
           let u = next-shown p ok i e {t = t .0} (ap (λ (o : Option Rule). bind o (taken stopped p s)) d ∙ t .1) in
           (u .0, u .1, ap (numberOf p) (u .2) ∙ t .2, u .3)
 
-      pub told-counted : {q : Reason} → Counted (machineOf p) to q → Told p s e q
+      pub told-counted : {q : Reason} → SaidCount (machineOf p) to q → ToldWhy p s e q
       told-counted (ends x) =
           let u = stepped in
           record {
@@ -143,7 +144,7 @@ module _ (p : Policy) (ok : WellFormed p) (s : Place) (i : Inside p s) (e : Even
           record {
             says =
                 by-rests (u .1)
-                (rests-left p ok (u .0) (u .3) (lasting p ok (u .0) (u .3) (subst (Long (machineOf p)) (sym (u .2)) long)) (subst (Exact (machineOf p) _) (sym (u .2)) x));
+                (rests-left p ok (u .0) (u .3) (lasting p ok (u .0) (u .3) (subst (LastsLong (machineOf p)) (sym (u .2)) long)) (subst (Exact (machineOf p) _) (sym (u .2)) x));
             few = omega (arith, ok .states, exact-few (machineOf p) (within p ok) (w .below refl) x);
           }
 

@@ -12,7 +12,7 @@ use borrow.Author.Tests.{eqb-true}
 use Rattle.streams.specs.Stream.{Event, Stream, Rested}
 use Rattle.streams.specs.Laws.{rested-same}
 use Rattle.policy.specs.Rules.{Rule, Policy, Place, unlimited, stopped, advance, taken, step, Runs}
-use Rattle.policy.specs.Stopped.{stop}
+use Rattle.policy.specs.Stop.{stop}
 use Rattle.policy.specs.Number.{numberOf}
 use Rattle.policy.specs.Sound.{WellFormed, In, Inside}
 use Rattle.policy.specs.Stays.{Of, step-in, stop-same}
@@ -26,7 +26,7 @@ use Rattle.prepare.specs.Table.{machineOf}
 use Rattle.prepare.specs.Live.{there-numbered, numbered-there, unlimited-step}
 use Rattle.prepare.specs.Alone.{only, only-one, only-marked}
 use Rattle.reasons.specs.Exact.{Exact, visits-down, calm, calm-length, calm-all, calm-visits}
-use Rattle.reasons.specs.Loops.{Long}
+use Rattle.reasons.specs.Loops.{LastsLong}
 use Rattle.reasons.specs.Reasons.{TicksLeft, Lasting, RestsLeft}
 
 module _ (p : Policy) (ok : WellFormed p) (t : Place) (i : In p t) where
@@ -55,7 +55,7 @@ module _ (p : Policy) (ok : WellFormed p) (t : Place) (i : In p t) where
       most v r =
           by-cases (decLt k (length v)) (λ l. absurd (x .most v (visits-down (calm a) l (calm-all a (walks v r))))) (λ g. omega arith)
 
-  pub lasting : Long a n → Lasting p t
+  pub lasting : LastsLong a n → Lasting p t
   lasting l m = let v = l m in (v .0, runs (calm-visits a (v .1)), v .2)
 
   pub rests-left : {k : ℕ} → Lasting p t → Exact a k n → RestsLeft p t k

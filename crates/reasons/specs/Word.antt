@@ -5,7 +5,7 @@ use native.Mathlib.Omega.{arith}
 use Rattle.streams.specs.Answer.{Answer, refused, gives}
 use Rattle.reasons.specs.Reasons.{Reason, kept, rule, unmatched, ticks, rests, kindOf, countOf}
 use Rattle.reasons.specs.Entry.{Reasons}
-use Rattle.reasons.specs.Promise.{Small}
+use Rattle.reasons.specs.Promise.{SmallReasons}
 
 -- The input's kind from bit 8 on and its number from bit 16 on, the output's kind from bit 32 on and its number from bit 40 on.
 abbrev pub reasonsWord : Reasons → ℕ
@@ -30,7 +30,7 @@ kind-few unmatched = omega arith
 kind-few (ticks k) = omega arith
 kind-few (rests k) = omega arith
 
-pub why-fields : (r : Reasons) → Small (gives r) → WhyFields r (whyWord (gives r))
+pub why-fields : (r : Reasons) → SmallReasons (gives r) → WhyFields r (whyWord (gives r))
 why-fields r h =
     let i = kind-few (r .input) in
     let o = kind-few (r .output) in

@@ -5,9 +5,9 @@ use crate::refusals::refusal;
 use enforcer::State;
 ghost use mathlib.Core.Path.{_≡_};
 ghost use lib.ListN.{length};
-ghost use Rattle.reasons.specs.Promise.{WhyPromise, Small, answerSaid};
+ghost use Rattle.reasons.specs.Promise.{WhyPromise, SmallReasons, answerSaid};
 
-pub enum Answer {
+pub enum WhyAnswer {
     Gives(Reasons),
     Refused(u8),
 }
@@ -22,18 +22,18 @@ fn explain(
     y: u8,
     ticks: &mut [u32],
     rests: &mut [u32],
-) -> Answer
+) -> WhyAnswer
     requires { ⌜ (length (now ticks) ≡ 65536) × (length (now rests) ≡ 65536) ⌝ }
-    ensures { λ r. ⌜ WhyPromise reading (now (file .entry)) (now (marks .entry)) state x y r × Small (answerSaid r) ⌝ }
+    ensures { λ r. ⌜ WhyPromise reading (now (file .entry)) (now (marks .entry)) state x y r × SmallReasons (answerSaid r) ⌝ }
 {
     let checked = policy::check_under(reading, file);
     let r = refusal(reading, file, checked, marks, state, x, y, ticks, rests);
     if r != 0 {
-        return Answer::Refused(r);
+        return WhyAnswer::Refused(r);
     }
     let layout = checked.layout;
     let states = layout.states;
-    Answer::Gives(reasons(
+    WhyAnswer::Gives(reasons(
         file,
         layout,
         marks,
@@ -54,15 +54,15 @@ fn explain_in(
     y: u8,
     ticks: &mut [u32; State::STATES],
     rests: &mut [u32; State::STATES],
-) -> Answer
-    ensures { λ r. ⌜ WhyPromise reading (now (file .entry)) (now (marks .entry)) state x y r × Small (answerSaid r) ⌝ }
+) -> WhyAnswer
+    ensures { λ r. ⌜ WhyPromise reading (now (file .entry)) (now (marks .entry)) state x y r × SmallReasons (answerSaid r) ⌝ }
 {
     explain(reading, file, marks, state, x, y, ticks, rests)
 }
 
 // The reasons for x and y as read. The counts of all states stand in tables of its own, 512 KB on the stack, beside the room of `count`.
-pub fn why(reading: u8, file: &[u8], marks: &[u8], state: State, x: u8, y: u8) -> Answer
-    ensures { λ r. ⌜ WhyPromise reading (now (file .entry)) (now (marks .entry)) state x y r × Small (answerSaid r) ⌝ }
+pub fn why(reading: u8, file: &[u8], marks: &[u8], state: State, x: u8, y: u8) -> WhyAnswer
+    ensures { λ r. ⌜ WhyPromise reading (now (file .entry)) (now (marks .entry)) state x y r × SmallReasons (answerSaid r) ⌝ }
 {
     let mut ticks = [0u32; State::STATES];
     let mut rests = [0u32; State::STATES];

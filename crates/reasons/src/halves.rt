@@ -3,7 +3,7 @@ use crate::reason::Reason;
 use crate::reason::Reasons;
 use crate::tell::reason_for_input;
 use crate::tell::reason_of;
-use enforcer::Answer;
+use enforcer::HalfAnswer;
 use enforcer::Here;
 use enforcer::State;
 use enforcer::here_by;
@@ -18,24 +18,24 @@ ghost use Rattle.policy.specs.Rules.{inputValues, outputValues};
 ghost use Rattle.policy.specs.File.{policyOf};
 ghost use Rattle.policy.specs.Number.{numberOf};
 ghost use Rattle.policy.specs.Sound.{Inside};
-ghost use Rattle.enforcer.specs.State.{isMarked};
+ghost use Rattle.enforcer.specs.State.{isMarked, place};
 ghost use Rattle.enforcer.specs.Tick.{reaches};
-ghost use Rattle.enforcer.specs.Code.{eventXY, place};
+ghost use Rattle.enforcer.specs.Code.{eventXY};
 ghost use Rattle.enforcer.specs.Ready.{Laid, HereOf, Standing};
 ghost use Rattle.enforcer.specs.Promises.{answerSaid};
 ghost use Rattle.prepare.specs.Table.{marksOf};
-ghost use Rattle.prepare.specs.Enforces.{Prepared};
-ghost use Rattle.reasons.specs.Said.{Counts};
+ghost use Rattle.prepare.specs.Enforcing.{AsPrepared};
+ghost use Rattle.reasons.specs.Said.{CountsOf};
 ghost use Rattle.reasons.specs.Halves.{valueOr, GivenIn, GivenOut, BothTold};
 ghost use Rattle.reasons.specs.Promise.{reasonSaid, bothSaid};
 
 // The value of an answer, or another one.
-fn value_or(answer: Answer, other: u8) -> u8
+fn value_or(answer: HalfAnswer, other: u8) -> u8
     ensures { λ r. ⌜ r ≡ valueOr (answerSaid answer) other ⌝ }
 {
     match answer {
-        Answer::Value(z) => z,
-        Answer::Refused(_) => other,
+        HalfAnswer::Value(z) => z,
+        HalfAnswer::Refused(_) => other,
     }
 }
 
@@ -51,7 +51,7 @@ fn for_input(
     passed: u8,
 ) -> Reason
     requires { ⌜ Laid (now file) layout × HereOf (now file) layout state here × Inside (policyOf (layout .reading) (now file)) (place (layout .clocks) state) ⌝ }
-    requires { ⌜ Counts (policyOf (layout .reading) (now file)) (now ticks) (now rests) × ((x ≡ passed → ⊥) → (y : ℕ) → y < outputValues (policyOf (layout .reading) (now file)) → reaches (policyOf (layout .reading) (now file)) (marksOf (policyOf (layout .reading) (now file))) (place (layout .clocks) state) x y ≡ false) ⌝ }
+    requires { ⌜ CountsOf (policyOf (layout .reading) (now file)) (now ticks) (now rests) × ((x ≡ passed → ⊥) → (y : ℕ) → y < outputValues (policyOf (layout .reading) (now file)) → reaches (policyOf (layout .reading) (now file)) (marksOf (policyOf (layout .reading) (now file))) (place (layout .clocks) state) x y ≡ false) ⌝ }
     ensures { λ r. ⌜ GivenIn (policyOf (layout .reading) (now (file .entry))) (place (layout .clocks) state) x passed (reasonSaid r) ⌝ }
 {
     if x == passed {
@@ -74,7 +74,7 @@ fn for_output(
     released: u8,
 ) -> Reason
     requires { ⌜ Laid (now file) layout × HereOf (now file) layout state here × Inside (policyOf (layout .reading) (now file)) (place (layout .clocks) state) ⌝ }
-    requires { ⌜ Counts (policyOf (layout .reading) (now file)) (now ticks) (now rests) × ((y ≡ released → ⊥) → reaches (policyOf (layout .reading) (now file)) (marksOf (policyOf (layout .reading) (now file))) (place (layout .clocks) state) x y ≡ false) ⌝ }
+    requires { ⌜ CountsOf (policyOf (layout .reading) (now file)) (now ticks) (now rests) × ((y ≡ released → ⊥) → reaches (policyOf (layout .reading) (now file)) (marksOf (policyOf (layout .reading) (now file))) (place (layout .clocks) state) x y ≡ false) ⌝ }
     ensures { λ r. ⌜ GivenOut (policyOf (layout .reading) (now (file .entry))) (place (layout .clocks) state) x y released (reasonSaid r) ⌝ }
 {
     if y == released {
@@ -95,8 +95,8 @@ pub fn reasons(
     x: u8,
     y: u8,
 ) -> Reasons
-    requires { ⌜ Standing (now file) layout (now marks) state × Prepared (policyOf (layout .reading) (now file)) (now marks) × (isMarked (now marks) (numberOf (policyOf (layout .reading) (now file)) (place (layout .clocks) state)) ≡ true) ⌝ }
-    requires { ⌜ Counts (policyOf (layout .reading) (now file)) (now ticks) (now rests) × (x < inputValues (policyOf (layout .reading) (now file))) × (y < outputValues (policyOf (layout .reading) (now file))) ⌝ }
+    requires { ⌜ Standing (now file) layout (now marks) state × AsPrepared (policyOf (layout .reading) (now file)) (now marks) × (isMarked (now marks) (numberOf (policyOf (layout .reading) (now file)) (place (layout .clocks) state)) ≡ true) ⌝ }
+    requires { ⌜ CountsOf (policyOf (layout .reading) (now file)) (now ticks) (now rests) × (x < inputValues (policyOf (layout .reading) (now file))) × (y < outputValues (policyOf (layout .reading) (now file))) ⌝ }
     ensures { λ r. ⌜ BothTold (policyOf (layout .reading) (now (file .entry))) (now (marks .entry)) (place (layout .clocks) state) x y (bothSaid r) ⌝ }
 {
     let own = own_of(file, layout, state);

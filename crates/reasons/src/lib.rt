@@ -12,7 +12,7 @@ mod tell;
 mod words;
 
 pub use counts::count;
-pub use entry::Answer;
+pub use entry::WhyAnswer;
 pub use entry::why;
 pub use halves::reasons;
 pub use reason::Reason;

@@ -8,7 +8,6 @@ use policy::Checked;
 ghost use mathlib.Core.Path.{_≡_};
 ghost use lib.ListN.{length};
 ghost use Rattle.policy.specs.Layout.{checkedUnder};
-ghost use Rattle.enforcer.specs.Code.{asPlace};
 ghost use Rattle.reasons.specs.Granted.{Refuses};
 
 // The first refusal that is given, or 0; then the tables begin with the counts of the states.
@@ -24,7 +23,7 @@ pub(crate) fn refusal(
     rests: &mut [u32],
 ) -> u8
     requires { ⌜ (checked ≡ checkedUnder reading (now file)) × (length (now ticks) ≡ 65536) × (length (now rests) ≡ 65536) ⌝ }
-    ensures { λ r. ⌜ Refuses reading (now (file .entry)) (now (marks .entry)) (asPlace state) x y r (now (ticks .exit)) (now (rests .exit)) ⌝ }
+    ensures { λ r. ⌜ Refuses reading (now (file .entry)) (now (marks .entry)) state x y r (now (ticks .exit)) (now (rests .exit)) ⌝ }
 {
     let r = marks_refusal(checked, marks);
     if r != 0 {

@@ -19,10 +19,11 @@ ghost use Rattle.policy.specs.File.{policyOf, rulesFrom};
 ghost use Rattle.policy.specs.Number.{states};
 ghost use Rattle.policy.specs.Sound.{Inside};
 ghost use Rattle.enforcer.specs.Tick.{reaches};
-ghost use Rattle.enforcer.specs.Code.{eventXY, place, decider, foundSaid};
+ghost use Rattle.enforcer.specs.Code.{eventXY, decider, foundSaid};
+ghost use Rattle.enforcer.specs.State.{place};
 ghost use Rattle.enforcer.specs.Ready.{Laid, HereOf};
 ghost use Rattle.prepare.specs.Table.{machineOf, marksOf};
-ghost use Rattle.reasons.specs.Said.{Told, ToldIn, Counts, Counted};
+ghost use Rattle.reasons.specs.Said.{ToldWhy, ToldIn, CountsOf, SaidCount};
 ghost use Rattle.reasons.specs.Promise.{reasonSaid};
 
 // The rule that decides the event x, y, by its number among the location's own.
@@ -39,8 +40,8 @@ fn decided(file: &[u8], layout: Layout, here: Here, state: State, x: u8, y: u8) 
 
 // What the tables say of the state with the number, which is not live.
 fn left_at(file: &[u8], layout: Layout, ticks: &[u32], rests: &[u32], number: usize) -> Reason
-    requires { ⌜ Laid (now file) layout × Counts (policyOf (layout .reading) (now file)) (now ticks) (now rests) × (number < states (policyOf (layout .reading) (now file))) × (getD (marksOf (policyOf (layout .reading) (now file))) number 0 ≡ 0) ⌝ }
-    ensures { λ r. ⌜ Counted (machineOf (policyOf (layout .reading) (now (file .entry)))) number (reasonSaid r) ⌝ }
+    requires { ⌜ Laid (now file) layout × CountsOf (policyOf (layout .reading) (now file)) (now ticks) (now rests) × (number < states (policyOf (layout .reading) (now file))) × (getD (marksOf (policyOf (layout .reading) (now file))) number 0 ≡ 0) ⌝ }
+    ensures { λ r. ⌜ SaidCount (machineOf (policyOf (layout .reading) (now (file .entry)))) number (reasonSaid r) ⌝ }
 {
     let k = ticks[number];
     if k < ENDLESS {
@@ -68,8 +69,8 @@ pub(crate) fn reason_of(
     y: u8,
 ) -> Reason
     requires { ⌜ Laid (now file) layout × HereOf (now file) layout state here × Inside (policyOf (layout .reading) (now file)) (place (layout .clocks) state) ⌝ }
-    requires { ⌜ Counts (policyOf (layout .reading) (now file)) (now ticks) (now rests) × (reaches (policyOf (layout .reading) (now file)) (marksOf (policyOf (layout .reading) (now file))) (place (layout .clocks) state) x y ≡ false) ⌝ }
-    ensures { λ r. ⌜ Told (policyOf (layout .reading) (now (file .entry))) (place (layout .clocks) state) (eventXY x y) (reasonSaid r) ⌝ }
+    requires { ⌜ CountsOf (policyOf (layout .reading) (now file)) (now ticks) (now rests) × (reaches (policyOf (layout .reading) (now file)) (marksOf (policyOf (layout .reading) (now file))) (place (layout .clocks) state) x y ≡ false) ⌝ }
+    ensures { λ r. ⌜ ToldWhy (policyOf (layout .reading) (now (file .entry))) (place (layout .clocks) state) (eventXY x y) (reasonSaid r) ⌝ }
 {
     match decided(file, layout, here, state, x, y) {
         Found::Nothing => Reason::Unmatched,
@@ -100,7 +101,7 @@ pub(crate) fn reason_for_input(
     x: u8,
 ) -> Reason
     requires { ⌜ Laid (now file) layout × HereOf (now file) layout state here × Inside (policyOf (layout .reading) (now file)) (place (layout .clocks) state) ⌝ }
-    requires { ⌜ Counts (policyOf (layout .reading) (now file)) (now ticks) (now rests) × ((y : ℕ) → y < outputValues (policyOf (layout .reading) (now file)) → reaches (policyOf (layout .reading) (now file)) (marksOf (policyOf (layout .reading) (now file))) (place (layout .clocks) state) x y ≡ false) ⌝ }
+    requires { ⌜ CountsOf (policyOf (layout .reading) (now file)) (now ticks) (now rests) × ((y : ℕ) → y < outputValues (policyOf (layout .reading) (now file)) → reaches (policyOf (layout .reading) (now file)) (marksOf (policyOf (layout .reading) (now file))) (place (layout .clocks) state) x y ≡ false) ⌝ }
     ensures { λ r. ⌜ ToldIn (policyOf (layout .reading) (now (file .entry))) (place (layout .clocks) state) (outputValues (policyOf (layout .reading) (now (file .entry)))) x (reasonSaid r) ⌝ }
 {
     let outputs = values(layout.outputs);

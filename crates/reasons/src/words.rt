@@ -1,5 +1,5 @@
 // An answer as one number, for the C interface.
-use crate::entry::Answer;
+use crate::entry::WhyAnswer;
 use crate::reason::Reason;
 use crate::reason::Reasons;
 use crate::reason::kind;
@@ -7,7 +7,7 @@ use crate::reason::number;
 ghost use mathlib.Core.Path.{_≡_};
 ghost use Prim.Native.Nat.{_+_, _*_, _<_};
 ghost use Rattle.reasons.specs.Reasons.{kindOf, countOf};
-ghost use Rattle.reasons.specs.Promise.{reasonSaid, answerSaid, Small};
+ghost use Rattle.reasons.specs.Promise.{reasonSaid, answerSaid, SmallReasons};
 ghost use Rattle.reasons.specs.Word.{whyWord};
 
 // A reason's number above its kind.
@@ -19,8 +19,8 @@ fn field(reason: Reason) -> u64
 }
 
 fn both(reasons: Reasons) -> u64
-    requires { ⌜ Small (answerSaid (Answer.Gives reasons)) ⌝ }
-    ensures { λ r. ⌜ r ≡ whyWord (answerSaid (Answer.Gives reasons)) ⌝ }
+    requires { ⌜ SmallReasons (answerSaid (WhyAnswer.Gives reasons)) ⌝ }
+    ensures { λ r. ⌜ r ≡ whyWord (answerSaid (WhyAnswer.Gives reasons)) ⌝ }
 {
     let input = reasons.input;
     let output = reasons.output;
@@ -28,12 +28,12 @@ fn both(reasons: Reasons) -> u64
 }
 
 // The refusal, or the two reasons.
-pub fn word(answer: Answer) -> u64
-    requires { ⌜ Small (answerSaid answer) ⌝ }
+pub fn word(answer: WhyAnswer) -> u64
+    requires { ⌜ SmallReasons (answerSaid answer) ⌝ }
     ensures { λ r. ⌜ r ≡ whyWord (answerSaid answer) ⌝ }
 {
     match answer {
-        Answer::Gives(reasons) => both(reasons),
-        Answer::Refused(n) => n as u64,
+        WhyAnswer::Gives(reasons) => both(reasons),
+        WhyAnswer::Refused(n) => n as u64,
     }
 }

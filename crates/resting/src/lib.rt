@@ -1,1 +1,1 @@
-// There is no code here: see specs/.
+// Which states come to rest again and again, decided by tables. There is no code here: see specs/.

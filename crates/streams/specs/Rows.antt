@@ -12,8 +12,11 @@ use lib.Dec.{eqb, ltb}
 use lib.ListN.{length, getD, take, drop}
 use lib.Seq.{drop-drop}
 use borrow.Author.Tests.{ltb-true, eqb-true, eqb-false, lt-ltb}
-use Rattle.streams.specs.Corrections.{corrections, nearer, nearer-true, nearer-apart, corrections-reflexive, corrections-transitive}
-use Rattle.streams.specs.Choose.{nearest, Among, nearest-found, nearest-nothing}
+use Rattle.streams.specs.Corrections.{corrections}
+use Rattle.streams.specs.CorrectionsLaws.{nearer-true, nearer-apart, corrections-reflexive, corrections-transitive}
+use Rattle.streams.specs.Nearness.{nearer}
+use Rattle.streams.specs.Choose.{nearest, Among}
+use Rattle.streams.specs.ChooseLaws.{nearest-found, nearest-nothing}
 
 -- "take the first that may stand. With fewer signals, entries out of range are passed over."
 unfoldable pub firstOf : (ℕ → Bool) → ℕ → List ℕ → Option ℕ

@@ -13,45 +13,46 @@ use Rattle.policy.specs.Number.{numberOf}
 use Rattle.policy.specs.Sound.{Inside}
 use Rattle.policy.specs.Checked.{well-sound}
 use Rattle.policy.specs.declared.Layout.{Layout}
-use Rattle.enforcer.specs.State.{isMarked}
-use Rattle.enforcer.specs.Tick.{Tick, tick}
+use Rattle.enforcer.specs.State.{isMarked, place, stateOf}
+use Rattle.enforcer.specs.Tick.{ReleasedTick, tick}
 use Rattle.enforcer.specs.Tick as Spec
-use Rattle.enforcer.specs.Ticks.{Ticked, ticked, ticked-fits}
+use Rattle.enforcer.specs.Ticks.{TickedBy, ticked, ticked-fits}
 use Rattle.enforcer.specs.Entries.{OutputAnswer, inputPast, outputPast}
-use Rattle.enforcer.specs.Code.{eventXY, asPlace, place, stateFrom}
+use Rattle.enforcer.specs.Code.{eventXY}
 use Rattle.enforcer.specs.Ready.{Standing}
 use Rattle.enforcer.specs.Laid.{laid-well, laid-inputs, laid-outputs, place-back}
 use Rattle.enforcer.specs.Promises.{answerSaid, outputSaid}
 use Rattle.enforcer.specs.declared.state.State.{State}
-use Rattle.enforcer.specs.declared.halves.Answer.{Answer as Given}
+use Rattle.enforcer.specs.declared.halves.HalfAnswer.{HalfAnswer as Given}
 use Rattle.enforcer.specs.declared.halves.Output.{Output}
-use Rattle.prepare.specs.Enforces.{Prepared, Ready, tick-ready, ticked-ready, output-ticked}
+use Rattle.prepare.specs.Enforces.{tick-ready, ticked-ready, output-ticked}
+use Rattle.prepare.specs.Enforcing.{AsPrepared, MarkedPlace}
 use Rattle.reasons.specs.Edited.{input-answer}
 use Rattle.reasons.specs.Halves.{valueOr}
 
 -- In range and live, by the marks of prepare.
 pub record Asked (f : List ℕ) (l : Layout) (marks : List ℕ) (s : State) : Type 0 where
   pub standing : Standing f l marks s
-  pub prepared : Prepared (policyOf (l .reading) f) marks
+  pub prepared : AsPrepared (policyOf (l .reading) f) marks
   pub live : isMarked marks (numberOf (policyOf (l .reading) f) (place (l .clocks) s)) ≡ true
 
 -- The tick for x and y as read releases x' and y', and the state after it is the next.
 pub record ReleasedBy (f : List ℕ) (l : Layout) (marks : List ℕ) (s : State) (x y x' y' : ℕ) (next : State) : Type 0 where
-  pub tick : Tick
+  pub tick : ReleasedTick
   pub ticks : Spec.tick (policyOf (l .reading) f) marks (place (l .clocks) s) (eventXY x y) ≡ some tick
   pub is-x : x' ≡ tick .event .x
   pub is-y : y' ≡ tick .event .y
-  pub state : next ≡ stateFrom (tick .place)
+  pub state : next ≡ stateOf (tick .place)
 
 module _ {f : List ℕ} {l : Layout} {marks : List ℕ} {s : State} (k : Asked f l marks s) where
-  abbrev ready : Ready (policyOf (l .reading) f) marks (place (l .clocks) s)
+  abbrev ready : MarkedPlace (policyOf (l .reading) f) marks (place (l .clocks) s)
   ready = record { inside = k .standing .inside; marked = k .live }
 
   module _ {x y x' y' : ℕ} {next : State} (r : ReleasedBy f l marks s x y x' y' next) where
-    parts : Ticked (policyOf (l .reading) f) marks (place (l .clocks) s) (eventXY x y) (r .tick)
+    parts : TickedBy (policyOf (l .reading) f) marks (place (l .clocks) s) (eventXY x y) (r .tick)
     parts = ticked (policyOf (l .reading) f) marks (place (l .clocks) s) (eventXY x y) (r .tick) (r .ticks)
 
-    after : Ready (policyOf (l .reading) f) marks (r .tick .place)
+    after : MarkedPlace (policyOf (l .reading) f) marks (r .tick .place)
     after =
         ticked-ready (policyOf (l .reading) f) marks (place (l .clocks) s) (eventXY x y) (r .tick)
         (well-sound (policyOf (l .reading) f) (laid-well (k .standing .laid))) (k .standing .inside) parts
@@ -76,20 +77,20 @@ module _ {f : List ℕ} {l : Layout} {marks : List ℕ} {s : State} (k : Asked f
 
   -- The tick that there is, and what the two halves say of it.
   module _ (x y : ℕ) (u : x < inputValues (policyOf (l .reading) f)) (v : y < outputValues (policyOf (l .reading) f)) where
-    abbrev found : (t : Tick) × (tick (policyOf (l .reading) f) marks (place (l .clocks) s) (eventXY x y) ≡ some t) × Ready (policyOf (l .reading) f) marks (t .place)
+    abbrev found : (t : ReleasedTick) × (tick (policyOf (l .reading) f) marks (place (l .clocks) s) (eventXY x y) ≡ some t) × MarkedPlace (policyOf (l .reading) f) marks (t .place)
     found = tick-ready (policyOf (l .reading) f) (laid-well (k .standing .laid)) marks (k .prepared) ready (eventXY x y)
 
-    abbrev pub it : Tick
+    abbrev pub it : ReleasedTick
     it = found .0
 
-    its : Ticked (policyOf (l .reading) f) marks (place (l .clocks) s) (eventXY x y) it
+    its : TickedBy (policyOf (l .reading) f) marks (place (l .clocks) s) (eventXY x y) it
     its = ticked (policyOf (l .reading) f) marks (place (l .clocks) s) (eventXY x y) it (found .1)
 
     pub passed-on : (a : Given) → answerSaid a ≡ inputPast (l .reading) f marks (place (l .clocks) s) x → valueOr (answerSaid a) x ≡ it .event .x
     passed-on a e = ap (λ (q : Answer ℕ). valueOr q x) (e ∙ input-answer (l .reading) f marks (place (l .clocks) s) x u (its .input))
 
-    pub given-out : (o : Output) → outputSaid o ≡ outputPast (l .reading) f marks (asPlace s) (place (l .clocks) s) (it .event .x) y →
-        (valueOr (answerSaid (o .answer)) y ≡ it .event .y) × (o .state ≡ stateFrom (it .place))
+    pub given-out : (o : Output) → outputSaid o ≡ outputPast (l .reading) f marks s (place (l .clocks) s) (it .event .x) y →
+        (valueOr (answerSaid (o .answer)) y ≡ it .event .y) × (o .state ≡ stateOf (it .place))
     given-out o e =
         let z = ticked-fits (policyOf (l .reading) f) marks (place (l .clocks) s) its in
         let t = output-ticked (policyOf (l .reading) f) marks (place (l .clocks) s) (eventXY x y) it its in
@@ -99,5 +100,5 @@ module _ {f : List ℕ} {l : Layout} {marks : List ℕ} {s : State} (k : Asked f
           ap (λ (a : OutputAnswer). record { location = a .state .location; clocks = a .state .clocks }) q,
         )
 
-    pub released-by : {x' y' : ℕ} {next : State} → x' ≡ it .event .x → y' ≡ it .event .y → next ≡ stateFrom (it .place) → ReleasedBy f l marks s x y x' y' next
+    pub released-by : {x' y' : ℕ} {next : State} → x' ≡ it .event .x → y' ≡ it .event .y → next ≡ stateOf (it .place) → ReleasedBy f l marks s x y x' y' next
     released-by a b c = record { tick = it; ticks = found .1; is-x = a; is-y = b; state = c }

@@ -3,7 +3,7 @@ use mathlib.Core.Path.{_≡_, refl, sym, ap, _∙_}
 use mathlib.Core.List.{List, [], _∷_, _++_, map}
 use Prim.Native.Nat.{ℕ, _+_}
 use Rattle.policy.specs.Rules.{Policy, Place}
-use Rattle.enforcer.specs.Tick.{Ran, ran}
+use Rattle.enforcer.specs.Tick.{Progress, ran}
 use Rattle.enforcer.specs.Ticks.{ran-on}
 use Rattle.enforcer.specs.Entries.{eventOf, byteOf}
 use Rattle.console.specs.Text.{eventLine}
@@ -29,5 +29,5 @@ told-between {p} {marks} {from} {s} (one {e = e} {events = events} {t = t} {q = 
     let r = told-between m in (
       q ∷ r .0,
       ap (λ (rest : List ℕ). tickText p from e t q ++ rest) (r .1)
-          ∙ sym (ap (λ (z : Ran). linesBetween p from (e ∷ events) (map byteOf (z .released)) (q ∷ r .0)) (ran-on p marks s (eventOf e) (map eventOf events) t h)),
+          ∙ sym (ap (λ (z : Progress). linesBetween p from (e ∷ events) (map byteOf (z .released)) (q ∷ r .0)) (ran-on p marks s (eventOf e) (map eventOf events) t h)),
     )

@@ -15,14 +15,14 @@ use Rattle.policy.specs.declared.Layout.{Layout}
 use Rattle.enforcer.specs.Decider.{decider-lt}
 use Rattle.enforcer.specs.Ready.{Laid}
 use Rattle.enforcer.specs.Laid.{laid-well, laid-limits, laid-section}
-use Rattle.reasons.specs.Reasons.{Reason, countOf, Says, by-rule, by-none, by-ticks, by-rests, SaysIn, most-rests, most-ticks, at-once, Given, forwarded, edited, Explained}
+use Rattle.reasons.specs.Reasons.{Reason, countOf, SaysWhy, by-rule, by-none, by-ticks, by-rests, SaysIn, most-rests, most-ticks, at-once, Given, forwarded, edited, Explained}
 use Rattle.asks.specs.Words.{asks}
 use Rattle.asks.specs.Short.{each-at}
 use Rattle.console.specs.Framed.{part-between}
 use Rattle.telling.specs.Text.{noRule, asksOf, reasonLine, Named, reason-short}
 
 module _ (reading : ℕ) (f : List ℕ) where
-  says-named : {s : Place} {e : Event} {q : Reason} → Says (policyOf reading f) s e q → Named (ruleCount f) q
+  says-named : {s : Place} {e : Event} {q : Reason} → SaysWhy (policyOf reading f) s e q → Named (ruleCount f) q
   unfolding policyOf
   says-named {e = e} (by-rule {i = i} d h t) = decider-lt (clockCount f) (ruleSection f) _ e (ruleCount f) 0 i d
   says-named (by-none h) = tt

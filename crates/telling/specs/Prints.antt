@@ -7,7 +7,8 @@ use Prim.Native.Nat.{ℕ, zero, suc, _≤_}
 use native.Mathlib.Omega.{arith}
 use lib.Dec.{leb}
 use lib.ListN.{length}
-use Rattle.streams.specs.Answer.{Answer, refused, gives, _orElse_, unless, none-refused, none-unless}
+use Rattle.streams.specs.Answer.{Answer, refused, gives, _orElse_, unless}
+use Rattle.streams.specs.AnswerLaws.{none-refused, none-unless}
 use Rattle.policy.specs.Rules.{Policy, Place, start}
 use Rattle.policy.specs.File.{policyOf}
 use Rattle.policy.specs.Check.{all}
@@ -15,25 +16,28 @@ use Rattle.policy.specs.Number.{states, numberOf}
 use Rattle.policy.specs.Checked.{well-sound}
 use Rattle.policy.specs.Stays.{start-inside}
 use Rattle.policy.specs.declared.Layout.{Layout}
-use Rattle.enforcer.specs.State.{placeIn, isMarked}
-use Rattle.enforcer.specs.Tick.{Ran, ran}
+use Rattle.enforcer.specs.State.{placeIn, isMarked, place}
+use Rattle.enforcer.specs.Tick.{Progress, ran}
 use Rattle.enforcer.specs.Entries.{eventGood, RunAnswer, runFrom, marksRefusal, stateRefusal, runRefusal, runOf}
-use Rattle.enforcer.specs.Code.{asPlace, place, startState}
+use Rattle.enforcer.specs.Code.{startState}
 use Rattle.enforcer.specs.Laid.{laid-well, laid-place, placeIn-stateOf}
 use Rattle.enforcer.specs.States.{Granted, state-granted}
 use Rattle.enforcer.specs.Promises.{RunPromise}
 use Rattle.enforcer.specs.declared.runs.Ran as Code
 use Rattle.prepare.specs.Table.{marksOf}
-use Rattle.prepare.specs.Entry.{Summary, prepareOf}
+use Rattle.prepare.specs.Entry.{prepareOf}
+use Rattle.prepare.specs.declared.Summary.{Summary}
 use Rattle.prepare.specs.Promise.{preparedSaid, PreparePromise}
 use Rattle.prepare.specs.declared.Prepared.{Prepared as Answered}
 use Rattle.console.specs.Text.{verdictLine, refusedLine}
 use Rattle.console.specs.Frame.{policyFrameRefusal, policyPart, eventsFrameRefusal, eventsPart}
 use Rattle.console.specs.Printed.{lent, ranOver}
-use Rattle.console.specs.Reply.{Replied, replied-one, Prepares, lent-length, run-over}
+use Rattle.console.specs.Reply.{Replied, replied-one}
+use Rattle.console.specs.Replies.{Prepares, lent-length, run-over}
 use Rattle.console.specs.Scratch.{prepare-alike, start-is}
 use Rattle.telling.specs.Asked.{Asked}
 use Rattle.telling.specs.Told.{Told, told-one, ToldFrom}
+use Rattle.enforcer.specs.declared.state.State.{State}
 
 module _ (input : List ℕ) where
   -- "second count whole (1), within its limit (2), events all there (1), nothing after them (8); events (15)", as for `enforce`.
@@ -81,10 +85,10 @@ writes-one {input} {before} {after} {r = r} h g =
 pub record Startable (file marks events : List ℕ) : Type 0 where
   pub early : marksRefusal 1 file marks ≡ 0
   pub marked : marks ≡ marksOf (policyOf 1 file)
-  pub live : isMarked marks (numberOf (policyOf 1 file) (placeIn (policyOf 1 file) (asPlace startState))) ≡ true
+  pub live : isMarked marks (numberOf (policyOf 1 file) (placeIn (policyOf 1 file) startState)) ≡ true
   pub good : all (eventGood 1 file) events ≡ true
 
-from-none : (s : Place) (out : List ℕ) (n : ℕ) (r : Ran) → runFrom s out n r .refusal ≡ 0 → n ≡ 0
+from-none : (s : State) (out : List ℕ) (n : ℕ) (r : Progress) → runFrom s out n r .refusal ≡ 0 → n ≡ 0
 from-none s out zero r z = refl
 from-none s out (suc n) r z = absurd (omega arith)
 
@@ -95,11 +99,11 @@ run-startable {file = file} {marks = marks} {events = events} {released = releas
     let n = from-none _ released _ _ (sym (ap (λ (q : RunAnswer). q .refusal) (h .said)) ∙ z) in
     let a = none-refused (marksRefusal 1 file marks) _ .0 n in
     let b = none-refused (unless (leb (length events) (length released)) 14) _ .0 (a .1) in
-    let c = none-refused (stateRefusal 1 file marks (asPlace startState)) _ .0 (b .1) in
+    let c = none-refused (stateRefusal 1 file marks startState) _ .0 (b .1) in
     record {
       early = a .0;
       marked = p .marked;
-      live = state-granted 1 file marks (asPlace startState) .0 (c .0) .1;
+      live = state-granted 1 file marks startState .0 (c .0) .1;
       good = none-unless _ 14 .0 (c .1);
     }
 
@@ -126,7 +130,7 @@ module _ {file marks events : List ℕ} {l : Layout} (k : Granted 1 file marks l
         prepared = λ n g. ap (λ (m : List ℕ). isMarked m n) start-marks;
         live =
             ap (λ (t : Place). isMarked marks (numberOf p t)) (laid-place (k .laid) startState)
-            ∙ subst (λ (r : ℕ). isMarked marks (numberOf (policyOf r file) (placeIn (policyOf r file) (asPlace startState))) ≡ true) (sym (k .named)) (h .live);
+            ∙ subst (λ (r : ℕ). isMarked marks (numberOf (policyOf r file) (placeIn (policyOf r file) startState)) ≡ true) (sym (k .named)) (h .live);
       }
 
   pub start-told : {before after : List ℕ} {at r : ℕ} → ToldFrom p marks (place (l .clocks) startState) events before at r after →

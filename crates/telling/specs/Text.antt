@@ -15,7 +15,7 @@ use Rattle.asks.specs.Words.{asks}
 use Rattle.asks.specs.Turns.{three-length}
 use Rattle.asks.specs.Short.{asks-short}
 use Rattle.enforcer.specs.Entries.{byteOf}
-use Rattle.enforcer.specs.Tick.{Tick}
+use Rattle.enforcer.specs.Tick.{ReleasedTick}
 use Rattle.console.specs.Text.{eventLine}
 use Rattle.reasons.specs.Reasons.{Reason, kept, rule, unmatched, ticks, rests, countOf}
 use Rattle.reasons.specs.Entry.{Reasons}
@@ -54,7 +54,7 @@ unfoldable pub reasonLines : Policy → Reasons → List ℕ
 reasonLines p q = reasonLine p (ascii "input: ") (q .input) ++ reasonLine p (ascii "output: ") (q .output)
 
 -- The line of `enforce` for the tick, then the reasons.
-abbrev pub tickText : Policy → (number event : ℕ) → Tick → Reasons → List ℕ
+abbrev pub tickText : Policy → (number event : ℕ) → ReleasedTick → Reasons → List ℕ
 tickText p number event t q = eventLine number event (byteOf (t .event)) ++ reasonLines p q
 
 -- ---- How long the words are.

@@ -10,13 +10,14 @@ use lib.Seq.{drop-cons}
 use Rattle.policy.specs.Rules.{Policy, Place}
 use Rattle.policy.specs.File.{policyOf}
 use Rattle.policy.specs.declared.Layout.{Layout}
-use Rattle.enforcer.specs.Tick.{Tick}
+use Rattle.enforcer.specs.Tick.{ReleasedTick}
 use Rattle.enforcer.specs.Tick as Spec
 use Rattle.enforcer.specs.Entries.{eventOf}
-use Rattle.enforcer.specs.Code.{place}
+use Rattle.enforcer.specs.State.{place}
 use Rattle.enforcer.specs.declared.state.State.{State}
 use Rattle.console.specs.Text.{eventLine}
-use Rattle.texts.specs.Wrote.{Wrote, wrote-none, wrote-then}
+use Rattle.texts.specs.Wrote.{Wrote}
+use Rattle.texts.specs.WroteLaws.{wrote-none, wrote-then}
 use Rattle.reasons.specs.Reasons.{Explained, explained-one}
 use Rattle.reasons.specs.Entry.{Reasons}
 use Rattle.telling.specs.Text.{reasonLines, tickText, tickRoom}
@@ -26,7 +27,7 @@ use Rattle.telling.specs.Asked.{Asked, ReleasedBy, released-moves, relea
 -- after it.
 pub data Told (p : Policy) (marks : List ℕ) : (from : ℕ) (s : Place) (events : List ℕ) → List ℕ → Type 0 where
   nothing : {from : ℕ} {s : Place} → Told p marks from s [] []
-  one : {from e : ℕ} {s : Place} {events rest : List ℕ} {t : Tick} {q : Reasons} →
+  one : {from e : ℕ} {s : Place} {events rest : List ℕ} {t : ReleasedTick} {q : Reasons} →
       Spec.tick p marks s (eventOf e) ≡ some t → Explained p marks s (e % 16) (e / 16) (q .input) (q .output) →
       Told p marks (from + 1) (t .place) events rest → Told p marks from s (e ∷ events) (tickText p from e t q ++ rest)
 
@@ -36,12 +37,12 @@ told-one {p} {marks} {from} {s} (one {e = e} {events = events} {rest = rest} {t 
     let a = Option·some-injective t u (sym h ∙ k) in
     let b = explained-one g l in
     let c : q ≡ v = λ d. record { input = b .0 d; output = b .1 d } in
-    let r = told-one (subst (λ (z : Tick). Told p marks (from + 1) (z .place) events rest) a m) n in
+    let r = told-one (subst (λ (z : ReleasedTick). Told p marks (from + 1) (z .place) events rest) a m) n in
     λ d. tickText p from e (a d) (c d) ++ r d
 
 -- What a tick's function leaves: the text of the tick at `at`, and the state after it.
 pub record ToldTick (f : List ℕ) (l : Layout) (marks : List ℕ) (s : State) (number event : ℕ) (before : List ℕ) (at : ℕ) (next : State) (r : ℕ) (after : List ℕ) : Type 0 where
-  pub tick : Tick
+  pub tick : ReleasedTick
   pub reasons : Reasons
   pub ticks : Spec.tick (policyOf (l .reading) f) marks (place (l .clocks) s) (eventOf event) ≡ some tick
   pub explained : Explained (policyOf (l .reading) f) marks (place (l .clocks) s) (event % 16) (event / 16) (reasons .input) (reasons .output)

@@ -1,4 +1,4 @@
-// What the program `why` decides on slices: the input of `enforce`, and the lines of `enforce` with a reason after each edited half.
+// What `why` decides on slices: the input of `enforce`, and its lines with a reason after each edited half.
 mod asked;
 mod lines;
 mod release;

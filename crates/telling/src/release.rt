@@ -1,5 +1,5 @@
 // What a tick releases, by its two halves.
-use enforcer::Answer;
+use enforcer::HalfAnswer;
 use enforcer::State;
 use enforcer::input_by;
 use enforcer::output_by;
@@ -14,19 +14,19 @@ ghost use Rattle.reasons.specs.Halves.{valueOr};
 ghost use Rattle.telling.specs.Asked.{Asked, ReleasedBy};
 
 // The halves that are released, and the state after them.
-pub struct Released {
+pub struct ReleasedHalves {
     pub x: u8,
     pub y: u8,
     pub state: State,
 }
 
 // The value of an answer, or another one.
-fn value_or(answer: Answer, other: u8) -> u8
+fn value_or(answer: HalfAnswer, other: u8) -> u8
     ensures { λ r. ⌜ r ≡ valueOr (answerSaid answer) other ⌝ }
 {
     match answer {
-        Answer::Value(z) => z,
-        Answer::Refused(_) => other,
+        HalfAnswer::Value(z) => z,
+        HalfAnswer::Refused(_) => other,
     }
 }
 
@@ -38,7 +38,7 @@ pub(crate) fn release(
     state: State,
     x: u8,
     y: u8,
-) -> Released
+) -> ReleasedHalves
     requires { ⌜ Asked (now file) layout (now marks) state × (x < inputValues (policyOf (layout .reading) (now file))) × (y < outputValues (policyOf (layout .reading) (now file))) ⌝ }
     ensures { λ r. ⌜ ReleasedBy (now (file .entry)) layout (now (marks .entry)) state x y (r .x) (r .y) (r .state) ⌝ }
 {
@@ -47,7 +47,7 @@ pub(crate) fn release(
     let output = output_by(file, layout, own, marks, state, passed, y);
     let answer = output.answer;
     let next = output.state;
-    Released {
+    ReleasedHalves {
         x: passed,
         y: value_or(answer, y),
         state: next,

@@ -20,12 +20,11 @@ ghost use Rattle.policy.specs.Rules.{start};
 ghost use Rattle.policy.specs.File.{policyOf};
 ghost use Rattle.policy.specs.Number.{states};
 ghost use Rattle.policy.specs.Check.{all};
-ghost use Rattle.enforcer.specs.Code.{place};
+ghost use Rattle.enforcer.specs.State.{place};
 ghost use Rattle.enforcer.specs.Entries.{eventGood};
 ghost use Rattle.enforcer.specs.Ready.{Laid};
 ghost use Rattle.prepare.specs.Table.{marksOf};
-ghost use Rattle.prepare.specs.Promise.{summarySaid};
-ghost use Rattle.console.specs.Reply.{Prepares};
+ghost use Rattle.console.specs.Replies.{Prepares};
 ghost use Rattle.telling.specs.Text.{tickRoom};
 ghost use Rattle.telling.specs.Asked.{Asked};
 ghost use Rattle.telling.specs.Told.{ToldFrom};
@@ -102,7 +101,7 @@ fn reply_events(
 ) -> usize
     requires { ⌜ Prepares (now input) (now file) (now marks) ⌝ }
     requires { ⌜ (length (now released) ≡ 16384) × (length (now ticks) ≡ 65536) × (length (now rests) ≡ 65536) × (length (now text) ≡ 66 + tickRoom * 16384) ⌝ }
-    ensures { λ r. ⌜ Writes (ToldText (now (input .entry)) (gives (summarySaid summary))) (now (text .entry)) r (now (text .exit)) ⌝ }
+    ensures { λ r. ⌜ Writes (ToldText (now (input .entry)) (gives summary)) (now (text .entry)) r (now (text .exit)) ⌝ }
 {
     let frame = events_frame(input);
     if frame.refusal != 0 {

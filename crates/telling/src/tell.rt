@@ -12,15 +12,15 @@ ghost use lib.ListN.{length};
 ghost use Rattle.policy.specs.Rules.{inputValues, outputValues};
 ghost use Rattle.policy.specs.File.{policyOf};
 ghost use Rattle.policy.specs.Check.{all};
-ghost use Rattle.enforcer.specs.Code.{place};
+ghost use Rattle.enforcer.specs.State.{place};
 ghost use Rattle.enforcer.specs.Entries.{eventGood};
-ghost use Rattle.reasons.specs.Said.{Counts};
+ghost use Rattle.reasons.specs.Said.{CountsOf};
 ghost use Rattle.telling.specs.Text.{tickRoom};
 ghost use Rattle.telling.specs.Asked.{Asked};
 ghost use Rattle.telling.specs.Told.{ToldTick, ToldFrom};
 
 // The state after a tick, and where the text goes on.
-pub struct Next {
+pub struct NextTick {
     pub state: State,
     pub at: usize,
 }
@@ -37,8 +37,8 @@ fn tell_tick(
     event: u8,
     text: &mut [u8],
     at: usize,
-) -> Next
-    requires { ⌜ Asked (now file) layout (now marks) state × Counts (policyOf (layout .reading) (now file)) (now ticks) (now rests) ⌝ }
+) -> NextTick
+    requires { ⌜ Asked (now file) layout (now marks) state × CountsOf (policyOf (layout .reading) (now file)) (now ticks) (now rests) ⌝ }
     requires { ⌜ (event % 16 < inputValues (policyOf (layout .reading) (now file))) × (event / 16 < outputValues (policyOf (layout .reading) (now file))) ⌝ }
     requires { ⌜ (number < 10 ^ 5) × (at + tickRoom ≤ length (now text)) ⌝ }
     ensures { λ r. ⌜ ToldTick (now (file .entry)) layout (now (marks .entry)) state number event (now (text .entry)) at (r .state) (r .at) (now (text .exit)) ⌝ }
@@ -50,7 +50,7 @@ fn tell_tick(
     let next = put_tick(text, at, number, event, t.x + t.y * 16);
     let end = put_reasons(text, next, file, layout, told);
     let after = t.state;
-    Next {
+    NextTick {
         state: after,
         at: end,
     }
@@ -68,7 +68,7 @@ pub(crate) fn tell(
     text: &mut [u8],
     at: usize,
 ) -> usize
-    requires { ⌜ Asked (now file) layout (now marks) start × Counts (policyOf (layout .reading) (now file)) (now ticks) (now rests) ⌝ }
+    requires { ⌜ Asked (now file) layout (now marks) start × CountsOf (policyOf (layout .reading) (now file)) (now ticks) (now rests) ⌝ }
     requires { ⌜ (length (now events) ≤ 16384) × (all (eventGood (layout .reading) (now file)) (now events) ≡ true) × (at + tickRoom * length (now events) ≤ length (now text)) ⌝ }
     ensures { λ r. ⌜ ToldFrom (policyOf (layout .reading) (now (file .entry))) (now (marks .entry)) (place (layout .clocks) start) (now (events .entry)) (now (text .entry)) at r (now (text .exit)) ⌝ }
 {

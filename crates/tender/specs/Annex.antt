@@ -9,15 +9,18 @@ use mathlib.Core.Logic.{⊎-elim}
 use Prim.Native.Nat.{ℕ, _*_, _/_, _%_, _^_, _≤_, _<_}
 use native.Mathlib.Nat.{le-refl, le-trans, mul-comm, le-mul-of-pos-right}
 use lib.ListN.{length, take, drop}
-use Rattle.streams.specs.Answer.{gives, given-only}
+use Rattle.streams.specs.Answer.{gives}
+use Rattle.streams.specs.AnswerLaws.{given-only}
 use Rattle.streams.specs.Stream.{Stream, Hopeless}
 use Rattle.streams.specs.Enforced.{Enforced}
 use Rattle.streams.specs.Corrections.{corrections}
-use Rattle.streams.specs.Laws.{_⊆_, ⊆-refl, ⊆-trans, goes-on, ends, not-both, passes, enforced-one}
+use Rattle.streams.specs.Laws.{⊆-refl, ⊆-trans, goes-on, ends, not-both, passes, enforced-one}
+use Rattle.streams.specs.Languages.{_⊆_}
 use Rattle.policy.specs.Rules.{Policy, Fits, Permits}
 use Rattle.policy.specs.Number.{states}
 use Rattle.policy.specs.File.{policyOf}
-use Rattle.policy.specs.Check.{refusalUnder, under-none, refusalOf, all}
+use Rattle.policy.specs.Check.{refusalUnder, refusalOf, all}
+use Rattle.policy.specs.CheckLaws.{under-none}
 use Rattle.policy.specs.Sound.{WellFormed}
 use Rattle.policy.specs.Numbered.{states-positive}
 use Rattle.policy.specs.Checked.{checked-file}
@@ -27,10 +30,10 @@ use Rattle.enforcer.specs.Code.{startState}
 use Rattle.enforcer.specs.Promises.{RunPromise, ranSaid}
 use Rattle.enforcer.specs.declared.state.State.{State}
 use Rattle.enforcer.specs.declared.runs.Ran.{Ran}
-use Rattle.prepare.specs.Entry.{Summary, summaryOf, prepareOf}
-use Rattle.prepare.specs.Promise.{summarySaid, PreparePromise, prepared-one}
-use Rattle.prepare.specs.Enforces.{EnforcedBy}
-use Rattle.prepare.specs.declared.Summary.{Summary as Given}
+use Rattle.prepare.specs.Entry.{summaryOf, prepareOf}
+use Rattle.prepare.specs.Promise.{PreparePromise, prepared-one}
+use Rattle.prepare.specs.Enforcing.{EnforcedBy}
+use Rattle.prepare.specs.declared.Summary.{Summary}
 use Rattle.prepare.specs.declared.Prepared.{Prepared}
 use Rattle.prepare.specs.declared.Prepared.the-variants as Prepared
 use Rattle.join.specs.Steps.{fits-same}
@@ -42,16 +45,16 @@ use Rattle.groovepawn.specs.Fields.{summaryIn, prepare-fields}
 use Rattle.tender.specs.Granted.{well-formed, given-passed, given-goes-on}
 use Rattle.tender.specs.Demand2.{Released}
 use Rattle.tender.specs.Demand2Shown.{released-length, released-bytes, prepared-otherwise}
-use Rattle.tender.specs.Demand3.{Joined, tags, JoinOf, alone, joined}
+use Rattle.tender.specs.Demand3.{JoinMade, tags, JoinOf, alone, joined}
 use Rattle.tender.specs.Demand3Shown.{joined-reads, made, to-first, to-second}
-use Rattle.tender.specs.Halves.{Ticks, ticks-release}
+use Rattle.tender.specs.Halves.{TickByTick, ticks-release}
 use Rattle.tender.specs.Code.{code-releases, cStart, runRead, prepare-read, c-releases, CTicks, c-ticks-release, code-joined, c-joined}
 
 -- "any number of policies joined one after another": a went into f, as a part or as a join made on the way, first or second in each join that followed.
 pub data WentInto (a : List ℕ) : List ℕ → Type 0 where
   itself : WentInto a a
-  as-first : {f b h : List ℕ} → WentInto a f → Joined f b h → WentInto a h
-  as-second : {f b h : List ℕ} → WentInto a f → Joined b f h → WentInto a h
+  as-first : {f b h : List ℕ} → WentInto a f → JoinMade f b h → WentInto a h
+  as-second : {f b h : List ℕ} → WentInto a f → JoinMade b f h → WentInto a h
 
 -- Of the join f and of a, which went into it, by demand 2's definition: it speaks of the permitted streams, and `Enforced` is what is released.
 pub record Keeps (reading : ℕ) (f a : List ℕ) : Type 0 where
@@ -70,20 +73,20 @@ pub record Unedited (p : Policy) (events before : List ℕ) (r : RunAnswer) : Ty
 pub record CodeKeeps (reading : ℕ) (f a : List ℕ) : Type 0 where
   -- It gives one of A, into every slice for the marks that is long enough.
   pub given :
-      {x m y n : List ℕ} {s : Given} {q : Prepared} → PreparePromise reading f x (Prepared.Gives s) m → PreparePromise reading a y q n →
-      states (policyOf reading a) ≤ length y → (t : Given) × (q ≡ Prepared.Gives t)
+      {x m y n : List ℕ} {s : Summary} {q : Prepared} → PreparePromise reading f x (Prepared.Gives s) m → PreparePromise reading a y q n →
+      states (policyOf reading a) ≤ length y → (t : Summary) × (q ≡ Prepared.Gives t)
   -- The bytes that run's code released for the join are released unedited by run's code for A, each from `State::start()` with the marks of prepare.
   pub runs :
-      {x m y n events out after again also : List ℕ} {s t : Given} {r q : Ran} →
+      {x m y n events out after again also : List ℕ} {s t : Summary} {r q : Ran} →
       PreparePromise reading f x (Prepared.Gives s) m → PreparePromise reading a y (Prepared.Gives t) n →
       all (eventGood reading f) events ≡ true → length events ≤ length out → length events ≤ length again →
       RunPromise reading f m startState events out r after → RunPromise reading a n startState (take (length events) after) again q also →
       Unedited (policyOf reading a) (take (length events) after) again (ranSaid q also)
   -- And so by the two halves, tick after tick. They never stop: `ticks-go-on` in specs/Halves.antt.
   pub ticks :
-      {x m y n : List ℕ} {s t : Given} {u v : State} {es rs qs : Stream} →
+      {x m y n : List ℕ} {s t : Summary} {u v : State} {es rs qs : Stream} →
       PreparePromise reading f x (Prepared.Gives s) m → PreparePromise reading a y (Prepared.Gives t) n →
-      Ticks reading f m startState es rs u → Ticks reading a n startState rs qs v → qs ≡ rs
+      TickByTick reading f m startState es rs u → TickByTick reading a n startState rs qs v → qs ≡ rs
 
 -- The same in C, where groovepawn_prepare refused nothing of the join; over fewer than 2^56 events.
 pub record CKeeps (reading : ℕ) (f a : List ℕ) : Type 0 where
@@ -106,7 +109,7 @@ onTheWay (alone {a = a}) = a ∷ []
 onTheWay (joined {h = h} i j k) = h ∷ (onTheWay i ++ onTheWay j)
 
 -- What the joins along the way leave of a: f permits no more than a does and rests nowhere else, over the same signals, and a passes the check.
-record Within (reading : ℕ) (f a : List ℕ) : Type 0 where
+record WithinPart (reading : ℕ) (f a : List ℕ) : Type 0 where
   permits : Permits (policyOf reading f) ⊆ Permits (policyOf reading a)
   signals : tags f ≡ tags a
   passed : refusalUnder reading f ≡ 0 → refusalUnder reading a ≡ 0
@@ -115,7 +118,7 @@ record Within (reading : ℕ) (f a : List ℕ) : Type 0 where
 some-states : (reading : ℕ) (file : List ℕ) → refusalOf file ≡ 0 → 0 < states (policyOf reading file)
 some-states reading file e = states-positive (policyOf reading file) (checked-file reading file e .start)
 
-module _ (reading : ℕ) {a b f : List ℕ} (j : Joined a b f) where
+module _ (reading : ℕ) {a b f : List ℕ} (j : JoinMade a b f) where
   multiplied : states (policyOf reading f) ≡ states (policyOf reading a) * states (policyOf reading b)
   multiplied = ap states (joined-reads j reading) ∙ states-join (policyOf reading a) (policyOf reading b)
 
@@ -127,7 +130,7 @@ module _ (reading : ℕ) {a b f : List ℕ} (j : Joined a b f) where
       (le-mul-of-pos-right (states (policyOf reading b)) (some-states reading a (made j .first)))
 
 module _ (reading : ℕ) where
-  within : {a f : List ℕ} → WentInto a f → Within reading f a
+  within : {a f : List ℕ} → WentInto a f → WithinPart reading f a
   within {a} itself = record { permits = ⊆-refl (Permits (policyOf reading a)); signals = refl; passed = λ e. e; fewer = le-refl (states (policyOf reading a)) }
   within (as-first {f = f} {h = h} w j) =
       let i = within w in
@@ -209,11 +212,11 @@ module _ (reading : ℕ) where
           given =
               λ {x = x} {y = y} {s = s} {q = q} h k long.
               let t = summaryOf part in
-              let d : Given = record { verdict = t .verdict; states = t .states; live = t .live } in
-              (d, prepared-one q (Prepared.Gives d) (k .said ∙ given x y (summarySaid s) (sym (h .said)) long));
+              let d : Summary = record { verdict = t .verdict; states = t .states; live = t .live } in
+              (d, prepared-one q (Prepared.Gives d) (k .said ∙ given x y s (sym (h .said)) long));
           runs =
               λ {y = y} {t = t} h k good long room i j.
-              let ok = well-formed reading a (given-passed reading a y (summarySaid t) (sym (k .said))) in
+              let ok = well-formed reading a (given-passed reading a y t (sym (k .said))) in
               let r = code-releases h i good long in
               forwarded ok r (code-releases k j (all-good ok r) (rw (as-many-bytes ok r) room));
           ticks =
@@ -241,7 +244,7 @@ module _ (reading : ℕ) where
         }
 
   -- "A joined with B",
-  pub of-two : {a b f : List ℕ} → Joined a b f → Keeps reading f a × Keeps reading f b
+  pub of-two : {a b f : List ℕ} → JoinMade a b f → Keeps reading f a × Keeps reading f b
   of-two j = (never-loosens (as-first itself j), never-loosens (as-second itself j))
 
   -- by join's code, and by groovepawn_join.

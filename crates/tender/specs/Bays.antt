@@ -10,16 +10,16 @@ use lib.ListN.{getD, drop}
 use Rattle.streams.specs.Answer.{refused, gives}
 use Rattle.streams.specs.Answer as Said
 use Rattle.streams.specs.Stream.{Event, Stream}
-use Rattle.policy.specs.Rules.{Place, inputValues, outputValues}
+use Rattle.policy.specs.Rules.{inputValues, outputValues}
 use Rattle.policy.specs.File.{policyOf}
 use Rattle.enforcer.specs.Entries.{inputOf, outputOf}
-use Rattle.enforcer.specs.Code.{asPlace, startState}
+use Rattle.enforcer.specs.Code.{startState}
 use Rattle.enforcer.specs.Promises.{answerSaid}
 use Rattle.enforcer.specs.declared.state.State.{State}
-use Rattle.enforcer.specs.declared.halves.Answer.{Answer}
-use Rattle.enforcer.specs.declared.halves.Answer.the-variants as Code
+use Rattle.enforcer.specs.declared.halves.HalfAnswer.{HalfAnswer}
+use Rattle.enforcer.specs.declared.halves.HalfAnswer.the-variants as Code
 use Rattle.prepare.specs.Promise.{PreparePromise}
-use Rattle.prepare.specs.declared.Summary.{Summary as Given}
+use Rattle.prepare.specs.declared.Summary.{Summary}
 use Rattle.prepare.specs.declared.Prepared.the-variants as Prepare
 use Rattle.bays.specs.Bays.{baysIn, bayCount, bayState}
 use Rattle.bays.specs.Entries.{BayAnswer}
@@ -29,9 +29,10 @@ use Rattle.bays.specs.Halves.{Half, input, output, afresh, afresh-count}
 use Rattle.bays.specs.Alone.{Call, Reply, BayReply, callsOf, repliesTo, replies, left, repliesAlone, leftAlone, left-length, interleaved}
 use Rattle.groovepawn.specs.Calls.{PrepareCall}
 use Rattle.groovepawn.specs.Fields.{answerIn}
-use Rattle.groovepawn.specs.Bays.{NewCall, BayInputCall, BayOutputCall, bay-input-fields, bay-output-fields}
-use Rattle.tender.specs.Halves.{Ticks, ticks-none, ticks-more, TicksReleased, ticks-release, ticks-go-on}
-use Rattle.tender.specs.Code.{codeSummary, prepare-read}
+use Rattle.groovepawn.specs.Bays.{NewCall, BayInputCall, BayOutputCall}
+use Rattle.groovepawn.specs.BaysLaws.{bay-input-fields, bay-output-fields}
+use Rattle.tender.specs.Halves.{TickByTick, ticks-none, ticks-more, TicksReleased, ticks-release, ticks-go-on}
+use Rattle.tender.specs.Code.{prepare-read}
 
 -- A bay's half and its answer.
 abbrev pub replied : ℕ → Half → Said.Answer ℕ → BayReply
@@ -40,10 +41,10 @@ replied bay h a = record { bay = bay; reply = record { half = h; answer = a } }
 -- What the code answered, half after half, of any bays in any order, from the list `states` on; `last` is the list then.
 pub data BayCalls (reading : ℕ) (file marks : List ℕ) : List ℕ → List BayReply → List ℕ → Type 0 where
   calls-none : {states : List ℕ} → BayCalls reading file marks states [] states
-  calls-input : {states last : List ℕ} {bay x : ℕ} {a : Answer} {rs : List BayReply} →
+  calls-input : {states last : List ℕ} {bay x : ℕ} {a : HalfAnswer} {rs : List BayReply} →
       BayInputPromise reading file marks states bay x a → BayCalls reading file marks states rs last →
       BayCalls reading file marks states (replied bay (input x) (answerSaid a) ∷ rs) last
-  calls-output : {states next last : List ℕ} {bay x y : ℕ} {a : Answer} {rs : List BayReply} →
+  calls-output : {states next last : List ℕ} {bay x y : ℕ} {a : HalfAnswer} {rs : List BayReply} →
       BayOutputPromise reading file marks states bay x y a next → BayCalls reading file marks next rs last →
       BayCalls reading file marks states (replied bay (output x y) (answerSaid a) ∷ rs) last
 
@@ -65,10 +66,6 @@ pub data BayTicks : List Reply → (read released : Stream) → Type 0 where
       BayTicks
       (record { half = input (e .x); answer = gives (r .x) } ∷ record { half = output (r .x) (e .y); answer = gives (r .y) } ∷ more)
       (e ∷ es) (r ∷ rs)
-
--- A state, as the code's own type has it.
-abbrev pub codeState : Place → State
-codeState s = record { location = s .location; clocks = s .clocks }
 
 abbrev callOf : BayReply → Call
 callOf r = record { bay = r .bay; half = r .reply .half }
@@ -128,37 +125,37 @@ module _ (reading : ℕ) (file marks : List ℕ) where
 
   -- Whole ticks that a state alone is answered are ticks of the code's halves.
   alone-ticks :
-      {own : List Reply} {es os : Stream} → BayTicks own es os → (s : State) → repliesAlone reading file marks (asPlace s) (map halfOf own) ≡ own →
-      Ticks reading file marks s es os (codeState (leftAlone reading file marks (asPlace s) (map halfOf own)))
+      {own : List Reply} {es os : Stream} → BayTicks own es os → (s : State) → repliesAlone reading file marks s (map halfOf own) ≡ own →
+      TickByTick reading file marks s es os (leftAlone reading file marks s (map halfOf own))
   unfolding repliesAlone leftAlone
   alone-ticks bay-none s e = ticks-none
   alone-ticks (bay-more {e = e} {r = r} {more = more} h) s k =
       let d : Reply = record { half = input 0; answer = refused 0 } in
-      let next = outputOf reading file marks (asPlace s) (r .x) (e .y) .state in
-      let gave : inputOf reading file marks (asPlace s) (e .x) ≡ gives (r .x) = ap (λ (l : List Reply). getD l 0 d .answer) k in
-      let also : outputOf reading file marks (asPlace s) (r .x) (e .y) .answer ≡ gives (r .y) = ap (λ (l : List Reply). getD l 1 d .answer) k in
+      let next = outputOf reading file marks s (r .x) (e .y) .state in
+      let gave : inputOf reading file marks s (e .x) ≡ gives (r .x) = ap (λ (l : List Reply). getD l 0 d .answer) k in
+      let also : outputOf reading file marks s (r .x) (e .y) .answer ≡ gives (r .y) = ap (λ (l : List Reply). getD l 1 d .answer) k in
       ticks-more (record { said = sym gave }) (record { said = ap (λ (a : Said.Answer ℕ). record { answer = a; state = next }) (sym also) })
-      (alone-ticks h (codeState next) (ap (drop 2) k))
+      (alone-ticks h next (ap (drop 2) k))
 
   -- A bay of a new list.
   module _ {before fresh : List ℕ} (new : NewPromise before 0 fresh) {bay : ℕ} (is : bay < bayCount fresh) where
-    starts : bayState fresh bay ≡ asPlace startState
+    starts : bayState fresh bay ≡ startState
     starts =
         let n = ap bayCount (new .states) ∙ afresh-count before in
         ap (λ (l : List ℕ). bayState l bay) (new .states) ∙ afresh before bay (omega arith)
 
     module _ {last : List ℕ} {rs : List BayReply} (told : Told fresh rs last) {es os : Stream} (ticks : BayTicks (repliesTo bay rs) es os) where
-      own-ticks : Ticks reading file marks startState es os (codeState (bayState last bay))
+      own-ticks : TickByTick reading file marks startState es os (bayState last bay)
       own-ticks =
           let i = interleaved reading file marks fresh (map callOf rs) bay is in
           let asked : callsOf bay (map callOf rs) ≡ map halfOf (repliesTo bay rs) = calls-back bay rs in
-          let alone : repliesAlone reading file marks (asPlace startState) (map halfOf (repliesTo bay rs)) ≡ repliesTo bay rs =
+          let alone : repliesAlone reading file marks startState (map halfOf (repliesTo bay rs)) ≡ repliesTo bay rs =
           ap₂ (repliesAlone reading file marks) (sym starts) (sym asked) ∙ sym (i .replied) ∙ ap (repliesTo bay) (told .0)
           in
-          let there : leftAlone reading file marks (asPlace startState) (map halfOf (repliesTo bay rs)) ≡ bayState last bay =
+          let there : leftAlone reading file marks startState (map halfOf (repliesTo bay rs)) ≡ bayState last bay =
           ap₂ (leftAlone reading file marks) (sym starts) (sym asked) ∙ sym (i .state) ∙ ap (λ (l : List ℕ). bayState l bay) (told .1)
           in
-          subst (λ (z : Place). Ticks reading file marks startState es os (codeState z)) there (alone-ticks ticks startState alone)
+          subst (λ (z : State). TickByTick reading file marks startState es os z) there (alone-ticks ticks startState alone)
 
       -- It is there still, and calls of other bays leave it as it is.
       still : bay < bayCount last
@@ -179,19 +176,19 @@ module _ (reading : ℕ) (file marks : List ℕ) where
 
 -- After prepare's code gave a summary, from a list that bays_new's code made, and with any calls of other bays in between: for the events read at a bay
 -- the code released demand 2's stream, and the bay's state is the one that it leads to.
-module _ {reading : ℕ} {file lent marks : List ℕ} {s : Given} (h : PreparePromise reading file lent (Prepare.Gives s) marks)
+module _ {reading : ℕ} {file lent marks : List ℕ} {s : Summary} (h : PreparePromise reading file lent (Prepare.Gives s) marks)
     {before fresh : List ℕ} (new : NewPromise before 0 fresh) {bay : ℕ} (is : bay < bayCount fresh)
     {last : List ℕ} {rs : List BayReply} (calls : BayCalls reading file marks fresh rs last)
     {es os : Stream} (ticks : BayTicks (repliesTo bay rs) es os) where
-  pub bays-release : TicksReleased (policyOf reading file) es os (codeState (bayState last bay))
+  pub bays-release : TicksReleased (policyOf reading file) es os (bayState last bay)
   bays-release = ticks-release h (own-ticks reading file marks new is (calls-told reading file marks calls) ticks)
 
   -- And no bay ever stops: whatever is read there next, the input half gives an input; and for it and whatever the controller answers the output half
   -- gives an output, also where other bays had their turns in between.
   pub bays-go-on :
-      (x : ℕ) (a : Answer) → x < inputValues (policyOf reading file) → BayInputPromise reading file marks last bay x a →
+      (x : ℕ) (a : HalfAnswer) → x < inputValues (policyOf reading file) → BayInputPromise reading file marks last bay x a →
       (z : ℕ) × (a ≡ Code.Value z)
-      × ((more : List BayReply) (later next : List ℕ) (y : ℕ) (o : Answer) → y < outputValues (policyOf reading file) →
+      × ((more : List BayReply) (later next : List ℕ) (y : ℕ) (o : HalfAnswer) → y < outputValues (policyOf reading file) →
       BayCalls reading file marks last more later → repliesTo bay more ≡ [] → BayOutputPromise reading file marks later bay z y o next →
       (w : ℕ) × (o ≡ Code.Value w))
   bays-go-on x a f i =
@@ -205,9 +202,9 @@ module _ {reading : ℕ} {file lent marks : List ℕ} {s : Given} (h : PreparePr
             let e = output-there reading file marks later bay (u .0) (on .0) y in
             let t = outputOf reading file marks (bayState last bay) (on .0) y .state in
             let said = ap (λ (r : BayAnswer). r .answer) (k .said ∙ e)
-            ∙ ap (λ (s : Place). outputOf reading file marks s (on .0) y .answer) (u .1)
+            ∙ ap (λ (s : State). outputOf reading file marks s (on .0) y .answer) (u .1)
             in
-            on .2 y (record { answer = o; state = codeState t }) g
+            on .2 y (record { answer = o; state = t }) g
             (record { said = ap (λ (b : Said.Answer ℕ). record { answer = b; state = t }) said }),
       )
 
@@ -216,8 +213,8 @@ pub c-bays-release :
     {reading : ℕ} {file lent marks : List ℕ} {v : ℕ} → PrepareCall reading file lent v marks → v % 256 ≡ 0 →
     {before fresh : List ℕ} → NewCall before 0 fresh → {bay : ℕ} → bay < bayCount fresh →
     {last : List ℕ} {rs : List BayReply} → CBayCalls reading file marks fresh rs last →
-    {es os : Stream} → BayTicks (repliesTo bay rs) es os → TicksReleased (policyOf reading file) es os (codeState (bayState last bay))
+    {es os : Stream} → BayTicks (repliesTo bay rs) es os → TicksReleased (policyOf reading file) es os (bayState last bay)
 c-bays-release {reading} {file} {lent} {marks} h z new is calls ticks =
     let s = prepare-read h z in
-    ticks-release {s = codeSummary (s .0)} (record { said = sym (s .1); marks = h .marks })
+    ticks-release {s = (s .0)} (record { said = sym (s .1); marks = h .marks })
     (own-ticks reading file marks (record { said = new .said; states = new .states }) is (c-calls-told reading file marks calls) ticks)

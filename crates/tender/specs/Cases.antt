@@ -6,27 +6,20 @@ use mathlib.Core.List.{List, [], _∷_, map}
 use Prim.Native.Nat.{ℕ, zero, suc}
 use lib.ListN.{length, replicate}
 use Rattle.streams.specs.Answer.{Answer, refused, gives}
-use mathlib.Core.Option.{bind}
-use lib.Count.{ones, onesIn}
-use Rattle.streams.specs.Choose.{any, nearest, better}
-use Rattle.streams.specs.Corrections.{distance, nearer, spares}
-use Rattle.policy.specs.Rules.{start, step, decides, fires, hold, within, tested, taken, advance}
-use Rattle.policy.specs.Number.{states, statesOf, numberFrom, locationFrom, clocksFrom}
-use Rattle.policy.specs.File.{policyOf, outputsAt, clocksAt, locationsAt, rulesAt, rulesStart, rulesEnd, pairsFrom, rulesFrom, ruleFrom, boundsFrom}
-use Rattle.policy.specs.Check.{readingRefusal, refusalUnder, refusalOf, inputsRefusal, outputsRefusal, clocksRefusal, locationsRefusal, rulesSectionRefusal, sectionRefusal, tagsGood, among, all, rulesRefusal, ruleRefusal, headGood, maskGood, boundsGood, boundGood}
-use Rattle.enforcer.specs.State.{stateOf, stateGood, clocksGood}
-use Rattle.enforcer.specs.Tick.{ran, tick, outputTick, moved, outputChoice, inputChoice, mayStand, reaches}
-use Rattle.enforcer.specs.Entries.{RunAnswer, runOf, runRefusal, marksRefusal, stateRefusal}
-use Rattle.resting.specs.Table.{roundsBy, roundBy, tab}
-use Rattle.policy.specs.Rules as Rules
-use Rattle.resting.specs.Keeps.{keeps, leadsTo, stays, someEvent}
-use Rattle.prepare.specs.Entry.{Summary, prepareOf, preparedMarks}
+use Rattle.policy.specs.Rules.{start}
+use Rattle.policy.specs.Number.{states}
+use Rattle.policy.specs.File.{policyOf}
+use Rattle.enforcer.specs.State.{stateOf}
+use Rattle.enforcer.specs.Entries.{RunAnswer, runOf}
+use Rattle.prepare.specs.Entry.{prepareOf, preparedMarks}
+use Rattle.prepare.specs.declared.Summary.{Summary}
 use Rattle.tender.specs.Samples.{S, D, T, K, N, OneInput, OneOutput, Unentered}
+use Rattle.prepare.specs.Computing.{the-file, the-check, a-step, the-marks, the-run}
 
 -- What is asked of a policy: to be prepared, or to enforce a stream "from the start" with the marks of prepare.
-pub data Asked : Type 0 where
-  prepared : Asked
-  enforced : List ℕ → Asked
+pub data Request : Type 0 where
+  prepared : Request
+  enforced : List ℕ → Request
 
 -- What is said to it.
 pub data Said : Type 0 where
@@ -37,7 +30,7 @@ pub data Said : Type 0 where
 pub record Case : Type 0 where
   pub reading : ℕ
   pub file : List ℕ
-  pub asked : Asked
+  pub asked : Request
   pub expected : Said
 
 -- The slices lent are as long as needed, and hold what nobody would write.
@@ -58,7 +51,7 @@ saidOfRun (suc n) out = refusal (suc n) out
 abbrev pub run : ℕ → List ℕ → List ℕ → RunAnswer
 run reading file events = runOf reading file (marks reading file) (stateOf (start (policyOf reading file))) events (lent (length events))
 
-abbrev pub said : ℕ → List ℕ → Asked → Said
+abbrev pub said : ℕ → List ℕ → Request → Said
 said reading file prepared = saidOfPrepare (marks reading file) (prepareOf reading file (lent (states (policyOf reading file))))
 said reading file (enforced events) = saidOfRun (run reading file events .refusal) (run reading file events .out)
 
@@ -100,10 +93,5 @@ cases =
     ∷ record { reading = 3; file = []; asked = enforced (0xFF ∷ []); expected = refusal 22 (99 ∷ []) } ∷ []
 
 pub marked-cases : map (λ c. said (c .reading) (c .file) (c .asked)) cases ≡ map (λ c. c .expected) cases
-unfolding
-    cases runOf runRefusal marksRefusal refusalUnder readingRefusal stateRefusal stateGood clocksGood refusalOf inputsRefusal outputsRefusal
-    clocksRefusal locationsRefusal rulesSectionRefusal sectionRefusal tagsGood among all rulesRefusal ruleRefusal headGood maskGood boundsGood
-    boundGood policyOf outputsAt clocksAt locationsAt rulesAt rulesStart rulesEnd pairsFrom rulesFrom ruleFrom boundsFrom statesOf numberFrom
-    locationFrom clocksFrom ran tick outputTick moved outputChoice inputChoice mayStand reaches step decides fires hold within tested taken advance
-    bind nearest better nearer distance spares any prepareOf preparedMarks roundsBy roundBy keeps leadsTo stays someEvent Rules.rests tab ones onesIn
+unfolding the-file the-check a-step the-marks the-run cases
 marked-cases = refl

@@ -6,32 +6,35 @@ use Prim.Native.Nat.{ℕ, _≤_}
 use native.Mathlib.Omega.{arith}
 use lib.ListN.{length, take, drop}
 use lib.Seq.{take-at}
-use Rattle.streams.specs.Answer.{refused, gives, given-only, none-refused}
-use Rattle.streams.specs.Laws.{_≋_, ≋-trans}
+use Rattle.streams.specs.Answer.{refused, gives}
+use Rattle.streams.specs.AnswerLaws.{given-only, none-refused}
+use Rattle.streams.specs.Laws.{≋-trans}
+use Rattle.streams.specs.Languages.{_≋_}
 use Rattle.policy.specs.Rules.{Policy, Permits}
 use Rattle.policy.specs.Number.{states}
 use Rattle.policy.specs.File.{policyOf}
-use Rattle.policy.specs.Check.{readingRefusal, refusalOf, refusalUnder, under-none}
+use Rattle.policy.specs.Check.{readingRefusal, refusalOf, refusalUnder}
+use Rattle.policy.specs.CheckLaws.{under-none}
 use Rattle.prepare.specs.Entry.{prepareOf}
 use Rattle.prepare.specs.Promise.{PreparePromise}
 use Rattle.prepare.specs.declared.Prepared.{Prepared}
 use Rattle.prepare.specs.declared.Prepared.the-variants as Prepared
-use Rattle.cleaning.specs.Entry.{Lengths, cleanedOf, cleanedFile, struckList, cleanRefusal, cleanOf, cleanedOut, struckOut}
-use Rattle.cleaning.specs.Promise.{lengthsSaid, CleanPromise, clean-one}
-use Rattle.cleaning.specs.declared.Lengths.{Lengths as Given}
+use Rattle.cleaning.specs.Entry.{cleanedOf, cleanedFile, struckList, cleanRefusal, cleanOf, cleanedOut, struckOut}
+use Rattle.cleaning.specs.Promise.{CleanPromise, clean-one}
+use Rattle.cleaning.specs.declared.Lengths.{Lengths}
 use Rattle.cleaning.specs.declared.Cleaned.{Cleaned as CodeCleaned}
 use Rattle.cleaning.specs.declared.Cleaned.the-variants as Code
 use Rattle.cleaning.specs.Laws.{Cleans}
 use Rattle.cleaning.specs.Refused.{answers}
 use Rattle.cleaning.specs.Theorems.{cleans}
 use Rattle.tender.specs.Demand2Shown.{hopeless-exactly}
-use Rattle.tender.specs.Demand3.{Joined, JoinOf, AllOf, tags, Alike}
+use Rattle.tender.specs.Demand3.{JoinMade, JoinOf, AllOf, tags, Alike}
 use Rattle.tender.specs.Demand3Shown.{made, permits-all, permits-alike}
 use Rattle.tender.specs.Code.{SameGiven, code-alike}
 
 -- "A tool writes a cleaned policy and a list .. and returns both lengths": for some slices clean gives them, and `policy` and `list` are as many bytes of what
 -- the slices hold then.
-pub record Cleaned (reading : ℕ) (file policy list : List ℕ) : Type 0 where
+pub record CleanedFrom (reading : ℕ) (file policy list : List ℕ) : Type 0 where
   pub slice : List ℕ
   pub other : List ℕ
   pub lengths : Lengths
@@ -41,19 +44,19 @@ pub record Cleaned (reading : ℕ) (file policy list : List ℕ) : Type 0 where
 
 -- The code's promise says so.
 pub code-cleaned :
-    {reading : ℕ} {file slice other after otherAfter : List ℕ} {n : Given} → CleanPromise reading file slice other (Code.Gives n) after otherAfter →
-    Cleaned reading file (take (n .cleaned) after) (take (n .struck) otherAfter)
+    {reading : ℕ} {file slice other after otherAfter : List ℕ} {n : Lengths} → CleanPromise reading file slice other (Code.Gives n) after otherAfter →
+    CleanedFrom reading file (take (n .cleaned) after) (take (n .struck) otherAfter)
 code-cleaned {slice = slice} {other} {n = n} h =
     record {
       slice = slice;
       other = other;
-      lengths = lengthsSaid n;
+      lengths = n;
       given = sym (h .said);
       written = ap (take (n .cleaned)) (h .cleaned);
       listed = ap (take (n .struck)) (h .struck);
     }
 
-module _ {reading : ℕ} {file policy list : List ℕ} (m : Cleaned reading file policy list) where
+module _ {reading : ℕ} {file policy list : List ℕ} (m : CleanedFrom reading file policy list) where
   only : (cleanRefusal reading file (m .slice) (m .other) ≡ 0) × (record { cleaned = length (cleanedFile reading file); struck = length (struckList reading file) } ≡ m .lengths)
   unfolding cleanOf
   only = given-only (cleanRefusal reading file (m .slice) (m .other)) _ (m .lengths) (m .given)
@@ -129,14 +132,14 @@ module _ {reading : ℕ} {file policy list : List ℕ} (m : Cleaned reading file
       rw (again-policy, again-list) at (both (rw again-policy long) (rw again-list (omega arith)))
 
 pub again-one :
-    {reading : ℕ} {file policy list same none : List ℕ} → Cleaned reading file policy list → Cleaned reading policy same none → (same ≡ policy) × (none ≡ [])
+    {reading : ℕ} {file policy list same none : List ℕ} → CleanedFrom reading file policy list → CleanedFrom reading policy same none → (same ≡ policy) × (none ≡ [])
 again-one m n = (policy-is n ∙ again-policy m, list-is n ∙ again-list m)
 
 -- A file that passes under the reading is cleaned into slices that are long enough.
 pub cleaned-into :
     (reading : ℕ) (file slice other : List ℕ) → refusalUnder reading file ≡ 0 →
     length (cleanedFile reading file) ≤ length slice → length (struckList reading file) ≤ length other →
-    Cleaned reading file (cleanedFile reading file) (struckList reading file)
+    CleanedFrom reading file (cleanedFile reading file) (struckList reading file)
 cleaned-into reading file slice other passed long enough =
     let both = answers reading file slice other .both passed long enough in
     record {
@@ -150,20 +153,20 @@ cleaned-into reading file slice other passed long enough =
 
 -- "Joined tables carry locations that can't be entered and rules that never fire." A joined file passes the check, so it is cleaned, and what was said above holds
 -- of it. Of any number of policies, joined two at a time, the cleaned join permits what all its parts permit, and rests where all rest.
-module _ {reading : ℕ} {parts : List (List ℕ)} {f policy list : List ℕ} (i : JoinOf parts f) (m : Cleaned reading f policy list) where
+module _ {reading : ℕ} {parts : List (List ℕ)} {f policy list : List ℕ} (i : JoinOf parts f) (m : CleanedFrom reading f policy list) where
   pub join-permits : Permits (policyOf reading policy) ≋ AllOf reading parts
   join-permits = ≋-trans (permits-same m) (permits-all reading i)
 
 pub joined-cleaned :
-    {a b f : List ℕ} → Joined a b f → (reading : ℕ) → readingRefusal reading ≡ 0 → (slice other : List ℕ) →
+    {a b f : List ℕ} → JoinMade a b f → (reading : ℕ) → readingRefusal reading ≡ 0 → (slice other : List ℕ) →
     length (cleanedFile reading f) ≤ length slice → length (struckList reading f) ≤ length other →
-    Cleaned reading f (cleanedFile reading f) (struckList reading f)
+    CleanedFrom reading f (cleanedFile reading f) (struckList reading f)
 joined-cleaned {f = f} j reading named slice other = cleaned-into reading f slice other (under-none reading f .1 (named, made j .passed))
 
 -- The same over the promises of the code. What prepare's code said of the two files, with slices for the marks that are long enough, and what run's code then
 -- released with the marks that it wrote.
 pub code-same :
-    {reading : ℕ} {file slice other after otherAfter : List ℕ} {n : Given} → CleanPromise reading file slice other (Code.Gives n) after otherAfter →
+    {reading : ℕ} {file slice other after otherAfter : List ℕ} {n : Lengths} → CleanPromise reading file slice other (Code.Gives n) after otherAfter →
     {x m y k : List ℕ} {r q : Prepared} → PreparePromise reading (take (n .cleaned) after) x r m → PreparePromise reading file y q k →
     states (policyOf reading (take (n .cleaned) after)) ≤ length x → states (policyOf reading file) ≤ length y →
     ((r ≡ Prepared.Refused 11) × (q ≡ Prepared.Refused 11)) ⊎ SameGiven reading (take (n .cleaned) after) m file k r q
@@ -171,7 +174,7 @@ code-same h = code-alike (alike (code-cleaned h))
 
 -- What clean's code answers of a policy that it wrote.
 pub code-again :
-    {reading : ℕ} {file slice other after otherAfter next last nextAfter lastAfter : List ℕ} {n : Given} {r : CodeCleaned} →
+    {reading : ℕ} {file slice other after otherAfter next last nextAfter lastAfter : List ℕ} {n : Lengths} {r : CodeCleaned} →
     CleanPromise reading file slice other (Code.Gives n) after otherAfter →
     let policy = take (n .cleaned) after in
     CleanPromise reading policy next last r nextAfter lastAfter → length policy ≤ length next →

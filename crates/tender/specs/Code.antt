@@ -9,20 +9,20 @@ use native.Mathlib.Omega.{arith}
 use lib.ListN.{length, getD, take, drop}
 use Rattle.streams.specs.Answer.{Answer, refused, gives}
 use Rattle.streams.specs.Stream.{Event, Stream, _∩_, Hopeless}
-use Rattle.streams.specs.Laws.{_≋_}
-use Rattle.policy.specs.Rules.{Place, Permits}
+use Rattle.streams.specs.Languages.{_≋_}
+use Rattle.policy.specs.Rules.{Permits}
 use Rattle.policy.specs.Number.{states}
 use Rattle.policy.specs.File.{policyOf}
 use Rattle.policy.specs.Check.{readingRefusal, refusalUnder, all}
 use Rattle.enforcer.specs.Entries.{RunAnswer, byteOf, eventGood, inputOf, outputOf, runOf}
-use Rattle.enforcer.specs.Code.{asPlace, startState}
+use Rattle.enforcer.specs.Code.{startState}
 use Rattle.enforcer.specs.Promises.{RunPromise, ranSaid}
 use Rattle.enforcer.specs.declared.state.State.{State}
 use Rattle.enforcer.specs.declared.runs.Ran.{Ran}
-use Rattle.prepare.specs.Entry.{Summary, summaryOf, prepareOf, preparedMarks}
-use Rattle.prepare.specs.Promise.{summarySaid, preparedSaid, PreparePromise, prepared-one}
+use Rattle.prepare.specs.Entry.{summaryOf, prepareOf, preparedMarks}
+use Rattle.prepare.specs.Promise.{preparedSaid, PreparePromise, prepared-one}
 use Rattle.prepare.specs.Enforces.{leads-inside}
-use Rattle.prepare.specs.declared.Summary.{Summary as Given}
+use Rattle.prepare.specs.declared.Summary.{Summary}
 use Rattle.prepare.specs.declared.Prepared.{Prepared}
 use Rattle.prepare.specs.declared.Prepared.the-variants as Prepared
 use Rattle.join.specs.Promise.{JoinPromise}
@@ -36,8 +36,8 @@ use Rattle.groovepawn.specs.Fields.{summaryIn, answerIn, answer-fields, prepare
 use Rattle.tender.specs.Granted.{well-formed, given-passed}
 use Rattle.tender.specs.Demand2.{ReleasedFor, Released, fromStart}
 use Rattle.tender.specs.Demand2Shown.{releases, hopeless-exactly}
-use Rattle.tender.specs.Halves.{Ticks, ticks-none, ticks-more, TicksReleased, ticks-release}
-use Rattle.tender.specs.Demand3.{Joined, Alike, permitsAll}
+use Rattle.tender.specs.Halves.{TickByTick, ticks-none, ticks-more, TicksReleased, ticks-release}
+use Rattle.tender.specs.Demand3.{JoinMade, Alike, permitsAll}
 use Rattle.tender.specs.Demand3Shown.{permits-exactly, order, grouping, repetition, unit-law}
 
 -- "a policy is refused as hopeless exactly if, from its start, some length has no permitted stream": prepare's code, of a file that passes its checks and
@@ -53,43 +53,39 @@ code-hopeless {reading} {file} {before} {r = r} h passed long =
 -- The start of every policy, as a state: location 0 and four clocks at 0.
 from-start :
     (reading : ℕ) (file before events out : List ℕ) (s : Summary) → prepareOf reading file before ≡ gives s →
-    fromStart reading file before events out ≡ runOf reading file (preparedMarks reading file before) (asPlace startState) events out
+    fromStart reading file before events out ≡ runOf reading file (preparedMarks reading file before) startState events out
 from-start reading file before events out s e =
-    ap (λ (z : Place). runOf reading file (preparedMarks reading file before) z events out)
+    ap (λ (z : State). runOf reading file (preparedMarks reading file before) z events out)
     (start-is (policyOf reading file) (well-formed reading file (given-passed reading file before s e) .clocks))
 
 -- What run's code answered is what the definitions say of a run from the start with the marks of prepare.
 code-runs :
-    {reading : ℕ} {file before marks events out after : List ℕ} {s : Given} {r : Ran} → PreparePromise reading file before (Prepared.Gives s) marks →
+    {reading : ℕ} {file before marks events out after : List ℕ} {s : Summary} {r : Ran} → PreparePromise reading file before (Prepared.Gives s) marks →
     RunPromise reading file marks startState events out r after → fromStart reading file before events out ≡ ranSaid r after
 code-runs {reading} {file} {before} {events = events} {out = out} {s = s} h k =
-    from-start reading file before events out (summarySaid s) (sym (h .said))
-    ∙ ap (λ (m : List ℕ). runOf reading file m (asPlace startState) events out) (sym (h .marks))
+    from-start reading file before events out s (sym (h .said))
+    ∙ ap (λ (m : List ℕ). runOf reading file m startState events out) (sym (h .marks))
     ∙ sym (k .said)
 
 -- "Otherwise" .. "one event is released for each one read": prepare's code gave a summary, and run's code ran from `State::start()` with those marks, over
 -- events within the signals and into a slice that holds as many.
 pub code-releases :
-    {reading : ℕ} {file before marks events out after : List ℕ} {s : Given} {r : Ran} → PreparePromise reading file before (Prepared.Gives s) marks →
+    {reading : ℕ} {file before marks events out after : List ℕ} {s : Summary} {r : Ran} → PreparePromise reading file before (Prepared.Gives s) marks →
     RunPromise reading file marks startState events out r after → all (eventGood reading file) events ≡ true → length events ≤ length out →
     Released (policyOf reading file) events out (ranSaid r after)
 code-releases {reading} {file} {before} {events = events} {out = out} {s = s} h k good long =
-    subst (Released (policyOf reading file) events out) (code-runs h k) (releases reading file before (summarySaid s) (sym (h .said)) events out good long)
+    subst (Released (policyOf reading file) events out) (code-runs h k) (releases reading file before s (sym (h .said)) events out good long)
 
--- The same for a controller in C. "The start state is { 0, 0, 0, 0, 0 }": these five numbers are `State::start()`.
+-- The same for a controller in C. The five zeros that its header names for the start are `State::start()`.
 abbrev pub cStart : List ℕ
 cStart = 0 ∷ 0 ∷ 0 ∷ 0 ∷ 0 ∷ []
 
-pub c-start : stateIn cStart ≡ asPlace startState
+pub c-start : stateIn cStart ≡ startState
 c-start = refl
 
 -- What groovepawn_run answered, read as the header's macros read it, with the five numbers of the state and the slice of the released events.
 abbrev pub runRead : ℕ → (state out : List ℕ) → RunAnswer
 runRead r state out = record { refusal = r % 256; count = r / 256; state = stateIn state; out = out }
-
--- A summary, as the code's own type has it.
-abbrev pub codeSummary : Summary → Given
-codeSummary s = record { verdict = s .verdict; states = s .states; live = s .live }
 
 -- What the word of prepare holds is what prepare answers.
 pub prepare-read : {reading : ℕ} {file before marks : List ℕ} {v : ℕ} → PrepareCall reading file before v marks → v % 256 ≡ 0 →
@@ -111,7 +107,7 @@ c-releases {reading} {file} {before} {marks} {events} {out} {state} {written} {r
     let s = prepare-read h z in
     let q = runOf reading file marks (stateIn cStart) events out in
     let same : fromStart reading file before events out ≡ q =
-    from-start reading file before events out (s .0) (s .1) ∙ ap (λ (m : List ℕ). runOf reading file m (asPlace startState) events out) (sym (h .marks))
+    from-start reading file before events out (s .0) (s .1) ∙ ap (λ (m : List ℕ). runOf reading file m startState events out) (sym (h .marks))
     in
     let a : Released p events out q = subst (Released p events out) same (releases reading file before (s .0) (s .1) events out good long) in
     let f = run-fields reading file marks cStart events out in
@@ -119,7 +115,7 @@ c-releases {reading} {file} {before} {marks} {events} {out} {state} {written} {r
     let count : r / 256 ≡ q .count = ap (λ (n : ℕ). n / 256) (k .said) ∙ f .whole few in
     let ok = well-formed reading file (given-passed reading file before (s .0) (s .1)) in
     let clocks : length (q .state .clocks) ≡ 4 =
-    ap (λ (t : Place). length (t .clocks)) (a .state) ∙ four-long (a .place .clocks) (omega (arith, leads-inside p ok (a .leads) .clocks, ok .clocks))
+    ap (λ (t : State). length (t .clocks)) (a .state) ∙ four-long (a .place .clocks) (omega (arith, leads-inside p ok (a .leads) .clocks, ok .clocks))
     in
     let there : stateIn state ≡ q .state = ap stateIn (k .next) ∙ words-in (q .state) clocks in
     record {
@@ -151,7 +147,7 @@ value-said v false a n e = let f = answer-fields v in let h : gives v ≡ refuse
 
 -- They are the halves of the code, and so all that specs/Halves.antt says of those holds of them.
 pub c-ticks : {reading : ℕ} {file marks state last : List ℕ} {es rs : Stream} → CTicks reading file marks state es rs last →
-    Ticks reading file marks (cState state) es rs (cState last)
+    TickByTick reading file marks (cState state) es rs (cState last)
 unfolding outputState
 c-ticks c-none = ticks-none
 c-ticks {reading} {file} {marks} (c-more {state = state} {next = next} {e = e} {r = r} i o h) =
@@ -164,20 +160,20 @@ c-ticks {reading} {file} {marks} (c-more {state = state} {next = next} {e = e} {
     let moved : next ≡ stateWords (out .state) = o .next ∙ ap (λ (t : Bool). cond t (stateWords (out .state)) state) (output .0) in
     let there : stateIn next ≡ out .state = ap stateIn moved ∙ words-in (out .state) (output-four reading file marks s (r .x) (e .y) refl) in
     ticks-more (record { said = input .1 })
-    (record { said = ap₂ (λ (a : Answer ℕ) (t : Place). record { answer = a; state = t }) (output .1) there }) (c-ticks h)
+    (record { said = ap₂ (λ (a : Answer ℕ) (t : State). record { answer = a; state = t }) (output .1) there }) (c-ticks h)
 
 -- From { 0, 0, 0, 0, 0 }, after groovepawn_prepare refused nothing: demand 2's stream, and the five numbers are the state that it leads to.
 pub c-ticks-release :
     {reading : ℕ} {file before marks last : List ℕ} {v : ℕ} {es rs : Stream} → PrepareCall reading file before v marks → v % 256 ≡ 0 →
     CTicks reading file marks cStart es rs last → TicksReleased (policyOf reading file) es rs (cState last)
 c-ticks-release {reading} {file} {before} h z k =
-    let s = prepare-read h z in ticks-release {s = codeSummary (s .0)} (record { said = sym (s .1); marks = h .marks }) (c-ticks k)
+    let s = prepare-read h z in ticks-release {s = (s .0)} (record { said = sym (s .1); marks = h .marks }) (c-ticks k)
 
 -- "Wherever the joins named are made": what join's code wrote is a join that was made, and so is what groovepawn_join wrote.
-pub code-joined : {a b before after : List ℕ} {n : ℕ} → JoinPromise a b before (Code.Length n) after → Joined a b (take n after)
+pub code-joined : {a b before after : List ℕ} {n : ℕ} → JoinPromise a b before (Code.Length n) after → JoinMade a b (take n after)
 code-joined {before = before} {n = n} h = record { slice = before; size = n; given = sym (h .answers); written = ap (take n) (h .writes) }
 
-pub c-joined : {a b before after : List ℕ} {r : ℕ} → JoinCall a b before r after → r % 256 ≡ 0 → Joined a b (take (r / 256) after)
+pub c-joined : {a b before after : List ℕ} {r : ℕ} → JoinCall a b before r after → r % 256 ≡ 0 → JoinMade a b (take (r / 256) after)
 c-joined {a} {b} {before} {r = r} h z =
     let e : answerIn r ≡ gives (r / 256) = rw z in
     record {
@@ -225,8 +221,8 @@ pub record SameRuns (reading : ℕ) (f g events out : List ℕ) (a : Ran) (after
   pub written : (after ≡ map byteOf released ++ drop (length events) out) × (also ≡ after)
 
 pub record SameGiven (reading : ℕ) (f m g n : List ℕ) (r q : Prepared) : Type 0 where
-  pub first : (s : Given) × (r ≡ Prepared.Gives s)
-  pub second : (s : Given) × (q ≡ Prepared.Gives s)
+  pub first : (s : Summary) × (r ≡ Prepared.Gives s)
+  pub second : (s : Summary) × (q ≡ Prepared.Gives s)
   pub runs :
       (events out after also : List ℕ) (a b : Ran) → all (eventGood reading f) events ≡ true → length events ≤ length out →
       RunPromise reading f m startState events out a after → RunPromise reading g n startState events out b also →
@@ -240,8 +236,8 @@ code-alike {reading} {f} {x} {m} {g} {y} {n} {r} {q} alike h k l o =
     ⊎-elim
     (λ d. inl (prepared-one r (Prepared.Refused 11) (h .said ∙ d .0), prepared-one q (Prepared.Refused 11) (k .said ∙ d .1)))
     (λ d.
-    let s : Given = codeSummary (summaryOf (policyOf reading f)) in
-    let t : Given = codeSummary (summaryOf (policyOf reading g)) in
+    let s : Summary = (summaryOf (policyOf reading f)) in
+    let t : Summary = (summaryOf (policyOf reading g)) in
     let i : r ≡ Prepared.Gives s = prepared-one r (Prepared.Gives s) (h .said ∙ d .0) in
     let j : q ≡ Prepared.Gives t = prepared-one q (Prepared.Gives t) (k .said ∙ d .1) in
     let of-f = subst (λ (z : Prepared). PreparePromise reading f x z m) i h in

@@ -15,8 +15,10 @@ use Rattle.policy.specs.File.{policyOf}
 use Rattle.policy.specs.Check.{refusalUnder, all}
 use Rattle.enforcer.specs.State.{stateOf}
 use Rattle.enforcer.specs.Entries.{eventOf, byteOf, RunAnswer, eventGood, inputOf, outputOf, runOf}
-use Rattle.prepare.specs.Entry.{Summary, summaryOf, prepareOf, preparedMarks}
-use Rattle.prepare.specs.Enforces.{EnforcedBy, Leads}
+use Rattle.prepare.specs.Entry.{summaryOf, prepareOf, preparedMarks}
+use Rattle.prepare.specs.declared.Summary.{Summary}
+use Rattle.prepare.specs.Enforcing.{EnforcedBy, Leads}
+use Rattle.enforcer.specs.declared.state.State.{State}
 
 -- What is to be released for the bytes `events`, read from the start on.
 abbrev pub ReleasedFor : Policy → List ℕ → Stream → Type 0
@@ -38,7 +40,7 @@ pub record Released (p : Policy) (events before : List ℕ) (r : RunAnswer) : Ty
 
 -- A run takes a reading, a file, marks, a state, events, and a slice for the released ones.
 abbrev pub Run : Type 0
-Run = (reading : ℕ) (file marks : List ℕ) → Place → (events out : List ℕ) → RunAnswer
+Run = (reading : ℕ) (file marks : List ℕ) → State → (events out : List ℕ) → RunAnswer
 
 -- Demand 2 of a run: where prepare gives a summary, all events within the signals are answered so, from the start and with the marks of prepare, into
 -- every slice that holds as many.
@@ -59,7 +61,7 @@ after b r = record { refusal = r .refusal; count = suc (r .count); state = r .st
 -- One event b, of x = b % 16 and y = b / 16, by the two halves and by the run, whatever the marks and the state are: the run releases the input of the
 -- input half with the output of the output half, and ends in the state that the output half hands back. From there it goes on with the events that
 -- follow. That is one tick: a whole stream, tick after tick, is in specs/Halves.antt.
-pub record Agree (reading : ℕ) (file marks : List ℕ) (s : Place) (b : ℕ) : Type 0 where
+pub record Agree (reading : ℕ) (file marks : List ℕ) (s : State) (b : ℕ) : Type 0 where
   pub x : ℕ
   pub y : ℕ
   pub input : inputOf reading file marks s (b % 16) ≡ gives x
@@ -74,7 +76,7 @@ pub record Agree (reading : ℕ) (file marks : List ℕ) (s : Place) (b : ℕ) :
       ≡ after (byteOf (record { x = x; y = y })) (runOf reading file marks (outputOf reading file marks s x (b / 16) .state) bs out)
 
 -- Or both are refused, by the same number.
-pub record Refuse (reading : ℕ) (file marks : List ℕ) (s : Place) (b : ℕ) : Type 0 where
+pub record Refuse (reading : ℕ) (file marks : List ℕ) (s : State) (b : ℕ) : Type 0 where
   pub number : ℕ
   pub input : inputOf reading file marks s (b % 16) ≡ refused (suc number)
   pub run : (o : ℕ) (out : List ℕ) → runOf reading file marks s (b ∷ []) (o ∷ out) .refusal ≡ suc number
@@ -96,13 +98,13 @@ pub record Demand2 : Type 0 where
   -- "With the marks of prepare and a live state, run and the input half never give 17." A state that is not live they refuse by 16.
   pub input-never-17 :
       (reading : ℕ) (file marks : List ℕ) → refusalUnder reading file ≡ 0 → states (policyOf reading file) ≤ length marks →
-      (s : Place) (x : ℕ) → ¬ (inputOf reading file (preparedMarks reading file marks) s x ≡ refused 17)
+      (s : State) (x : ℕ) → ¬ (inputOf reading file (preparedMarks reading file marks) s x ≡ refused 17)
   pub run-never-17 :
       (reading : ℕ) (file marks : List ℕ) → refusalUnder reading file ≡ 0 → states (policyOf reading file) ≤ length marks →
-      (s : Place) (events out : List ℕ) → ¬ (runOf reading file (preparedMarks reading file marks) s events out .refusal ≡ 17)
+      (s : State) (events out : List ℕ) → ¬ (runOf reading file (preparedMarks reading file marks) s events out .refusal ≡ 17)
   -- The two halves of a tick and the run answer alike, whatever the marks and the state are: each tick of a run is one tick by the halves.
   pub halves-agree :
-      (reading : ℕ) (file marks : List ℕ) (s : Place) (b : ℕ) → eventGood reading file b ≡ true →
+      (reading : ℕ) (file marks : List ℕ) (s : State) (b : ℕ) → eventGood reading file b ≡ true →
       Agree reading file marks s b ⊎ Refuse reading file marks s b
   -- "A released stream enforced again from the start comes back unchanged", in any slice, and ends in the same state.
   pub comes-back :

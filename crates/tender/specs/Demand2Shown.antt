@@ -10,7 +10,8 @@ use native.Mathlib.Omega.{arith}
 use lib.ListN.{length, getD, take, drop, length-map, length-replicate}
 use lib.Seq.{take-at}
 use borrow.Author.Tests.{lt-ltb}
-use Rattle.streams.specs.Answer.{Answer, refused, gives, none-refused}
+use Rattle.streams.specs.Answer.{Answer, refused, gives}
+use Rattle.streams.specs.AnswerLaws.{none-refused}
 use Rattle.streams.specs.Stream.{Stream, Hopeless}
 use Rattle.streams.specs.Corrections.{corrections}
 use Rattle.streams.specs.Laws.{⊆-refl, not-both, passes, enforced-one}
@@ -25,12 +26,15 @@ use Rattle.enforcer.specs.Tick.{inputChoice, ran}
 use Rattle.enforcer.specs.Entries.{eventOf, byteOf, chosen, outputFrom, RunAnswer, runFrom, marksRefusal, xGood, yGood, eventGood, inputOf, outputOf, runOf}
 use Rattle.enforcer.specs.States.{marks-granted}
 use Rattle.enforcer.specs.Refusals.{events-back, fits-good, input-17, run-17}
-use Rattle.prepare.specs.Entry.{Summary, summaryOf, prepareOf, preparedMarks}
-use Rattle.prepare.specs.Enforces.{Leads, leads-start, leads-one, leads-ready, ticked, ticked-ready, tick-found, input-stands, output-ticked, ran-on, ran-stuck, input-found, never-stuck, ran-enforces}
+use Rattle.prepare.specs.Entry.{summaryOf, prepareOf, preparedMarks}
+use Rattle.prepare.specs.declared.Summary.{Summary}
+use Rattle.prepare.specs.Enforces.{leads-start, leads-one, leads-ready, ticked, ticked-ready, tick-found, input-stands, output-ticked, ran-on, ran-stuck, input-found, never-stuck, ran-enforces}
+use Rattle.prepare.specs.Enforcing.{Leads}
 use Rattle.tender.specs.Samples.{S, T}
 use Rattle.tender.specs.Cases
 use Rattle.tender.specs.Demand2.{ReleasedFor, Released, Run, Right, fromStart, Agree, Refuse, Demand2}
 use Rattle.tender.specs.Granted.{well-formed, prepared-marks, prepared-granted, judged, given-passed, given-long, given-goes-on, state-ready, entryRefusal, input-answer, output-answer, run-answer, run-ready}
+use Rattle.enforcer.specs.declared.state.State.{State}
 
 -- For a reading, a file that passes under it and a slice for the marks that is long enough.
 module _ (reading : ℕ) (file marks : List ℕ) (passed : refusalUnder reading file ≡ 0) (long : states (policyOf reading file) ≤ length marks) where
@@ -48,7 +52,7 @@ module _ (reading : ℕ) (file marks : List ℕ) (passed : refusalUnder reading 
       (λ g. (λ n. g .1, λ e. not-both (Permits (policyOf reading file)) [] (g .0))) (judged reading file marks passed long)
 
   -- "With the marks of prepare and a live state, run and the input half never give 17." A state that is not live they refuse by 16.
-  pub input-never-17 : (s : Place) (x : ℕ) → ¬ (inputOf reading file (preparedMarks reading file marks) s x ≡ refused 17)
+  pub input-never-17 : (s : State) (x : ℕ) → ¬ (inputOf reading file (preparedMarks reading file marks) s x ≡ refused 17)
   input-never-17 s x e =
       let M = preparedMarks reading file marks in
       let k = input-17 reading file M s x e in
@@ -56,7 +60,7 @@ module _ (reading : ℕ) (file marks : List ℕ) (passed : refusalUnder reading 
       let z = input-found (policyOf reading file) (well-formed reading file passed) M by (state-ready reading file M s (k .0)) x in
       Option·none-ne-some (z .0) (sym (k .1) ∙ z .1)
 
-  pub run-never-17 : (s : Place) (events out : List ℕ) → ¬ (runOf reading file (preparedMarks reading file marks) s events out .refusal ≡ 17)
+  pub run-never-17 : (s : State) (events out : List ℕ) → ¬ (runOf reading file (preparedMarks reading file marks) s events out .refusal ≡ 17)
   run-never-17 s events out e =
       let M = preparedMarks reading file marks in
       let k = run-17 reading file M s events out e in
@@ -146,7 +150,7 @@ module _ (reading : ℕ) (file marks : List ℕ) (s : Summary) (e : prepareOf re
         state = r .state;
       }))
 
-module _ (reading : ℕ) (file marks : List ℕ) (s : Place) (b : ℕ) (good : eventGood reading file b ≡ true) where
+module _ (reading : ℕ) (file marks : List ℕ) (s : State) (b : ℕ) (good : eventGood reading file b ≡ true) where
   pub halves-agree : Agree reading file marks s b ⊎ Refuse reading file marks s b
   unfolding all ran
   halves-agree = go (entryRefusal reading file marks s) refl (inputChoice (policyOf reading file) marks (placeIn (policyOf reading file) s) (b % 16)) refl

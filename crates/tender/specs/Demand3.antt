@@ -9,7 +9,7 @@ use Prim.Native.Nat.{ℕ, _≤_}
 use lib.ListN.{length, take}
 use Rattle.streams.specs.Answer.{refused, gives}
 use Rattle.streams.specs.Stream.{Stream, Language, _∩_}
-use Rattle.streams.specs.Laws.{_≋_}
+use Rattle.streams.specs.Languages.{_≋_}
 use Rattle.policy.specs.Rules.{Fits, Permits}
 use Rattle.policy.specs.Number.{states}
 use Rattle.policy.specs.File.{inputTags, outputTags, policyOf}
@@ -22,7 +22,7 @@ use Rattle.join.specs.Entry.{joinOf, joinedOut}
 use Rattle.tender.specs.Demand2.{Released, fromStart}
 
 -- "Wherever the joins named are made": for some slice the join of a and b gives a length, and f is as many bytes of what the slice holds then.
-pub record Joined (a b f : List ℕ) : Type 0 where
+pub record JoinMade (a b f : List ℕ) : Type 0 where
   pub slice : List ℕ
   pub size : ℕ
   pub given : joinOf a b slice ≡ gives size
@@ -35,7 +35,7 @@ tags f = (inputTags f, outputTags f)
 -- Of any number: f is the join of the parts, made of two at a time.
 pub data JoinOf : List (List ℕ) → List ℕ → Type 0 where
   alone : {a : List ℕ} → JoinOf (a ∷ []) a
-  joined : {these those : List (List ℕ)} {f g h : List ℕ} → JoinOf these f → JoinOf those g → Joined f g h → JoinOf (these ++ those) h
+  joined : {these those : List (List ℕ)} {f g h : List ℕ} → JoinOf these f → JoinOf those g → JoinMade f g h → JoinOf (these ++ those) h
 
 -- "demands 2 and 3 hold for each reading, used for all the policies named".
 module _ (reading : ℕ) where
@@ -93,21 +93,21 @@ module _ (reading : ℕ) where
 pub record Demand3 : Type 0 where
   -- "Joins carry no reading of their own": the bytes read under any reading are the join of the parts read under it.
   pub joined-reads :
-      {a b f : List ℕ} → Joined a b f → (reading : ℕ) → policyOf reading f ≡ join (policyOf reading a) (policyOf reading b)
+      {a b f : List ℕ} → JoinMade a b f → (reading : ℕ) → policyOf reading f ≡ join (policyOf reading a) (policyOf reading b)
   -- "the join permits exactly the streams that all its parts permit", and "a joined stream rests only where all parts rest together": of two, and of
   -- any number.
   pub permits-exactly :
-      (reading : ℕ) {a b f : List ℕ} → Joined a b f →
+      (reading : ℕ) {a b f : List ℕ} → JoinMade a b f →
       Permits (policyOf reading f) ≋ Permits (policyOf reading a) ∩ Permits (policyOf reading b)
   pub permits-all : (reading : ℕ) {parts : List (List ℕ)} {f : List ℕ} → JoinOf parts f → Permits (policyOf reading f) ≋ AllOf reading parts
   -- The laws, for each reading that 22 does not refuse: "A with B or B with A",
-  pub order : (reading : ℕ) → readingRefusal reading ≡ 0 → {a b f g : List ℕ} → Joined a b f → Joined b a g → Alike reading f g
+  pub order : (reading : ℕ) → readingRefusal reading ≡ 0 → {a b f g : List ℕ} → JoinMade a b f → JoinMade b a g → Alike reading f g
   -- "grouped either way with C",
   pub grouping :
       (reading : ℕ) → readingRefusal reading ≡ 0 → {a b c f g h k : List ℕ} →
-      Joined a b f → Joined f c h → Joined b c g → Joined a g k → Alike reading h k
+      JoinMade a b f → JoinMade f c h → JoinMade b c g → JoinMade a g k → Alike reading h k
   -- "A with itself",
-  pub repetition : (reading : ℕ) → readingRefusal reading ≡ 0 → {a f : List ℕ} → Joined a a f → Alike reading f a
+  pub repetition : (reading : ℕ) → readingRefusal reading ≡ 0 → {a f : List ℕ} → JoinMade a a f → Alike reading f a
   -- "A with the policy that permits all", on either side.
-  pub unit : (reading : ℕ) → readingRefusal reading ≡ 0 → {a b f : List ℕ} → PermitsAll reading b → Joined a b f → Alike reading f a
-  pub unit-first : (reading : ℕ) → readingRefusal reading ≡ 0 → {a b f : List ℕ} → PermitsAll reading b → Joined b a f → Alike reading f a
+  pub unit : (reading : ℕ) → readingRefusal reading ≡ 0 → {a b f : List ℕ} → PermitsAll reading b → JoinMade a b f → Alike reading f a
+  pub unit-first : (reading : ℕ) → readingRefusal reading ≡ 0 → {a b f : List ℕ} → PermitsAll reading b → JoinMade b a f → Alike reading f a

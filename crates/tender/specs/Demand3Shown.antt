@@ -7,35 +7,39 @@ use Prim.Native.Nat.{ℕ, _≤_, _/_, _%_, _^_}
 use lib.Dec.{ltb}
 use lib.ListN.{length, take, drop, replicate}
 use lib.Seq.{take-at}
-use Rattle.streams.specs.Answer.{gives, given-only}
+use Rattle.streams.specs.Answer.{gives}
+use Rattle.streams.specs.AnswerLaws.{given-only}
 use Rattle.streams.specs.Stream.{Stream, Language, _∩_}
 use Rattle.streams.specs.Enforced.{Enforced}
 use Rattle.streams.specs.Corrections.{corrections}
-use Rattle.streams.specs.Laws.{_⊆_, ⊆-refl, ⊆-trans, ∩-first, ∩-second, ∩-into, _≋_, ≋-sym, ≋-trans, ∩-swap, not-both, enforced-one}
-use Rattle.policy.specs.Rules.{Policy, Place, Runs, Permits}
+use Rattle.streams.specs.Laws.{⊆-refl, ⊆-trans, ∩-first, ∩-second, ∩-into, ≋-sym, ≋-trans, ∩-swap, not-both, enforced-one}
+use Rattle.streams.specs.Languages.{_⊆_, _≋_}
+use Rattle.policy.specs.Rules.{Policy, Runs, Permits}
 use Rattle.policy.specs.Rules as Rules
-use Rattle.policy.specs.Number.{states, statesOf}
-use Rattle.policy.specs.File.{policyOf, outputsAt, clocksAt, locationsAt, rulesAt, rulesStart, rulesEnd, pairsFrom, rulesFrom, ruleFrom, boundsFrom}
-use Rattle.policy.specs.Check.{readingRefusal, refusalUnder, under-none, refusalOf, inputsRefusal, outputsRefusal, clocksRefusal, locationsRefusal, rulesSectionRefusal, sectionRefusal, tagsGood, among, all, rulesRefusal, ruleRefusal, headGood, maskGood, boundsGood, boundGood}
-use Rattle.policy.specs.Bytes.{bytesOf, countsBytes, pairsBytes, rulesBytes, ruleBytes, boundsBytes}
+use Rattle.policy.specs.Number.{states}
+use Rattle.policy.specs.File.{policyOf}
+use Rattle.policy.specs.Check.{readingRefusal, refusalUnder, refusalOf, all}
+use Rattle.policy.specs.CheckLaws.{under-none}
 use Rattle.policy.specs.Checked.{checked-file}
 use Rattle.enforcer.specs.Entries.{eventOf, byteOf, eventGood}
 use Rattle.prepare.specs.Entry.{summaryOf, prepareOf}
-use Rattle.join.specs.Join.{of, agree, target, both, pair, each, cell, rows, leftAt, leftBelow, join}
-use Rattle.join.specs.Masks.{alike}
+use Rattle.join.specs.Join.{join}
 use Rattle.join.specs.Steps.{fits-same}
-use Rattle.join.specs.Free.{free-read}
+use Rattle.join.specs.FreeLaws.{free-read}
 use Rattle.join.specs.Laws.{Equal, equal, all-free}
-use Rattle.join.specs.Entry.{sameTags, sameSignals, joinFits, joinedFile, joinRefusal, joinOf, joinedOut}
+use Rattle.join.specs.Entry.{joinedFile, joinRefusal, joinOf, joinedOut}
 use Rattle.join.specs.Written.{unrefused, joined-joins, joined-passes, joined-policy, joined-written, joined-both}
 pub use Rattle.tender.specs.Demand2Shown.{comes-back}
 use Rattle.tender.specs.Samples.{T}
 use Rattle.tender.specs.Granted.{judged}
-use Rattle.tender.specs.Demand3.{Joined, tags, JoinOf, alone, joined, AllOf, SameAnswer, SameReleased, HopelessTogether, ReleaseTheSame, Alike, permitsAll, PermitsAll, Demand3}
+use Rattle.tender.specs.Demand3.{JoinMade, tags, JoinOf, alone, joined, AllOf, SameAnswer, SameReleased, HopelessTogether, ReleaseTheSame, Alike, permitsAll, PermitsAll, Demand3}
 use Rattle.tender.specs.Demand2.{Run, Right, ReleasedFor}
 use Rattle.tender.specs.Demand2Shown.{releases, hopeless-exactly, prepared-otherwise, not-forwarding}
+use Rattle.enforcer.specs.declared.state.State.{State}
+use Rattle.join.specs.Computing.{the-join}
+use Rattle.prepare.specs.Computing.{the-file, the-check, the-bytes}
 
-module _ {a b f : List ℕ} (j : Joined a b f) where
+module _ {a b f : List ℕ} (j : JoinMade a b f) where
   only : (joinRefusal a b (j .slice) ≡ 0) × (length (joinedFile a b (j .slice)) ≡ j .size)
   unfolding joinOf
   only = given-only (joinRefusal a b (j .slice)) (length (joinedFile a b (j .slice))) (j .size) (j .given)
@@ -59,7 +63,7 @@ pub record Made (a b f : List ℕ) : Type 0 where
   pub tags-second : tags f ≡ tags b
   pub permits : (reading : ℕ) → Permits (policyOf reading f) ≋ Permits (policyOf reading a) ∩ Permits (policyOf reading b)
 
-pub made : {a b f : List ℕ} → Joined a b f → Made a b f
+pub made : {a b f : List ℕ} → JoinMade a b f → Made a b f
 unfolding joinedFile join policyOf
 made {a} {b} {f} j =
     let e = only j .0 in
@@ -78,22 +82,22 @@ made {a} {b} {f} j =
 -- "demands 2 and 3 hold for each reading, used for all the policies named".
 module _ (reading : ℕ) where
   -- "the join permits exactly the streams that all its parts permit", and "a joined stream rests only where all parts rest together".
-  pub permits-exactly : {a b f : List ℕ} → Joined a b f → Permits (policyOf reading f) ≋ Permits (policyOf reading a) ∩ Permits (policyOf reading b)
+  pub permits-exactly : {a b f : List ℕ} → JoinMade a b f → Permits (policyOf reading f) ≋ Permits (policyOf reading a) ∩ Permits (policyOf reading b)
   permits-exactly j = made j .permits reading
 
   -- To each part, and from both.
-  pub to-first : {a b f : List ℕ} → Joined a b f → Permits (policyOf reading f) ⊆ Permits (policyOf reading a)
+  pub to-first : {a b f : List ℕ} → JoinMade a b f → Permits (policyOf reading f) ⊆ Permits (policyOf reading a)
   to-first j = ⊆-trans (permits-exactly j .0) (∩-first _ _)
 
-  pub to-second : {a b f : List ℕ} → Joined a b f → Permits (policyOf reading f) ⊆ Permits (policyOf reading b)
+  pub to-second : {a b f : List ℕ} → JoinMade a b f → Permits (policyOf reading f) ⊆ Permits (policyOf reading b)
   to-second j = ⊆-trans (permits-exactly j .0) (∩-second _ _)
 
-  into : {a b f : List ℕ} {L : Language} → Joined a b f →
+  into : {a b f : List ℕ} {L : Language} → JoinMade a b f →
       L ⊆ Permits (policyOf reading a) → L ⊆ Permits (policyOf reading b) → L ⊆ Permits (policyOf reading f)
   into j f g = ⊆-trans (∩-into f g) (permits-exactly j .1)
 
   -- "all its parts": of three, grouped either way.
-  pub permits-left : {a b c f h : List ℕ} → Joined a b f → Joined f c h →
+  pub permits-left : {a b c f h : List ℕ} → JoinMade a b f → JoinMade f c h →
       Permits (policyOf reading h) ≋ Permits (policyOf reading a) ∩ Permits (policyOf reading b) ∩ Permits (policyOf reading c)
   permits-left {a} {b} {c} j k =
       let M = Permits (policyOf reading b) ∩ Permits (policyOf reading c) in
@@ -103,7 +107,7 @@ module _ (reading : ℕ) where
             (⊆-trans all (∩-second (Permits (policyOf reading b)) (Permits (policyOf reading c)))),
       )
 
-  pub permits-right : {a b c g k : List ℕ} → Joined b c g → Joined a g k →
+  pub permits-right : {a b c g k : List ℕ} → JoinMade b c g → JoinMade a g k →
       Permits (policyOf reading k) ≋ Permits (policyOf reading a) ∩ Permits (policyOf reading b) ∩ Permits (policyOf reading c)
   permits-right {a} {b} {c} j k =
       let M = Permits (policyOf reading b) ∩ Permits (policyOf reading c) in (
@@ -205,44 +209,44 @@ module _ (reading : ℕ) (named : readingRefusal reading ≡ 0) where
   alike-by {f} {g} d e = permits-alike reading f g (under-none reading f .1 (named, d)) (under-none reading g .1 (named, e))
 
   -- "A with B or B with A"
-  pub order : {a b f g : List ℕ} → Joined a b f → Joined b a g → Alike reading f g
+  pub order : {a b f g : List ℕ} → JoinMade a b f → JoinMade b a g → Alike reading f g
   order j k =
       let s = made j in
       let t = made k in
       alike-by (s .passed) (t .passed) (cc) (≋-trans (s .permits reading) (≋-trans (∩-swap _ _) (≋-sym (t .permits reading))))
 
   -- "grouped either way with C"
-  pub grouping : {a b c f g h k : List ℕ} → Joined a b f → Joined f c h → Joined b c g → Joined a g k → Alike reading h k
+  pub grouping : {a b c f g h k : List ℕ} → JoinMade a b f → JoinMade f c h → JoinMade b c g → JoinMade a g k → Alike reading h k
   grouping i j m n =
       let s = made j in
       let t = made n in
       alike-by (s .passed) (t .passed) (cc (made i .tags-first)) (≋-trans (permits-left reading i j) (≋-sym (permits-right reading m n)))
 
   -- "A with itself"
-  pub repetition : {a f : List ℕ} → Joined a a f → Alike reading f a
+  pub repetition : {a f : List ℕ} → JoinMade a a f → Alike reading f a
   repetition j = let s = made j in alike-by (s .passed) (s .first) (s .tags-first) (to-first reading j, into reading j (⊆-refl _) (⊆-refl _))
 
   -- "A with the policy that permits all": with any policy that permits all that A permits and rests wherever A rests, on either side.
   module _ {a b f : List ℕ} (more : Permits (policyOf reading a) ⊆ Permits (policyOf reading b)) where
-    pub unit-any : Joined a b f → Alike reading f a
+    pub unit-any : JoinMade a b f → Alike reading f a
     unit-any j =
         let s = made j in alike-by (s .passed) (s .first) (s .tags-first) (to-first reading j, into reading j (⊆-refl _) more)
 
-    pub unit-any-first : Joined b a f → Alike reading f a
+    pub unit-any-first : JoinMade b a f → Alike reading f a
     unit-any-first j =
         let s = made j in alike-by (s .passed) (s .second) (s .tags-second) (to-second reading j, into reading j more (⊆-refl _))
 
-  pub unit : {a b f : List ℕ} → PermitsAll reading b → Joined a b f → Alike reading f a
+  pub unit : {a b f : List ℕ} → PermitsAll reading b → JoinMade a b f → Alike reading f a
   unit {a} {b} free j = let s = made j in unit-any (permits-more reading a b (sym (s .tags-first) ∙ s .tags-second) free) j
 
-  pub unit-first : {a b f : List ℕ} → PermitsAll reading b → Joined b a f → Alike reading f a
+  pub unit-first : {a b f : List ℕ} → PermitsAll reading b → JoinMade b a f → Alike reading f a
   unit-first {a} {b} free j = let s = made j in unit-any-first (permits-more reading a b (sym (s .tags-second) ∙ s .tags-first) free) j
 
   -- The file that permits all, over the signals of a, is one.
-  pub unit-law : {a f : List ℕ} → Joined a (permitsAll a) f → Alike reading f a
+  pub unit-law : {a f : List ℕ} → JoinMade a (permitsAll a) f → Alike reading f a
   unit-law {a} j = unit-any (all-permitted reading a (made j .first)) j
 
-  pub unit-law-first : {a f : List ℕ} → Joined (permitsAll a) a f → Alike reading f a
+  pub unit-law-first : {a f : List ℕ} → JoinMade (permitsAll a) a f → Alike reading f a
   unit-law-first {a} j = unit-any-first (all-permitted reading a (made j .second)) j
 
 pub demand-3 : Demand3
@@ -264,12 +268,12 @@ forward reading file marks s events out = record { refusal = 0; count = length e
 
 -- Whatever the reading and the two files are, it answers the same,
 pub forward-alike :
-    (reading : ℕ) (f m g n events out : List ℕ) (s t : Place) → SameAnswer (forward reading f m s events out) (forward reading g n t events out)
+    (reading : ℕ) (f m g n events out : List ℕ) (s t : State) → SameAnswer (forward reading f m s events out) (forward reading g n t events out)
 forward-alike reading f m g n events out s t = record { refusal = refl; count = refl; out = refl }
 
 -- and what it released comes back unchanged;
 pub forward-back :
-    (reading : ℕ) (file marks events out again : List ℕ) (s : Place) →
+    (reading : ℕ) (file marks events out again : List ℕ) (s : State) →
     let released = take (length events) (forward reading file marks s events out .out) in
     forward reading file marks s released again .out ≡ released ++ drop (length events) again
 forward-back reading file marks events out again s = rw (take-at events _ _ refl)
@@ -279,10 +283,6 @@ pub forward-wrong : ¬ Right forward
 forward-wrong right = not-forwarding forward right refl
 
 -- Such joins are made: sample T with itself.
-pub T-joined : Joined T T (take 40 (joinedOut T T (replicate 40 0)))
-unfolding
-    joinOf joinRefusal joinedFile sameSignals sameTags joinFits join rows cell each pair both agree target of alike leftAt leftBelow bytesOf
-    countsBytes pairsBytes rulesBytes ruleBytes boundsBytes refusalOf inputsRefusal outputsRefusal clocksRefusal locationsRefusal rulesSectionRefusal
-    sectionRefusal tagsGood among all rulesRefusal ruleRefusal headGood maskGood boundsGood boundGood policyOf outputsAt clocksAt locationsAt rulesAt
-    rulesStart rulesEnd pairsFrom rulesFrom ruleFrom boundsFrom statesOf Rules.rests
+pub T-joined : JoinMade T T (take 40 (joinedOut T T (replicate 40 0)))
+unfolding the-file the-check the-bytes the-join Rules.rests
 T-joined = record { slice = replicate 40 0; size = 40; given = refl; written = refl }

@@ -12,7 +12,8 @@ use Rattle.streams.specs.Stream.{GoesOn, Hopeless}
 use Rattle.policy.specs.Rules.{Place, Permits}
 use Rattle.policy.specs.Number.{states, numberOf}
 use Rattle.policy.specs.File.{policyOf}
-use Rattle.policy.specs.Check.{readingRefusal, no-reading, refusalUnder, under-none, all}
+use Rattle.policy.specs.Check.{readingRefusal, refusalUnder, all}
+use Rattle.policy.specs.CheckLaws.{no-reading, under-none}
 use Rattle.policy.specs.Sound.{WellFormed}
 use Rattle.policy.specs.Numbered.{numberOf-start}
 use Rattle.policy.specs.Checked.{checked-file}
@@ -22,10 +23,13 @@ use Rattle.enforcer.specs.States.{good-inside, inside-good, marks-granted, stat
 use Rattle.enforcer.specs.Tick.{inputChoice, outputTick, ran}
 use Rattle.enforcer.specs.Entries.{eventOf, chosen, outputFrom, runFrom, marksRefusal, xGood, yGood, eventGood, stateRefusal, inputRefusal, inputOf, outputRefusal, outputOf, runRefusal, runOf}
 use Rattle.prepare.specs.Table.{marksOf}
-use Rattle.prepare.specs.Entry.{Summary, summaryOf, prepareOf, preparedMarks}
+use Rattle.prepare.specs.Entry.{summaryOf, prepareOf, preparedMarks}
+use Rattle.prepare.specs.declared.Summary.{Summary}
 use Rattle.prepare.specs.Live.{marks-length, goes-on-or-ends, hopeless-start}
-use Rattle.prepare.specs.Promise.{gives-past}
-use Rattle.prepare.specs.Enforces.{Prepared, prepared-front, leads-start, Ready, goes-on-ready}
+use Rattle.prepare.specs.PromiseLaws.{gives-past}
+use Rattle.prepare.specs.Enforces.{prepared-front, leads-start, goes-on-ready}
+use Rattle.prepare.specs.Enforcing.{AsPrepared, MarkedPlace}
+use Rattle.enforcer.specs.declared.state.State.{State}
 
 else-none : (a b : ℕ) → a orElse b orElse 0 ≡ a orElse b
 else-none zero zero = refl
@@ -33,8 +37,8 @@ else-none zero (suc b) = refl
 else-none (suc a) b = refl
 
 module _ (reading : ℕ) (file marks : List ℕ) where
-  module _ (s : Place) where
-    pub state-ready : stateRefusal reading file marks s ≡ 0 → Ready (policyOf reading file) marks (placeIn (policyOf reading file) s)
+  module _ (s : State) where
+    pub state-ready : stateRefusal reading file marks s ≡ 0 → MarkedPlace (policyOf reading file) marks (placeIn (policyOf reading file) s)
     state-ready e = let k = state-granted reading file marks s .0 e in record { inside = good-inside (policyOf reading file) s (k .0); marked = k .1 }
 
     -- What both halves and the run refuse before they look at an event: 22, 1 to 10, and 16.
@@ -61,7 +65,7 @@ module _ (reading : ℕ) (file marks : List ℕ) where
     unfolding runOf runRefusal
     run-answer events out l e = rw (le-leb _ _ l, e, else-none)
 
-  pub ready-state : (t : Place) → Ready (policyOf reading file) marks t → stateRefusal reading file marks (stateOf t) ≡ 0
+  pub ready-state : (t : Place) → MarkedPlace (policyOf reading file) marks t → stateRefusal reading file marks (stateOf t) ≡ 0
   ready-state t k =
       state-granted reading file marks (stateOf t) .1 (
         inside-good (policyOf reading file) t (k .inside),
@@ -70,7 +74,7 @@ module _ (reading : ℕ) (file marks : List ℕ) where
 
   -- From a place that is ready nothing is refused.
   pub run-ready :
-      marksRefusal reading file marks ≡ 0 → (t : Place) → Ready (policyOf reading file) marks t →
+      marksRefusal reading file marks ≡ 0 → (t : Place) → MarkedPlace (policyOf reading file) marks t →
       (events out : List ℕ) → length events ≤ length out → all (eventGood reading file) events ≡ true →
       runOf reading file marks (stateOf t) events out ≡ runFrom (stateOf t) out 0 (ran (policyOf reading file) marks t (map eventOf events))
   run-ready e t k events out l g =
@@ -95,7 +99,7 @@ module _ (reading : ℕ) (file marks : List ℕ) (passed : refusalUnder reading 
   granted : marksRefusal reading file marks ≡ 0
   granted = marks-granted reading file marks .1 (passed, long)
 
-  pub prepared-marks : Prepared (policyOf reading file) (preparedMarks reading file marks)
+  pub prepared-marks : AsPrepared (policyOf reading file) (preparedMarks reading file marks)
   unfolding preparedMarks
   prepared-marks = rw granted (prepared-front (policyOf reading file) (drop (states (policyOf reading file)) marks))
 

@@ -9,7 +9,8 @@ use native.Mathlib.Omega.{arith}
 use lib.Dec.{leb, ltb, eqb}
 use lib.ListN.{length, take, drop, replicate, length-map, length-take}
 use borrow.Author.Tests.{lt-ltb, ltb-true, eqb-true}
-use Rattle.streams.specs.Answer.{refused, gives, none-refused, none-unless}
+use Rattle.streams.specs.Answer.{refused, gives}
+use Rattle.streams.specs.AnswerLaws.{none-refused, none-unless}
 use Rattle.streams.specs.Stream.{Event, Stream, GoesOn}
 use Rattle.streams.specs.Corrections.{corrections}
 use Rattle.streams.specs.Published.{soundness}
@@ -21,22 +22,23 @@ use Rattle.policy.specs.Checked.{well-sound}
 use Rattle.enforcer.specs.State.{placeIn, stateOf, clocksGood, stateGood}
 use Rattle.enforcer.specs.Laid.{placeIn-stateOf}
 use Rattle.enforcer.specs.States.{good-inside, marks-granted, state-granted}
-use Rattle.enforcer.specs.Tick.{Tick, inputChoice, outputTick, tick, ran}
+use Rattle.enforcer.specs.Tick.{ReleasedTick, inputChoice, outputTick, tick, ran}
 use Rattle.enforcer.specs.Tick as Run
 use Rattle.enforcer.specs.Ticks.{ticked, input-stands, ran-on, ran-none}
 use Rattle.enforcer.specs.Entries.{eventOf, byteOf, chosen, outputFrom, OutputAnswer, RunAnswer, marksRefusal, xGood, yGood, eventGood, stateRefusal, inputRefusal, inputOf, outputRefusal, outputOf, runOf}
 use Rattle.enforcer.specs.Refusals.{events-back, fits-good}
-use Rattle.enforcer.specs.Code.{asPlace, startState}
+use Rattle.enforcer.specs.Code.{startState}
 use Rattle.enforcer.specs.Promises.{ranSaid, InputPromise, OutputPromise, RunPromise, answer-one}
 use Rattle.enforcer.specs.declared.state.State.{State}
-use Rattle.enforcer.specs.declared.halves.Answer.{Answer}
-use Rattle.enforcer.specs.declared.halves.Answer.the-variants as Code
+use Rattle.enforcer.specs.declared.halves.HalfAnswer.{HalfAnswer}
+use Rattle.enforcer.specs.declared.halves.HalfAnswer.the-variants as Code
 use Rattle.enforcer.specs.declared.halves.Output.{Output}
 use Rattle.enforcer.specs.declared.runs.Ran.{Ran}
-use Rattle.prepare.specs.Entry.{Summary, prepareOf, preparedMarks}
-use Rattle.prepare.specs.Promise.{summarySaid, PreparePromise}
-use Rattle.prepare.specs.Enforces.{EnforcedBy, Prepared, Leads, leads-start, leads-ready, Ready, ticked-ready, tick-found, output-found, output-ticked, input-found, ran-enforces}
-use Rattle.prepare.specs.declared.Summary.{Summary as Given}
+use Rattle.prepare.specs.Entry.{prepareOf, preparedMarks}
+use Rattle.prepare.specs.Promise.{PreparePromise}
+use Rattle.prepare.specs.Enforces.{leads-start, leads-ready, ticked-ready, tick-found, output-found, output-ticked, input-found, ran-enforces}
+use Rattle.prepare.specs.Enforcing.{EnforcedBy, AsPrepared, Leads, MarkedPlace}
+use Rattle.prepare.specs.declared.Summary.{Summary}
 use Rattle.prepare.specs.declared.Prepared.the-variants as Prepare
 use Rattle.console.specs.Scratch.{start-is}
 use Rattle.tender.specs.Granted.{well-formed, entryRefusal, state-ready, ready-state, input-answer, output-answer, run-ready, prepared-marks, prepared-granted, given-passed, given-long, given-goes-on}
@@ -47,7 +49,7 @@ use Rattle.tender.specs.Demand2Shown.{releases}
 pub record Looped : Type 0 where
   pub refusal : ℕ
   pub released : Stream
-  pub state : Place
+  pub state : State
 
 -- One more event, released before the others.
 abbrev pub before : Event → Looped → Looped
@@ -55,7 +57,7 @@ before r l = record { refusal = l .refusal; released = r ∷ l .released; state 
 
 -- For each event read, the input half with its x; then the output half, "given the x' passed to the controller and its answer y". "Then the state
 -- moves", and the next event is read. A refusal of either half ends the loop.
-unfoldable pub loop : (reading : ℕ) (file marks : List ℕ) → Place → Stream → Looped
+unfoldable pub loop : (reading : ℕ) (file marks : List ℕ) → State → Stream → Looped
 loop reading file marks s [] = record { refusal = 0; released = []; state = s }
 loop reading file marks s (e ∷ es) =
     elim (inputOf reading file marks s (e .x)) [
@@ -67,7 +69,7 @@ loop reading file marks s (e ∷ es) =
           ]
     ]
 
-module _ (reading : ℕ) (file marks : List ℕ) (s : Place) (e : Event) (es : Stream) where
+module _ (reading : ℕ) (file marks : List ℕ) (s : State) (e : Event) (es : Stream) where
   -- One tick of the loop, and its end where the input half refuses.
   loop-more :
       {x y : ℕ} → inputOf reading file marks s (e .x) ≡ gives x → outputOf reading file marks s x (e .y) .answer ≡ gives y →
@@ -90,7 +92,7 @@ asRun l out =
       out = map byteOf (l .released) ++ drop (length (l .released)) out;
     }
 
-abbrev ranAs : Run.Ran → Looped
+abbrev ranAs : Run.Progress → Looped
 ranAs r = record { refusal = cond (r .stuck) 17 0; released = r .released; state = stateOf (r .place) }
 
 no-tick : (p : Policy) (marks : List ℕ) (t : Place) (e : Event) → inputChoice p marks t (e .x) ≡ none → tick p marks t e ≡ none
@@ -102,11 +104,11 @@ chosen-none : {A : Type 0} (n : ℕ) (o : Option A) {a : A} → chosen n o ≡ g
 chosen-none zero o e = refl
 chosen-none (suc n) o e = let z : _≡_ {A = ℕ} 0 1 = cc in absurd (omega arith)
 
-from-none : (s : Place) (n : ℕ) (o : Option Tick) {y : ℕ} → outputFrom s (chosen n o) .answer ≡ gives y → n ≡ 0
+from-none : (s : State) (n : ℕ) (o : Option ReleasedTick) {y : ℕ} → outputFrom s (chosen n o) .answer ≡ gives y → n ≡ 0
 from-none s zero o e = refl
 from-none s (suc n) o e = let z : _≡_ {A = ℕ} 0 1 = cc in absurd (omega arith)
 
-module _ (reading : ℕ) (file marks : List ℕ) (s : Place) where
+module _ (reading : ℕ) (file marks : List ℕ) (s : State) where
   input-fits : (x : ℕ) {z : ℕ} → inputOf reading file marks s x ≡ gives z → xGood reading file x ≡ true
   unfolding inputOf inputRefusal
   input-fits x e =
@@ -135,7 +137,7 @@ clocks-back [] vs n l e = zeros vs n (omega arith) e
 clocks-back (c ∷ cs) [] n l e = absurd (false≢true e)
 clocks-back (c ∷ cs) (v ∷ vs) n l e = ap (_∷_ v) (clocks-back cs vs n (omega arith) (and-eq-true-iff (leb v c) _ .0 e .1))
 
-state-back : (p : Policy) (s : Place) → length (s .clocks) ≡ 4 → stateGood p s ≡ true → stateOf (placeIn p s) ≡ s
+state-back : (p : Policy) (s : State) → length (s .clocks) ≡ 4 → stateGood p s ≡ true → stateOf (placeIn p s) ≡ s
 unfolding stateGood
 state-back p s four e =
     let k = and-eq-true-iff (ltb (s .location) (p .locations)) _ .0 e in
@@ -159,7 +161,7 @@ module _ (reading : ℕ) (file marks : List ℕ) where
   p = policyOf reading file
 
   -- The halves of one tick, from a place that is ready.
-  module _ (granted : marksRefusal reading file marks ≡ 0) {t : Place} (k : Ready p marks t) where
+  module _ (granted : marksRefusal reading file marks ≡ 0) {t : Place} (k : MarkedPlace p marks t) where
     here : placeIn p (stateOf t) ≡ t
     here = placeIn-stateOf p (k .inside)
 
@@ -176,20 +178,20 @@ module _ (reading : ℕ) (file marks : List ℕ) where
 
   -- From such a place the loop goes as the run does.
   loop-ran :
-      marksRefusal reading file marks ≡ 0 → {t : Place} → Ready p marks t → {es : Stream} → Fits p es →
+      marksRefusal reading file marks ≡ 0 → {t : Place} → MarkedPlace p marks t → {es : Stream} → Fits p es →
       loop reading file marks (stateOf t) es ≡ ranAs (ran p marks t es)
   unfolding loop ran
   loop-ran granted k fits-none = refl
   loop-ran granted {t} k (fits-more {e = e} {es = es} f h) = go (λ u i. loop-ran granted i h) (inputChoice p marks t (e .x)) refl
     where
-      s : Place
+      s : State
       s = stateOf t
 
       input : inputOf reading file marks s (e .x) ≡ chosen 0 (inputChoice p marks t (e .x))
       input = input-here granted k (e .x) (lt-ltb _ _ (f .x))
 
       go :
-          ((u : Place) → Ready p marks u → loop reading file marks (stateOf u) es ≡ ranAs (ran p marks u es)) →
+          ((u : Place) → MarkedPlace p marks u → loop reading file marks (stateOf u) es ≡ ranAs (ran p marks u es)) →
           (o : Option ℕ) → inputChoice p marks t (e .x) ≡ o → loop reading file marks s (e ∷ es) ≡ ranAs (ran p marks t (e ∷ es))
       go more none q = loop-ends reading file marks s e es (rw (input, q)) ∙ sym (ap ranAs (ran-none p marks t e es (no-tick p marks t e q)))
       go more (some z) q =
@@ -210,7 +212,7 @@ module _ (reading : ℕ) (file marks : List ℕ) where
   -- From any state that is not refused, whatever the marks are: tick after tick, over the whole stream, the two halves release what the run does, leave
   -- the state that it does, and stop where it does and by the same number.
   pub loop-runs :
-      (s : Place) → length (s .clocks) ≡ 4 → entryRefusal reading file marks s ≡ 0 →
+      (s : State) → length (s .clocks) ≡ 4 → entryRefusal reading file marks s ≡ 0 →
       (events out : List ℕ) → all (eventGood reading file) events ≡ true → length events ≤ length out →
       runOf reading file marks s events out ≡ asRun (loop reading file marks s (map eventOf events)) out
   loop-runs s four e events out good long =
@@ -218,7 +220,7 @@ module _ (reading : ℕ) (file marks : List ℕ) where
       let k = none-refused (marksRefusal reading file marks) _ .0 e in
       let ready = state-ready reading file marks s (k .1) in
       let back : stateOf t ≡ s = state-back p s four (state-granted reading file marks s .0 (k .1) .0) in
-      subst (λ (z : Place). runOf reading file marks z events out ≡ asRun (loop reading file marks z (map eventOf events)) out) back
+      subst (λ (z : State). runOf reading file marks z events out ≡ asRun (loop reading file marks z (map eventOf events)) out) back
       (run-ready reading file marks (k .0) t ready events out long good
       ∙ sym (ap (λ (l : Looped). asRun l out) (loop-ran (k .0) ready (good-fits reading file events good))))
 
@@ -243,44 +245,44 @@ loop-releases reading file marks s e events out good long =
 
 -- The code's halves, used tick after tick from the state s: for the events read they gave the released ones, and the state that they left is t. The
 -- controller's answer y may go by the x' that the input half gave.
-pub data Ticks (reading : ℕ) (file marks : List ℕ) : State → (read released : Stream) → State → Type 0 where
-  ticks-none : {s : State} → Ticks reading file marks s [] [] s
+pub data TickByTick (reading : ℕ) (file marks : List ℕ) : State → (read released : Stream) → State → Type 0 where
+  ticks-none : {s : State} → TickByTick reading file marks s [] [] s
   ticks-more : {s u t : State} {e r : Event} {es rs : Stream} →
       InputPromise reading file marks s (e .x) (Code.Value (r .x)) →
       OutputPromise reading file marks s (r .x) (e .y) (record { answer = Code.Value (r .y); state = u }) →
-      Ticks reading file marks u es rs t → Ticks reading file marks s (e ∷ es) (r ∷ rs) t
+      TickByTick reading file marks u es rs t → TickByTick reading file marks s (e ∷ es) (r ∷ rs) t
 
 module _ {reading : ℕ} {file marks : List ℕ} where
-  ticks-loop : {s t : State} {es rs : Stream} → Ticks reading file marks s es rs t →
-      loop reading file marks (asPlace s) es ≡ record { refusal = 0; released = rs; state = asPlace t }
+  ticks-loop : {s t : State} {es rs : Stream} → TickByTick reading file marks s es rs t →
+      loop reading file marks s es ≡ record { refusal = 0; released = rs; state = t }
   unfolding loop
   ticks-loop ticks-none = refl
   ticks-loop (ticks-more {s = s} {e = e} {r = r} {es = es} i o h) =
-      loop-more reading file marks (asPlace s) e es (sym (i .said)) (sym (ap (λ (z : OutputAnswer). z .answer) (o .said)))
+      loop-more reading file marks s e es (sym (i .said)) (sym (ap (λ (z : OutputAnswer). z .answer) (o .said)))
       ∙ ap (λ (z : OutputAnswer). before r (loop reading file marks (z .state) es)) (sym (o .said))
       ∙ ap (before r) (ticks-loop h)
 
   -- What the halves did not refuse by 15 has no bit beyond its signals.
-  ticks-fit : {s t : State} {es rs : Stream} → Ticks reading file marks s es rs t → Fits (policyOf reading file) es
+  ticks-fit : {s t : State} {es rs : Stream} → TickByTick reading file marks s es rs t → Fits (policyOf reading file) es
   ticks-fit ticks-none = fits-none
   ticks-fit (ticks-more {s = s} {e = e} i o h) =
       fits-more (record {
-        x = ltb-true _ _ (input-fits reading file marks (asPlace s) (e .x) (sym (i .said)));
-        y = ltb-true _ _ (output-fits reading file marks (asPlace s) _ (e .y) (sym (ap (λ (z : OutputAnswer). z .answer) (o .said))));
+        x = ltb-true _ _ (input-fits reading file marks s (e .x) (sym (i .said)));
+        y = ltb-true _ _ (output-fits reading file marks s _ (e .y) (sym (ap (λ (z : OutputAnswer). z .answer) (o .said))));
       }) (ticks-fit h)
 
   -- The code's run over the same events, from the same state, releases the same and leaves the same state.
-  pub ticks-run : {s t : State} {es rs : Stream} {out after : List ℕ} {r : Ran} → Ticks reading file marks s es rs t →
-      length (s .clocks) ≡ 4 → entryRefusal reading file marks (asPlace s) ≡ 0 →
+  pub ticks-run : {s t : State} {es rs : Stream} {out after : List ℕ} {r : Ran} → TickByTick reading file marks s es rs t →
+      length (s .clocks) ≡ 4 → entryRefusal reading file marks s ≡ 0 →
       RunPromise reading file marks s (map byteOf es) out r after → length es ≤ length out →
-      ranSaid r after ≡ record { refusal = 0; count = length rs; state = asPlace t; out = map byteOf rs ++ drop (length rs) out }
+      ranSaid r after ≡ record { refusal = 0; count = length rs; state = t; out = map byteOf rs ++ drop (length rs) out }
   ticks-run {s} {es = es} {out = out} h four e k long =
       let p = policyOf reading file in
       let ok = well-formed reading file (marks-granted reading file marks .0 (none-refused (marksRefusal reading file marks) _ .0 e .0) .0) in
       let fits = ticks-fit h in
       k .said
-      ∙ loop-runs reading file marks (asPlace s) four e (map byteOf es) out (fits-good reading file ok fits) (rw length-map long)
-      ∙ ap (λ (w : Stream). asRun (loop reading file marks (asPlace s) w) out) (events-back p ok fits)
+      ∙ loop-runs reading file marks s four e (map byteOf es) out (fits-good reading file ok fits) (rw length-map long)
+      ∙ ap (λ (w : Stream). asRun (loop reading file marks s w) out) (events-back p ok fits)
       ∙ ap (λ (l : Looped). asRun l out) (ticks-loop h)
 
 -- What the code's halves released from the start, after prepare's code gave a summary: demand 2's stream, and the state is the one that it leads to.
@@ -288,35 +290,35 @@ pub record TicksReleased (p : Policy) (es rs : Stream) (t : State) : Type 0 wher
   pub enforced : EnforcedBy p [] es rs
   pub place : Place
   pub leads : Leads p rs place
-  pub state : asPlace t ≡ stateOf place
+  pub state : t ≡ stateOf place
 
-module _ {reading : ℕ} {file lent marks : List ℕ} {s : Given} (h : PreparePromise reading file lent (Prepare.Gives s) marks) where
-  given : prepareOf reading file lent ≡ gives (summarySaid s)
+module _ {reading : ℕ} {file lent marks : List ℕ} {s : Summary} (h : PreparePromise reading file lent (Prepare.Gives s) marks) where
+  given : prepareOf reading file lent ≡ gives s
   given = sym (h .said)
 
   ok : WellFormed (policyOf reading file)
-  ok = well-formed reading file (given-passed reading file lent (summarySaid s) given)
+  ok = well-formed reading file (given-passed reading file lent s given)
 
-  by : Prepared (policyOf reading file) marks
+  by : AsPrepared (policyOf reading file) marks
   by =
-      subst (Prepared (policyOf reading file)) (sym (h .marks))
-      (prepared-marks reading file lent (given-passed reading file lent (summarySaid s) given) (given-long reading file lent (summarySaid s) given))
+      subst (AsPrepared (policyOf reading file)) (sym (h .marks))
+      (prepared-marks reading file lent (given-passed reading file lent s given) (given-long reading file lent s given))
 
   granted : marksRefusal reading file marks ≡ 0
   granted =
       subst (λ (m : List ℕ). marksRefusal reading file m ≡ 0) (sym (h .marks))
-      (prepared-granted reading file lent (given-passed reading file lent (summarySaid s) given) (given-long reading file lent (summarySaid s) given))
+      (prepared-granted reading file lent (given-passed reading file lent s given) (given-long reading file lent s given))
 
   goes : GoesOn (Permits (policyOf reading file)) []
-  goes = given-goes-on reading file lent (summarySaid s) given
+  goes = given-goes-on reading file lent s given
 
-  module _ {es rs : Stream} {t : State} (ticks : Ticks reading file marks startState es rs t) where
+  module _ {es rs : Stream} {t : State} (ticks : TickByTick reading file marks startState es rs t) where
     pub ticks-release : TicksReleased (policyOf reading file) es rs t
     ticks-release =
         let p = policyOf reading file in
         let r = ran-enforces p ok marks by (leads-start p) goes es in
-        let same : record { refusal = 0; released = rs; state = asPlace t } ≡ ranAs (ran p marks (start p) es) =
-        sym (ticks-loop ticks) ∙ ap (λ (z : Place). loop reading file marks z es) (sym (start-is p (ok .clocks)))
+        let same : record { refusal = 0; released = rs; state = t } ≡ ranAs (ran p marks (start p) es) =
+        sym (ticks-loop ticks) ∙ ap (λ (z : State). loop reading file marks z es) (sym (start-is p (ok .clocks)))
         ∙ loop-ran reading file marks granted (leads-ready p ok marks by (leads-start p) goes) (ticks-fit ticks)
         in
         let released : ran p marks (start p) es .released ≡ rs = ap (λ (l : Looped). l .released) (sym same) in
@@ -327,7 +329,7 @@ module _ {reading : ℕ} {file lent marks : List ℕ} {s : Given} (h : PreparePr
           state = ap (λ (l : Looped). l .state) same;
         }
 
-    ready-there : Ready (policyOf reading file) marks (ticks-release .place)
+    ready-there : MarkedPlace (policyOf reading file) marks (ticks-release .place)
     ready-there =
         leads-ready (policyOf reading file) ok marks by (ticks-release .leads)
         (soundness corrections (Permits (policyOf reading file)) _ _ goes (ticks-release .enforced))
@@ -335,7 +337,7 @@ module _ {reading : ℕ} {file lent marks : List ℕ} {s : Given} (h : PreparePr
     -- And they never stop: whatever is read next, the input half gives an input, and for it and whatever the controller answers the output half gives
     -- an output.
     pub ticks-go-on :
-        (x : ℕ) (r : Answer) → x < inputValues (policyOf reading file) → InputPromise reading file marks t x r →
+        (x : ℕ) (r : HalfAnswer) → x < inputValues (policyOf reading file) → InputPromise reading file marks t x r →
         (z : ℕ) × (r ≡ Code.Value z)
         × ((y : ℕ) (o : Output) → y < outputValues (policyOf reading file) → OutputPromise reading file marks t z y o → (w : ℕ) × (o .answer ≡ Code.Value w))
     ticks-go-on x r f i =
@@ -348,7 +350,7 @@ module _ {reading : ℕ} {file lent marks : List ℕ} {s : Given} (h : PreparePr
         input-here reading file marks granted ready-there x (lt-ltb _ _ f) ∙ rw (z .1)
         in (
           z .0,
-          answer-one r (Code.Value (z .0)) (i .said ∙ ap (λ (s : Place). inputOf reading file marks s x) at ∙ input),
+          answer-one r (Code.Value (z .0)) (i .said ∙ ap (λ (s : State). inputOf reading file marks s x) at ∙ input),
           λ y o g k.
               let w = output-found p marks u (z .0) y (stands .1) in
               let output : outputOf reading file marks (stateOf u) (z .0) y ≡ outputFrom (stateOf u) (gives (w .0)) =
@@ -356,6 +358,6 @@ module _ {reading : ℕ} {file lent marks : List ℕ} {s : Given} (h : PreparePr
               in (
                 w .0 .event .y,
                 answer-one (o .answer) (Code.Value (w .0 .event .y))
-                    (ap (λ (a : OutputAnswer). a .answer) (k .said ∙ ap (λ (s : Place). outputOf reading file marks s (z .0) y) at ∙ output)),
+                    (ap (λ (a : OutputAnswer). a .answer) (k .said ∙ ap (λ (s : State). outputOf reading file marks s (z .0) y) at ∙ output)),
               ),
         )

@@ -3,31 +3,20 @@
 -- and under each reading. The page for a lawyer is docs/ANNEX.md.
 use mathlib.Core.Path.{_≡_, refl, sym, ap, subst, _∙_}
 use mathlib.Core.List.{List, [], _∷_, map}
-use mathlib.Core.Option.{bind, Option·none-ne-some}
+use mathlib.Core.Option.{Option·none-ne-some}
 use Prim.Native.Nat.{ℕ}
 use native.Mathlib.Omega.{arith}
-use lib.Count.{ones, onesIn}
 use lib.ListN.{getD, replicate}
-use Rattle.streams.specs.Choose.{any, nearest, better}
-use Rattle.streams.specs.Corrections.{distance, nearer, spares}
-use Rattle.policy.specs.Rules.{step, steps, decides, fires, hold, within, tested, taken, advance, fits-none, fits-more, Runs, Permits}
+use Rattle.policy.specs.Rules.{steps, fits-none, fits-more, Runs, Permits}
 use Rattle.policy.specs.Rules as Rules
-use Rattle.policy.specs.Number.{statesOf, numberFrom, locationFrom, clocksFrom}
-use Rattle.policy.specs.File.{policyOf, outputsAt, clocksAt, locationsAt, rulesAt, rulesStart, rulesEnd, pairsFrom, rulesFrom, ruleFrom, boundsFrom}
-use Rattle.policy.specs.Check.{readingRefusal, refusalUnder, refusalOf, inputsRefusal, outputsRefusal, clocksRefusal, locationsRefusal, rulesSectionRefusal, sectionRefusal, tagsGood, among, all, rulesRefusal, ruleRefusal, headGood, maskGood, boundsGood, boundGood}
-use Rattle.policy.specs.Bytes.{bytesOf, countsBytes, pairsBytes, rulesBytes, ruleBytes, boundsBytes}
-use Rattle.enforcer.specs.State.{stateGood, clocksGood}
-use Rattle.enforcer.specs.Tick.{ran, tick, outputTick, moved, outputChoice, inputChoice, mayStand, reaches}
-use Rattle.enforcer.specs.Entries.{eventOf, runOf, runRefusal, marksRefusal, stateRefusal}
-use Rattle.resting.specs.Table.{roundsBy, roundBy, tab}
-use Rattle.resting.specs.Keeps.{keeps, leadsTo, stays, someEvent}
-use Rattle.prepare.specs.Entry.{prepareOf, preparedMarks}
-use Rattle.join.specs.Join.{of, agree, target, both, pair, each, cell, rows, leftAt, leftBelow, join}
-use Rattle.join.specs.Masks.{alike}
-use Rattle.join.specs.Entry.{sameTags, sameSignals, joinFits, joinedFile, joinRefusal, joinOf, joinedOut}
+use Rattle.policy.specs.File.{policyOf}
+use Rattle.policy.specs.Check.{readingRefusal}
+use Rattle.enforcer.specs.Entries.{eventOf}
 use Rattle.tender.specs.Cases.{Case, prepared, enforced, summary, released, said, run}
 use Rattle.tender.specs.Granted.{each-reading}
-use Rattle.tender.specs.Demand3.{Joined}
+use Rattle.tender.specs.Demand3.{JoinMade}
+use Rattle.join.specs.Computing.{the-join}
+use Rattle.prepare.specs.Computing.{the-file, the-check, a-step, the-marks, the-run, the-bytes}
 
 -- The outputs are the pump P, in bit 0, and the valve V, in bit 1: event 10 is the pump alone, 20 the valve alone, 30 both. The clauses: the pump runs
 -- only with the valve open; the pump stays off; the valve stays shut.
@@ -65,12 +54,8 @@ withValveShut =
     ∷ 0x00 ∷ 0x00 ∷ 0x00 ∷ 0x02 ∷ 0x02 ∷ 0x00 ∷ 0xFF
     ∷ 0x00 ∷ 0x00 ∷ 0x00 ∷ 0x00 ∷ 0x00 ∷ 0x00 ∷ 0x00 ∷ []
 
-pub both-made : Joined pumpWithValve pumpOff withPumpOff × Joined pumpWithValve valveShut withValveShut
-unfolding
-    joinOf joinedOut joinRefusal joinedFile sameSignals sameTags joinFits join rows cell each pair both agree target of alike leftAt leftBelow
-    Rules.rests bytesOf countsBytes pairsBytes rulesBytes ruleBytes boundsBytes refusalOf inputsRefusal outputsRefusal clocksRefusal locationsRefusal
-    rulesSectionRefusal sectionRefusal tagsGood among all rulesRefusal ruleRefusal headGood maskGood boundsGood boundGood policyOf outputsAt clocksAt
-    locationsAt rulesAt rulesStart rulesEnd pairsFrom rulesFrom ruleFrom boundsFrom statesOf
+pub both-made : JoinMade pumpWithValve pumpOff withPumpOff × JoinMade pumpWithValve valveShut withValveShut
+unfolding the-file the-check the-bytes the-join Rules.rests
 both-made = (
   record { slice = replicate 37 0; size = 37; given = refl; written = refl },
   record { slice = replicate 30 0; size = 30; given = refl; written = refl },
@@ -117,12 +102,7 @@ annexCases reading =
 pub annex-cases :
     (reading : ℕ) → readingRefusal reading ≡ 0 →
     map (λ c. said (c .reading) (c .file) (c .asked)) (annexCases reading) ≡ map (λ c. c .expected) (annexCases reading)
-unfolding
-    annexCases runOf runRefusal marksRefusal refusalUnder readingRefusal stateRefusal stateGood clocksGood refusalOf inputsRefusal outputsRefusal
-    clocksRefusal locationsRefusal rulesSectionRefusal sectionRefusal tagsGood among all rulesRefusal ruleRefusal headGood maskGood boundsGood
-    boundGood policyOf outputsAt clocksAt locationsAt rulesAt rulesStart rulesEnd pairsFrom rulesFrom ruleFrom boundsFrom statesOf numberFrom
-    locationFrom clocksFrom ran tick outputTick moved outputChoice inputChoice mayStand reaches step decides fires hold within tested taken advance
-    bind nearest better nearer distance spares any prepareOf preparedMarks roundsBy roundBy keeps leadsTo stays someEvent Rules.rests tab ones onesIn
+unfolding the-file the-check a-step the-marks the-run annexCases
 annex-cases =
     each-reading (λ reading. map (λ c. said (c .reading) (c .file) (c .asked)) (annexCases reading) ≡ map (λ c. c .expected) (annexCases reading)) refl refl
 
@@ -142,12 +122,7 @@ pub record PumpAlone (reading : ℕ) : Type 0 where
   pub joined-valve-shut : alone reading withValveShut (0x10 ∷ []) ≡ 0x00 ∷ []
 
 pub pump-alone : (reading : ℕ) → readingRefusal reading ≡ 0 → PumpAlone reading
-unfolding
-    runOf runRefusal marksRefusal refusalUnder readingRefusal stateRefusal stateGood clocksGood refusalOf inputsRefusal outputsRefusal clocksRefusal
-    locationsRefusal rulesSectionRefusal sectionRefusal tagsGood among all rulesRefusal ruleRefusal headGood maskGood boundsGood boundGood policyOf
-    outputsAt clocksAt locationsAt rulesAt rulesStart rulesEnd pairsFrom rulesFrom ruleFrom boundsFrom statesOf numberFrom locationFrom clocksFrom ran
-    tick outputTick moved outputChoice inputChoice mayStand reaches step decides fires hold within tested taken advance bind nearest better nearer
-    distance spares any preparedMarks roundsBy roundBy keeps leadsTo stays someEvent Rules.rests tab ones onesIn
+unfolding the-file the-check a-step the-marks the-run
 pump-alone =
     each-reading PumpAlone
     (record { first = refl; then-pump-off = refl; joined-pump-off = refl; then-valve-shut = refl; joined-valve-shut = refl })
@@ -158,9 +133,7 @@ module _ (reading : ℕ) (named : readingRefusal reading ≡ 0) where
   pub row-else :
       Permits (policyOf reading withPumpOff) .permits (map eventOf (inARow reading pumpWithValve pumpOff (0x10 ∷ [])))
       × (¬ (inARow reading pumpWithValve pumpOff (0x10 ∷ []) ≡ alone reading withPumpOff (0x10 ∷ [])))
-  unfolding
-      Runs steps policyOf outputsAt clocksAt locationsAt rulesAt rulesStart rulesEnd pairsFrom rulesFrom ruleFrom boundsFrom step decides fires hold
-      within tested taken advance bind
+  unfolding the-file a-step Runs steps
   row-else =
       let c = pump-alone reading named in (
         subst (λ (bs : List ℕ). Permits (policyOf reading withPumpOff) .permits (map eventOf bs)) (sym (c .then-pump-off))
@@ -170,9 +143,7 @@ module _ (reading : ℕ) (named : readingRefusal reading ≡ 0) where
 
   -- In a row they release a stream that is not permitted: the pump runs against the shut valve, as it was read, and the first clause forbids it.
   pub row-forbidden : ¬ Permits (policyOf reading pumpWithValve) .permits (map eventOf (inARow reading pumpWithValve valveShut (0x10 ∷ [])))
-  unfolding
-      Runs steps policyOf outputsAt clocksAt locationsAt rulesAt rulesStart rulesEnd pairsFrom rulesFrom ruleFrom boundsFrom step decides fires hold
-      within tested taken advance bind
+  unfolding the-file a-step Runs steps
   row-forbidden h =
       let bytes = pump-alone reading named .then-valve-shut in
       let r = subst (λ (bs : List ℕ). Permits (policyOf reading pumpWithValve) .permits (map eventOf bs)) bytes h in

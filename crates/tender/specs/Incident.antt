@@ -3,44 +3,36 @@
 use mathlib.Core.Path.{_≡_, refl, ap, ap₂, _∙_}
 use mathlib.Core.Bool.{true, false}
 use mathlib.Core.List.{List, [], _∷_, _++_, map}
-use mathlib.Core.Option.{bind}
 use Prim.Native.Nat.{ℕ, zero, suc, _+_, _≤_}
 use native.Mathlib.Omega.{arith}
 use lib.ListN.{length, drop, replicate, length-append, length-replicate, length-map}
-use lib.Count.{ones, onesIn}
 use Rattle.streams.specs.Stream.{Stream}
-use Rattle.streams.specs.Choose.{any, nearest, better}
-use Rattle.streams.specs.Corrections.{distance, nearer, spares}
-use Rattle.policy.specs.Rules.{Place, start, step, decides, fires, hold, within, tested, taken, advance}
-use Rattle.policy.specs.Number.{states, statesOf, numberFrom, locationFrom, clocksFrom}
-use Rattle.policy.specs.File.{policyOf, outputsAt, clocksAt, locationsAt, rulesAt, rulesStart, rulesEnd, pairsFrom, rulesFrom, ruleFrom, boundsFrom}
-use Rattle.policy.specs.Check.{readingRefusal, refusalUnder, under-none, refusalOf, inputsRefusal, outputsRefusal, clocksRefusal, locationsRefusal, rulesSectionRefusal, sectionRefusal, tagsGood, among, all, rulesRefusal, ruleRefusal, headGood, maskGood, boundsGood, boundGood}
+use Rattle.policy.specs.Rules.{Place, start}
+use Rattle.policy.specs.Number.{states, statesOf}
+use Rattle.policy.specs.File.{policyOf}
+use Rattle.policy.specs.Check.{readingRefusal, refusalUnder, refusalOf, all}
+use Rattle.policy.specs.CheckLaws.{under-none}
 use Rattle.policy.specs.Checked.{well-sound}
 use Rattle.policy.specs.Stays.{start-inside}
 use Rattle.enforcer.specs.State.{stateOf}
-use Rattle.enforcer.specs.Tick.{Ran, ran, tick, outputTick, moved, outputChoice, inputChoice, mayStand, reaches}
+use Rattle.enforcer.specs.Tick.{Progress, ran}
 use Rattle.enforcer.specs.Entries.{eventOf, byteOf, eventGood}
-use Rattle.resting.specs.Table.{roundsBy, roundBy, tab}
-use Rattle.policy.specs.Rules as Rules
-use Rattle.resting.specs.Keeps.{keeps, leadsTo, stays, someEvent}
 use Rattle.prepare.specs.Table.{marksOf}
 use Rattle.prepare.specs.Entry.{preparedMarks}
-use Rattle.prepare.specs.Promise.{marks-past}
-use Rattle.prepare.specs.Enforces.{Ready}
+use Rattle.prepare.specs.PromiseLaws.{marks-past}
+use Rattle.prepare.specs.Enforcing.{MarkedPlace}
 use Rattle.tender.specs.Samples.{K}
 use Rattle.enforcer.specs.States.{marks-granted}
 use Rattle.tender.specs.Granted.{each-reading, well-formed, prepared-granted, run-ready}
 use Rattle.tender.specs.Demand2.{fromStart}
+use Rattle.prepare.specs.Computing.{the-file, the-check, a-step, the-marks, the-run}
 
 -- n quiet ticks, and then the event b.
 abbrev pub quietThen : ℕ → ℕ → List ℕ
 quietThen n b = replicate n 0x00 ++ (b ∷ [])
 
 K-passes : refusalOf K ≡ 0
-unfolding
-    refusalOf inputsRefusal outputsRefusal clocksRefusal locationsRefusal rulesSectionRefusal sectionRefusal tagsGood among all rulesRefusal
-    ruleRefusal headGood maskGood boundsGood boundGood outputsAt clocksAt locationsAt rulesAt rulesStart rulesEnd pairsFrom rulesFrom ruleFrom
-    boundsFrom statesOf
+unfolding the-file the-check
 K-passes = refl
 
 -- K's one location, with the clock at v.
@@ -52,19 +44,16 @@ abbrev live : List ℕ → List ℕ
 live rest = 1 ∷ 1 ∷ 1 ∷ 1 ∷ rest
 
 -- K's run from there. Whoever unfolds it unfolds all that a tick of K goes through.
-runAt : ℕ → List ℕ → ℕ → Stream → Ran
-unfolding
-    policyOf outputsAt clocksAt locationsAt rulesAt rulesStart pairsFrom rulesFrom ruleFrom boundsFrom statesOf numberFrom locationFrom clocksFrom ran
-    tick outputTick moved outputChoice inputChoice mayStand reaches step decides fires hold within tested taken advance bind nearest better nearer
-    distance spares any ones onesIn roundsBy roundBy keeps leadsTo stays someEvent Rules.rests tab
+runAt : ℕ → List ℕ → ℕ → Stream → Progress
+unfolding the-file a-step the-marks the-run statesOf
 runAt reading rest v = ran (policyOf reading K) (live rest) (clockAt v)
 
 -- One quiet event more, before the others.
-abbrev quietly : Ran → Ran
+abbrev quietly : Progress → Progress
 quietly r = record { released = eventOf 0x00 ∷ r .released; place = r .place; stuck = r .stuck }
 
 -- What is released of n quiet ticks and then a pulse: the quiet events, then the event b, and after it the clock is at v.
-abbrev released : ℕ → ℕ → ℕ → Ran
+abbrev released : ℕ → ℕ → ℕ → Progress
 released n b v = record { released = map eventOf (quietThen n b); place = clockAt v; stuck = false }
 
 module _ (rest : List ℕ) where
@@ -148,7 +137,7 @@ module _ (reading : ℕ) (named : readingRefusal reading ≡ 0) where
     from-start n b v e out l =
         let p = policyOf reading K in
         let M = preparedMarks reading K marks in
-        let ready : Ready p M (start p) = record { inside = start-inside p (well-sound p (well-formed reading K passed)); marked = rw marked } in
+        let ready : MarkedPlace p M (start p) = record { inside = start-inside p (well-sound p (well-formed reading K passed)); marked = rw marked } in
         let many : (c : ℕ) → length (quietThen n c) ≡ n + 1 = λ c. simp (length-append, length-replicate) in
         run-ready reading K M (prepared-granted reading K marks passed long) (start p) ready (quietThen n 0x10) out (rw many l) (pulse-good n)
         ∙ rw (marked, e, bytes-back, length-map, many b)

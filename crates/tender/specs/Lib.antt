@@ -1,6 +1,7 @@
 pub mod Samples
 pub mod Cases
 pub mod Demand1
+pub mod Demand1Shown
 pub mod Granted
 pub mod Demand2
 pub mod Demand2Shown

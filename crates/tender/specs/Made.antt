@@ -12,16 +12,15 @@ use Rattle.streams.specs.Answer.{gives}
 use Rattle.policy.specs.Rules.{Rule, Policy}
 use Rattle.policy.specs.Rules as Rules
 use Rattle.policy.specs.Number.{states, statesOf}
-use Rattle.policy.specs.File.{policyOf, outputsAt, clocksAt, locationsAt, rulesAt, rulesStart, rulesEnd, pairsFrom, rulesFrom, ruleFrom, boundsFrom}
-use Rattle.policy.specs.Check.{readingRefusal, refusalOf, inputsRefusal, outputsRefusal, clocksRefusal, locationsRefusal, rulesSectionRefusal, sectionRefusal, tagsGood, among, all, rulesRefusal, ruleRefusal, headGood, maskGood, boundsGood, boundGood}
-use Rattle.policy.specs.Bytes.{bytesOf, countsBytes, pairsBytes, rulesBytes, ruleBytes, boundsBytes}
+use Rattle.policy.specs.File.{policyOf}
+use Rattle.policy.specs.Check.{readingRefusal, refusalOf}
 use Rattle.policy.specs.Sound.{WellFormed}
 use Rattle.policy.specs.Checked.{frame, longest, checked-file}
-use Rattle.policy.specs.ReadBack.{written-passes}
-use Rattle.join.specs.Join.{of, agree, target, both, pair, each, cell, rows, leftAt, leftBelow, join}
-use Rattle.join.specs.Masks.{alike}
-use Rattle.join.specs.Free.{always, free, freeFile, free-well, free-read}
-use Rattle.join.specs.Entry.{sameTags, sameSignals, joinFits, said, joinedFile, joinRefusal, joinOf, joinedOut}
+use Rattle.policy.specs.WrittenPasses.{written-passes}
+use Rattle.join.specs.Join.{of, agree, both, pair, each, cell, rows, join}
+use Rattle.join.specs.Free.{always, free, freeFile}
+use Rattle.join.specs.FreeLaws.{free-well, free-read}
+use Rattle.join.specs.Entry.{sameSignals, joinFits, said, joinedFile, joinRefusal, joinOf, joinedOut}
 use Rattle.join.specs.Joins.{join-clocks}
 use Rattle.join.specs.Limits.{states-join}
 use Rattle.join.specs.Again.{sameTags-is}
@@ -30,9 +29,11 @@ use Rattle.join.specs.Promise.{JoinPromise, join-one}
 use Rattle.join.specs.declared.Joined as Code
 use Rattle.join.specs.declared.Joined.the-variants as Variants
 use Rattle.tender.specs.Samples.{K}
-use Rattle.tender.specs.Demand3.{Joined, Alike, permitsAll}
+use Rattle.tender.specs.Demand3.{JoinMade, Alike, permitsAll}
 use Rattle.tender.specs.Demand3Shown.{grouping}
 use Rattle.tender.specs.Apart.{alwaysOff}
+use Rattle.join.specs.Computing.{the-join}
+use Rattle.prepare.specs.Computing.{the-file, the-check, the-bytes}
 
 none-refused : (a b out : List ℕ) → Unrefused a b out → joinRefusal a b out ≡ 0
 unfolding joinRefusal
@@ -43,7 +44,7 @@ unfolding joinOf
 given-of a b out u = rw (none-refused a b out u)
 
 -- Where nothing is refused the join is made, and its file is the joined one.
-pub made-of : (a b out : List ℕ) → Unrefused a b out → Joined a b (joinedFile a b out)
+pub made-of : (a b out : List ℕ) → Unrefused a b out → JoinMade a b (joinedFile a b out)
 made-of a b out u =
     record {
       slice = out;
@@ -163,7 +164,7 @@ module _ (a : List ℕ) (passed : refusalOf a ≡ 0) where
         room = room;
       }
 
-  pub unit-made : (out : List ℕ) → length (joinedFile a (permitsAll a) out) ≤ length out → Joined a (permitsAll a) (joinedFile a (permitsAll a) out)
+  pub unit-made : (out : List ℕ) → length (joinedFile a (permitsAll a) out) ≤ length out → JoinMade a (permitsAll a) (joinedFile a (permitsAll a) out)
   unit-made out room = made-of a (permitsAll a) out (unit-unrefused out room)
 
   -- "The longest is 5,974 bytes": a slice of that length holds it.
@@ -193,12 +194,8 @@ abbrev pub right : List ℕ
 right = joinedIn 54 alwaysOff K
 
 pub three-made :
-    Joined K alwaysOff left × Joined left K (joinedIn 132 left K) × Joined alwaysOff K right × Joined K right (joinedIn 132 K right)
-unfolding
-    joinOf joinedOut joinRefusal joinedFile sameSignals sameTags joinFits join rows cell each pair both agree target of alike leftAt leftBelow
-    Rules.rests bytesOf countsBytes pairsBytes rulesBytes ruleBytes boundsBytes refusalOf inputsRefusal outputsRefusal clocksRefusal locationsRefusal
-    rulesSectionRefusal sectionRefusal tagsGood among all rulesRefusal ruleRefusal headGood maskGood boundsGood boundGood policyOf outputsAt clocksAt
-    locationsAt rulesAt rulesStart rulesEnd pairsFrom rulesFrom ruleFrom boundsFrom statesOf
+    JoinMade K alwaysOff left × JoinMade left K (joinedIn 132 left K) × JoinMade alwaysOff K right × JoinMade K right (joinedIn 132 K right)
+unfolding the-file the-check the-bytes the-join Rules.rests
 three-made = (
   record { slice = replicate 54 0; size = 54; given = refl; written = refl },
   record { slice = replicate 132 0; size = 132; given = refl; written = refl },

@@ -6,14 +6,13 @@ use Prim.Native.Nat.{ℕ, _+_, _-_, _*_, _%_, _≤_}
 use Rattle.streams.specs.Answer.{gives}
 use Rattle.streams.specs.Answer as Said
 use Rattle.streams.specs.Stream.{Event, Stream}
-use Rattle.policy.specs.Rules.{Place}
 use Rattle.policy.specs.File.{policyOf}
 use Rattle.enforcer.specs.Entries.{OutputAnswer, outputOf}
-use Rattle.enforcer.specs.Code.{asPlace, startState}
-use Rattle.enforcer.specs.declared.halves.Answer.{Answer}
-use Rattle.enforcer.specs.declared.halves.Answer.the-variants as Code
+use Rattle.enforcer.specs.Code.{startState}
+use Rattle.enforcer.specs.declared.halves.HalfAnswer.{HalfAnswer}
+use Rattle.enforcer.specs.declared.halves.HalfAnswer.the-variants as Code
 use Rattle.prepare.specs.Promise.{PreparePromise}
-use Rattle.prepare.specs.declared.Summary.{Summary as Given}
+use Rattle.prepare.specs.declared.Summary.{Summary}
 use Rattle.prepare.specs.declared.Prepared.the-variants as Prepare
 use Rattle.meter.specs.Meter.{stationState, lastReading, billed, unbilled, pulsesOf, withPulse}
 use Rattle.meter.specs.Entries.{MeterAnswer, weightP}
@@ -23,9 +22,10 @@ use Rattle.meter.specs.Sums.{Meter, Turn, both, meterOf, lastAccepted, Fewer, f
 use Rattle.groovepawn.specs.Calls.{PrepareCall}
 use Rattle.groovepawn.specs.Fields.{answerIn, answer-fields}
 use Rattle.groovepawn.specs.Meter.{MeterNewCall, MeterInputCall, MeterOutputCall, meter-input-fields, meter-output-fields}
-use Rattle.tender.specs.Code.{codeSummary, prepare-read}
-use Rattle.tender.specs.Halves.{Ticks, ticks-none, ticks-more, TicksReleased, ticks-release}
-use Rattle.tender.specs.Bays.{codeState}
+use Rattle.tender.specs.Code.{prepare-read}
+use Rattle.tender.specs.Halves.{TickByTick, ticks-none, ticks-more, TicksReleased, ticks-release}
+use Rattle.tender.specs.Bays.{}
+use Rattle.enforcer.specs.declared.state.State.{State}
 
 -- What a tick of a station with a meter reads: the register, x and the controller's answer.
 pub record Read : Type 0 where
@@ -52,7 +52,7 @@ module _ {reading : ℕ} {file marks : List ℕ} where
   -- They are ticks of the library's own halves, from the state in the station's numbers.
   pub meter-ticks : {station totals last sums : List ℕ} {ts : List Read} {es rs : Stream} →
       MeterTicks reading file marks station totals ts es rs last sums →
-      Ticks reading file marks (codeState (stationState station)) es rs (codeState (stationState last))
+      TickByTick reading file marks (stationState station) es rs (stationState last)
   meter-ticks meter-none = ticks-none
   meter-ticks (meter-more {station = station} {totals = totals} {next = next} {t = t} {r = r} i o more) =
       let s = stationState station in
@@ -62,20 +62,20 @@ module _ {reading : ℕ} {file marks : List ℕ} where
       ap (λ (z : MeterAnswer). stationState (z .station)) e ∙ accepted-state reading file marks station totals (t .register) (r .x) (t .y) a
       in
       ticks-more (record { said = sym (accepted-input reading file marks station (t .register) (t .x) (sym (i .said))) })
-      (record { said = ap₂ {C = OutputAnswer} (λ (b : Said.Answer ℕ) (z : Place). record { answer = b; state = z }) (sym (a .released)) there })
+      (record { said = ap₂ {C = OutputAnswer} (λ (b : Said.Answer ℕ) (z : State). record { answer = b; state = z }) (sym (a .released)) there })
       (meter-ticks more)
 
 -- After prepare's code gave a summary, from a station that meter_new's code set up: for the events read the code released demand 2's stream, and the
 -- station's state is the one that it leads to.
 pub meter-release :
-    {reading : ℕ} {file lent marks : List ℕ} {s : Given} → PreparePromise reading file lent (Prepare.Gives s) marks →
+    {reading : ℕ} {file lent marks : List ℕ} {s : Summary} → PreparePromise reading file lent (Prepare.Gives s) marks →
     {before totals fresh zeros : List ℕ} {register : ℕ} → MeterNewPromise before totals register 0 fresh zeros →
     {last sums : List ℕ} {ts : List Read} {es rs : Stream} → MeterTicks reading file marks fresh zeros ts es rs last sums →
-    TicksReleased (policyOf reading file) es rs (codeState (stationState last))
+    TicksReleased (policyOf reading file) es rs (stationState last)
 meter-release {reading} {file} {marks = marks} h {before} {totals} {fresh = first} {register = register} new {last} {es = es} {rs = rs} ticks =
-    let start : stationState first ≡ asPlace startState = ap stationState (new .placed) ∙ new-state before totals (sym (new .said)) register in
+    let start : stationState first ≡ startState = ap stationState (new .placed) ∙ new-state before totals (sym (new .said)) register in
     ticks-release h
-    (subst (λ (z : Place). Ticks reading file marks (codeState z) es rs (codeState (stationState last))) start (meter-ticks ticks))
+    (subst (λ (z : State). TickByTick reading file marks z es rs (stationState last)) start (meter-ticks ticks))
 
 -- The same of the C functions: groovepawn_meter_input and groovepawn_meter_output returned words without a refusal, their values above eight bits of 0.
 pub data CMeterTicks (reading : ℕ) (file marks : List ℕ) : (station totals : List ℕ) → List Read → (read released : Stream) → (last sums : List ℕ) → Type 0 where
@@ -106,16 +106,16 @@ pub c-meter-release :
     {reading : ℕ} {file lent marks : List ℕ} {v : ℕ} → PrepareCall reading file lent v marks → v % 256 ≡ 0 →
     {before totals fresh zeros : List ℕ} {register : ℕ} → MeterNewCall before totals register 0 fresh zeros →
     {last sums : List ℕ} {ts : List Read} {es rs : Stream} → CMeterTicks reading file marks fresh zeros ts es rs last sums →
-    TicksReleased (policyOf reading file) es rs (codeState (stationState last))
+    TicksReleased (policyOf reading file) es rs (stationState last)
 c-meter-release h z new ticks =
     let s = prepare-read h z in
-    meter-release {s = codeSummary (s .0)} (record { said = sym (s .1); marks = h .marks })
+    meter-release {s = (s .0)} (record { said = sym (s .1); marks = h .marks })
     (record { said = new .said; placed = new .placed; cleared = new .cleared }) (c-meter-ticks ticks)
 
 -- Any calls of meter_output's code, accepted or refused, one after the other: `count` is the reading of a register that never rolls over.
 pub data Turns (reading : ℕ) (file marks : List ℕ) : (station totals : List ℕ) → List Turn → (last sums : List ℕ) → Type 0 where
   turns-none : {station totals : List ℕ} → Turns reading file marks station totals [] station totals
-  turns-more : {station totals next risen last sums : List ℕ} {t : Turn} {ts : List Turn} {a : Answer} →
+  turns-more : {station totals next risen last sums : List ℕ} {t : Turn} {ts : List Turn} {a : HalfAnswer} →
       MeterOutputPromise reading file marks station totals (t .count % 65536) (t .x) (t .y) a next risen →
       Turns reading file marks next risen ts last sums → Turns reading file marks station totals (t ∷ ts) last sums
 

@@ -10,32 +10,38 @@ use native.Mathlib.Omega.{arith}
 use lib.ListN.{length, getD, take, drop, length-append, drop-of-length-le}
 use lib.Seq.{take-at}
 use borrow.Author.Tests.{le-leb}
-use Rattle.streams.specs.Answer.{gives, _orElse_, unless, unless-le, else-le}
+use Rattle.streams.specs.Answer.{gives, _orElse_, unless}
+use Rattle.streams.specs.AnswerLaws.{unless-le, else-le}
 use Rattle.streams.specs.Stream.{Stream, Hopeless}
 use Rattle.streams.specs.Corrections.{corrections}
 use Rattle.streams.specs.Laws.{not-both, enforced-one}
-use Rattle.policy.specs.Rules.{Place, start, Permits}
+use Rattle.policy.specs.Rules.{start, Permits}
 use Rattle.policy.specs.Number.{states}
 use Rattle.policy.specs.File.{policyOf}
-use Rattle.policy.specs.Check.{readingRefusal, refusalUnder, refusalOf, all, refusal-le}
+use Rattle.policy.specs.Check.{readingRefusal, refusalUnder, refusalOf, all}
+use Rattle.policy.specs.CheckLaws.{refusal-le}
 use Rattle.policy.specs.Checked.{checked-file}
 use Rattle.enforcer.specs.State.{stateOf}
-use Rattle.enforcer.specs.Tick.{Ran, ran}
+use Rattle.enforcer.specs.Tick.{Progress, ran}
 use Rattle.enforcer.specs.States.{marks-granted}
 use Rattle.enforcer.specs.Entries.{eventOf, byteOf, eventGood, runFrom, runRefusal, marksRefusal, runOf}
 use Rattle.prepare.specs.Table.{marksOf}
 use Rattle.prepare.specs.Live.{marks-length}
-use Rattle.prepare.specs.Entry.{Summary, prepareOf}
-use Rattle.prepare.specs.Enforces.{Prepared, Ready, leads-start, leads-ready, never-stuck, ran-enforces}
+use Rattle.prepare.specs.Entry.{prepareOf}
+use Rattle.prepare.specs.declared.Summary.{Summary}
+use Rattle.prepare.specs.Enforces.{leads-start, leads-ready, never-stuck, ran-enforces}
+use Rattle.prepare.specs.Enforcing.{AsPrepared, MarkedPlace}
 use Rattle.texts.specs.Text.{decimal}
 use Rattle.console.specs.Text.{verdictLine, refusedLine}
 use Rattle.texts.specs.Decimal.{valueFrom, reads-back}
 use Rattle.console.specs.Frame.{countRefusal, policyFrameRefusal, policyPart, eventsFrameRefusal, eventsPart}
 use Rattle.console.specs.Printed.{unlessRefused, lent, ranOver, summaryLines, enforcedText, printed}
-use Rattle.console.specs.Reply.{Replied, replied-front, lent-length}
+use Rattle.console.specs.Reply.{Replied, replied-front}
+use Rattle.console.specs.Replies.{lent-length}
 use Rattle.tender.specs.Granted.{well-formed, judged, given-passed, given-goes-on, state-ready, ready-state, run-ready}
 use Rattle.tender.specs.Demand2.{ReleasedFor}
 use Rattle.tender.specs.Demand2Shown.{releases, as-many}
+use Rattle.enforcer.specs.declared.state.State.{State}
 
 -- Two refusals that print the same are the same.
 refused-one : (n m : ℕ) → refusedLine n ≡ refusedLine m → n ≡ m
@@ -69,13 +75,13 @@ not-eleven (suc n) b l s events released t = omega (arith, refused-one (suc n) 1
 
 -- Where prepare gives a summary of the policy in the input.
 module _ (file : List ℕ) (s : Summary) (e : prepareOf 1 file (lent 65536) ≡ gives s) where
-  by : Prepared (policyOf 1 file) (marksOf (policyOf 1 file))
+  by : AsPrepared (policyOf 1 file) (marksOf (policyOf 1 file))
   by n l = refl
 
   granted : marksRefusal 1 file (marksOf (policyOf 1 file)) ≡ 0
   granted = marks-granted 1 file _ .1 (given-passed 1 file (lent 65536) s e, rw marks-length (le-refl (states (policyOf 1 file))))
 
-  ready : Ready (policyOf 1 file) (marksOf (policyOf 1 file)) (start (policyOf 1 file))
+  ready : MarkedPlace (policyOf 1 file) (marksOf (policyOf 1 file)) (start (policyOf 1 file))
   ready =
       let p = policyOf 1 file in
       leads-ready p (well-formed 1 file (given-passed 1 file (lent 65536) s e)) (marksOf p) by (leads-start p) (given-goes-on 1 file (lent 65536) s e)
@@ -92,7 +98,7 @@ module _ (file : List ℕ) (s : Summary) (e : prepareOf 1 file (lent 65536) ≡ 
       let moves = never-stuck p ok (marksOf p) by (state-ready 1 file (marksOf p) t stands) (map eventOf events) in
       rw (granted, le-leb _ _ room, stands) (go t (lent (length events)) _ moves (all (eventGood 1 file) events))
     where
-      go : (t : Place) (out : List ℕ) (r : Ran) → r .stuck ≡ false → (b : Bool) → runFrom t out (unless b 15) r .refusal ≡ unless b 15
+      go : (t : State) (out : List ℕ) (r : Progress) → r .stuck ≡ false → (b : Bool) → runFrom t out (unless b 15) r .refusal ≡ unless b 15
       go t out r h true = rw h
       go t out r h false = refl
 

@@ -2,34 +2,22 @@
 -- and under reading 1. They have no clocks.
 use mathlib.Core.Path.{_≡_, refl}
 use mathlib.Core.List.{List, [], _∷_, map}
-use mathlib.Core.Option.{bind, some}
+use mathlib.Core.Option.{some}
 use Prim.Native.Nat.{ℕ, zero, suc}
 use native.Mathlib.Omega.{arith}
-use lib.Count.{ones, onesIn}
 use lib.ListN.{replicate, length-replicate}
 use Rattle.streams.specs.Answer.{refused, gives}
 use Rattle.streams.specs.Stream.{Event}
-use Rattle.streams.specs.Choose.{any, nearest, better}
-use Rattle.streams.specs.Corrections.{distance, nearer, spares}
-use Rattle.policy.specs.Rules.{Place, step, steps, decides, fires, hold, within, tested, taken, advance, unlimited, Fits, fits-none, fits-more, Runs, Dead}
-use Rattle.policy.specs.Rules as Rules
-use Rattle.policy.specs.Number.{statesOf, numberFrom, locationFrom, clocksFrom}
-use Rattle.policy.specs.File.{policyOf, outputsAt, clocksAt, locationsAt, rulesAt, rulesStart, rulesEnd, pairsFrom, rulesFrom, ruleFrom, boundsFrom}
-use Rattle.policy.specs.Check.{readingRefusal, refusalUnder, refusalOf, inputsRefusal, outputsRefusal, clocksRefusal, locationsRefusal, rulesSectionRefusal, sectionRefusal, tagsGood, among, all, rulesRefusal, ruleRefusal, headGood, maskGood, boundsGood, boundGood}
-use Rattle.policy.specs.Bytes.{bytesOf, countsBytes, pairsBytes, rulesBytes, ruleBytes, boundsBytes}
+use Rattle.policy.specs.Rules.{Place, steps, unlimited, Fits, fits-none, fits-more, Runs, Dead}
+use Rattle.policy.specs.File.{policyOf}
 use Rattle.policy.specs.Checked.{checked-file}
-use Rattle.enforcer.specs.State.{stateGood, clocksGood}
-use Rattle.enforcer.specs.Tick.{ran, tick, outputTick, moved, outputChoice, inputChoice, mayStand, reaches}
-use Rattle.enforcer.specs.Entries.{runOf, runRefusal, marksRefusal, stateRefusal}
-use Rattle.resting.specs.Table.{roundsBy, roundBy, tab}
-use Rattle.resting.specs.Keeps.{keeps, leadsTo, stays, someEvent}
-use Rattle.prepare.specs.Entry.{prepareOf, preparedMarks}
+use Rattle.prepare.specs.Entry.{prepareOf}
 use Rattle.prepare.specs.Live.{dead-numbered}
-use Rattle.join.specs.Join.{of, agree, target, both, pair, each, cell, rows, leftAt, leftBelow, join}
-use Rattle.join.specs.Masks.{alike}
 use Rattle.join.specs.Entry.{joinedFile}
 use Rattle.tender.specs.Cases.{Case, prepared, enforced, summary, released, refusal, said}
 use Rattle.tender.specs.Unchanged.{EveryLength}
+use Rattle.join.specs.Computing.{the-join}
+use Rattle.prepare.specs.Computing.{the-file, the-check, a-step, the-marks, the-run, the-bytes}
 
 -- A transfer: B begins it, from location 0 to location 1, which must be left. E ends it.
 abbrev pub transfer : List ℕ
@@ -80,12 +68,7 @@ restCases =
     ∷ []
 
 pub rest-cases : map (λ c. said (c .reading) (c .file) (c .asked)) restCases ≡ map (λ c. c .expected) restCases
-unfolding
-    restCases runOf runRefusal marksRefusal refusalUnder readingRefusal stateRefusal stateGood clocksGood refusalOf inputsRefusal outputsRefusal
-    clocksRefusal locationsRefusal rulesSectionRefusal sectionRefusal tagsGood among all rulesRefusal ruleRefusal headGood maskGood boundsGood
-    boundGood policyOf outputsAt clocksAt locationsAt rulesAt rulesStart rulesEnd pairsFrom rulesFrom ruleFrom boundsFrom statesOf numberFrom
-    locationFrom clocksFrom ran tick outputTick moved outputChoice inputChoice mayStand reaches step decides fires hold within tested taken advance
-    bind nearest better nearer distance spares any prepareOf preparedMarks roundsBy roundBy keeps leadsTo stays someEvent Rules.rests tab ones onesIn
+unfolding the-file the-check a-step the-marks the-run restCases
 rest-cases = refl
 
 -- Each of two policies rests at every other tick, the one when the other does not: live apart, they never rest together, and their join is hopeless.
@@ -93,12 +76,7 @@ pub never-together :
     (prepareOf 1 (turns 0 1) (0 ∷ 0 ∷ []) ≡ gives (record { verdict = 0; states = 2; live = 2 }))
     × (prepareOf 1 (turns 1 0) (0 ∷ 0 ∷ []) ≡ gives (record { verdict = 0; states = 2; live = 2 }))
     × (prepareOf 1 (joinedFile (turns 0 1) (turns 1 0) []) (0 ∷ 0 ∷ 0 ∷ 0 ∷ []) ≡ refused 11)
-unfolding
-    prepareOf marksRefusal refusalUnder readingRefusal joinedFile join rows cell each pair both agree target of alike leftAt leftBelow bytesOf
-    countsBytes pairsBytes rulesBytes ruleBytes boundsBytes refusalOf inputsRefusal outputsRefusal clocksRefusal locationsRefusal rulesSectionRefusal
-    sectionRefusal tagsGood among all rulesRefusal ruleRefusal headGood maskGood boundsGood boundGood policyOf outputsAt clocksAt locationsAt rulesAt
-    rulesStart rulesEnd pairsFrom rulesFrom ruleFrom boundsFrom statesOf numberFrom locationFrom clocksFrom mayStand reaches step decides fires hold
-    within tested taken advance bind any roundsBy roundBy keeps leadsTo stays someEvent Rules.rests tab
+unfolding the-file the-check a-step the-marks the-bytes the-join
 never-together = (refl, refl, refl)
 
 -- The transfer that never ends, and the quiet event.
@@ -110,11 +88,7 @@ quiet = record { x = 0; y = 0 }
 
 -- Permitted streams of every length leave it, and yet it is not live: none of their events ends at rest.
 pub on-and-not-live : EveryLength (Runs (policyOf 1 (endless 1)) begun) [] × Dead (policyOf 1 (endless 1)) begun
-unfolding
-    Runs steps refusalOf inputsRefusal outputsRefusal clocksRefusal locationsRefusal rulesSectionRefusal sectionRefusal tagsGood among all
-    rulesRefusal ruleRefusal headGood maskGood boundsGood boundGood policyOf outputsAt clocksAt locationsAt rulesAt rulesStart rulesEnd pairsFrom
-    rulesFrom ruleFrom boundsFrom statesOf numberFrom locationFrom clocksFrom mayStand reaches step decides fires hold within tested taken advance
-    bind any roundsBy roundBy keeps leadsTo stays someEvent Rules.rests tab
+unfolding the-file the-check a-step the-marks Runs steps
 on-and-not-live = (λ n. (replicate n quiet, length-replicate n quiet, (fits n, (begun, there n))), dead)
   where
     fits : (n : ℕ) → Fits (policyOf 1 (endless 1)) (replicate n quiet)

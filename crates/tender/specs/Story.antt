@@ -3,31 +3,27 @@
 use mathlib.Core.Path.{_≡_, refl, sym, ap, ap₂, subst, _∙_}
 use mathlib.Core.Bool.{true, false, _&&_}
 use mathlib.Core.List.{List, [], _∷_, _++_}
-use mathlib.Core.Option.{some, bind}
+use mathlib.Core.Option.{some}
 use Prim.Native.Nat.{ℕ, zero, suc, _+_, _-_, _%_, _≤_, _<_}
 use native.Mathlib.Omega.{arith}
 use lib.ListN.{length, drop, replicate}
-use lib.Count.{ones, onesIn}
 use borrow.Author.Tests.{le-leb, ne-eqb}
-use Rattle.streams.specs.Answer.{gives, none-unless}
+use Rattle.streams.specs.Answer.{gives}
+use Rattle.streams.specs.AnswerLaws.{none-unless}
 use Rattle.streams.specs.Stream.{Event, Stream}
-use Rattle.streams.specs.Choose.{any, nearest, better}
-use Rattle.streams.specs.Corrections.{distance, nearer, spares}
-use Rattle.policy.specs.Rules.{step, decides, fires, hold, within, tested, taken, advance}
-use Rattle.policy.specs.Rules as Rules
-use Rattle.policy.specs.Number.{states, numberOf, statesOf, numberFrom, locationFrom, clocksFrom}
-use Rattle.policy.specs.File.{policyOf, byteAt, outputsAt, clocksAt, locationsAt, rulesAt, rulesStart, rulesEnd, pairsFrom, rulesFrom, ruleFrom, boundsFrom}
-use Rattle.policy.specs.Check.{readingRefusal, refusalUnder, under-none, refusalOf, inputsRefusal, outputsRefusal, clocksRefusal, locationsRefusal, rulesSectionRefusal, sectionRefusal, tagsGood, among, all, rulesRefusal, ruleRefusal, headGood, maskGood, boundsGood, boundGood}
-use Rattle.enforcer.specs.State.{placeIn, stateOf, clocksGood, stateGood, isMarked}
+use Rattle.policy.specs.Number.{states, numberOf, statesOf}
+use Rattle.policy.specs.File.{policyOf, byteAt}
+use Rattle.policy.specs.Check.{readingRefusal, refusalUnder, refusalOf, all}
+use Rattle.policy.specs.CheckLaws.{under-none}
+use Rattle.enforcer.specs.State.{placeIn, stateOf, stateGood, isMarked}
 use Rattle.enforcer.specs.States.{marks-granted, state-granted}
-use Rattle.enforcer.specs.Tick.{tick, outputTick, moved, outputChoice, inputChoice, mayStand, reaches}
+use Rattle.enforcer.specs.Tick.{outputTick, inputChoice}
 use Rattle.enforcer.specs.Entries.{OutputAnswer, marksRefusal, xGood, yGood, inputOf, outputOf}
-use Rattle.resting.specs.Table.{roundsBy, roundBy, tab}
-use Rattle.resting.specs.Keeps.{keeps, leadsTo, stays, someEvent}
 use Rattle.prepare.specs.Table.{marksOf}
 use Rattle.prepare.specs.Entry.{prepareOf}
-use Rattle.prepare.specs.Promise.{summarySaid, PreparePromise, marks-past}
-use Rattle.prepare.specs.declared.Summary.{Summary as Given}
+use Rattle.prepare.specs.Promise.{PreparePromise}
+use Rattle.prepare.specs.PromiseLaws.{marks-past}
+use Rattle.prepare.specs.declared.Summary.{Summary}
 use Rattle.prepare.specs.declared.Prepared.the-variants as Prepare
 use Rattle.meter.specs.Meter.{isStation, areTotals, stationState, stationWords, pulsesOf, weightOf, withPulse, isOn, risen, fits}
 use Rattle.meter.specs.Entries.{tagP, tagD, settled, metered, newRefusal, newStation, newTotals, meterInputOf, meterOutputOf}
@@ -38,8 +34,9 @@ use Rattle.meter.specs.Sums.{advance as pulses-advance}
 use Rattle.tender.specs.Granted.{each-reading, entryRefusal, input-answer, output-answer, given-passed, given-long}
 use Rattle.tender.specs.Incident.{clockAt}
 use Rattle.tender.specs.Halves.{TicksReleased}
-use Rattle.tender.specs.Bays.{codeState}
+use Rattle.tender.specs.Bays.{}
 use Rattle.tender.specs.Metered.{Read, MeterTicks, meter-none, meter-more, eventRead, meter-release}
+use Rattle.prepare.specs.Computing.{the-file, the-check, a-step, the-marks, the-run}
 
 -- "credit K only while the clock is at most 2", where a pulse of the meter starts the clock anew; D bills.
 abbrev pub Transfer : List ℕ
@@ -50,10 +47,7 @@ Transfer =
     ∷ 0x00 ∷ 0x00 ∷ 0x00 ∷ 0x00 ∷ 0x00 ∷ 0x00 ∷ 0x00 ∷ 0x00 ∷ 0x00 ∷ 0xFF ∷ 0xFF ∷ []
 
 Transfer-passes : refusalOf Transfer ≡ 0
-unfolding
-    refusalOf inputsRefusal outputsRefusal clocksRefusal locationsRefusal rulesSectionRefusal sectionRefusal tagsGood among all rulesRefusal
-    ruleRefusal headGood maskGood boundsGood boundGood outputsAt clocksAt locationsAt rulesAt rulesStart rulesEnd pairsFrom rulesFrom ruleFrom
-    boundsFrom statesOf
+unfolding the-file the-check
 Transfer-passes = refl
 
 -- The clock's values are 0 to its ceiling 3, so there are four states, and all of them are live.
@@ -70,17 +64,14 @@ Chosen reading v x y y' v' =
     × (inputChoice p (live rest) (placeIn p (stateOf (clockAt v))) x ≡ some x)
     × (outputTick p (live rest) (placeIn p (stateOf (clockAt v))) x y ≡ some (record { event = record { x = x; y = y' }; place = clockAt v' }))
 
-record Goes (reading v x y y' v' : ℕ) : Type 0 where
+record StoryGoes (reading v x y y' v' : ℕ) : Type 0 where
   input : (rest : List ℕ) → inputOf reading Transfer (live rest) (stateOf (clockAt v)) x ≡ gives x
   output : (rest : List ℕ) →
       outputOf reading Transfer (live rest) (stateOf (clockAt v)) x y ≡ record { answer = gives y'; state = stateOf (clockAt v') }
 
 -- All that a tick goes through is unfolded here.
 marks-of : (reading : ℕ) → List ℕ
-unfolding
-    policyOf outputsAt clocksAt locationsAt rulesAt rulesStart pairsFrom rulesFrom ruleFrom boundsFrom statesOf numberFrom locationFrom clocksFrom
-    tick outputTick moved outputChoice inputChoice mayStand reaches step decides fires hold within tested taken advance bind nearest better nearer
-    distance spares any ones onesIn roundsBy roundBy keeps leadsTo stays someEvent Rules.rests tab stateGood clocksGood all
+unfolding the-file a-step the-marks the-run statesOf all
 marks-of reading = marksOf (policyOf reading Transfer)
 
 module _ (reading : ℕ) (named : readingRefusal reading ≡ 0) where
@@ -102,7 +93,7 @@ module _ (reading : ℕ) (named : readingRefusal reading ≡ 0) where
     none-here : (rest : List ℕ) → entryRefusal reading Transfer (live rest) (stateOf (clockAt v)) ≡ 0
     none-here rest = rw (granted rest, state-granted reading Transfer (live rest) (stateOf (clockAt v)) .1 (f rest .0, f rest .1))
 
-    goes : Goes reading v x y y' v'
+    goes : StoryGoes reading v x y y' v'
     goes =
         record {
           input = λ rest. input-answer reading Transfer (live rest) (stateOf (clockAt v)) x (f rest .2) ∙ rw (none-here rest, f rest .4);
@@ -110,29 +101,29 @@ module _ (reading : ℕ) (named : readingRefusal reading ≡ 0) where
         }
 
   -- A pulse with D on from the clock at 0,
-  transfers : Goes reading 0 1 1 1 0
+  transfers : StoryGoes reading 0 1 1 1 0
   unfolding marks-of
   transfers = goes 0 1 1 1 0 (each-reading (λ r. Chosen r 0 1 1 1 0) (λ rest. (refl, refl, refl, refl, refl, refl)) (λ rest. (refl, refl, refl, refl, refl, refl)) reading named)
 
   -- quiet ticks, to the ceiling and on there,
-  quiet-0 : Goes reading 0 0 0 0 1
+  quiet-0 : StoryGoes reading 0 0 0 0 1
   unfolding marks-of
   quiet-0 = goes 0 0 0 0 1 (each-reading (λ r. Chosen r 0 0 0 0 1) (λ rest. (refl, refl, refl, refl, refl, refl)) (λ rest. (refl, refl, refl, refl, refl, refl)) reading named)
 
-  quiet-1 : Goes reading 1 0 0 0 2
+  quiet-1 : StoryGoes reading 1 0 0 0 2
   unfolding marks-of
   quiet-1 = goes 1 0 0 0 2 (each-reading (λ r. Chosen r 1 0 0 0 2) (λ rest. (refl, refl, refl, refl, refl, refl)) (λ rest. (refl, refl, refl, refl, refl, refl)) reading named)
 
-  quiet-2 : Goes reading 2 0 0 0 3
+  quiet-2 : StoryGoes reading 2 0 0 0 3
   unfolding marks-of
   quiet-2 = goes 2 0 0 0 3 (each-reading (λ r. Chosen r 2 0 0 0 3) (λ rest. (refl, refl, refl, refl, refl, refl)) (λ rest. (refl, refl, refl, refl, refl, refl)) reading named)
 
-  quiet-3 : Goes reading 3 0 0 0 3
+  quiet-3 : StoryGoes reading 3 0 0 0 3
   unfolding marks-of
   quiet-3 = goes 3 0 0 0 3 (each-reading (λ r. Chosen r 3 0 0 0 3) (λ rest. (refl, refl, refl, refl, refl, refl)) (λ rest. (refl, refl, refl, refl, refl, refl)) reading named)
 
   -- and the stale credit there, which does not pass.
-  stale : Goes reading 3 0 2 0 3
+  stale : StoryGoes reading 3 0 2 0 3
   unfolding marks-of
   stale = goes 3 0 2 0 3 (each-reading (λ r. Chosen r 3 0 2 0 3) (λ rest. (refl, refl, refl, refl, refl, refl)) (λ rest. (refl, refl, refl, refl, refl, refl)) reading named)
 
@@ -168,7 +159,7 @@ stands v last = stationWords (stateOf (clockAt v)) last
 
 module _ (reading : ℕ) (named : readingRefusal reading ≡ 0) (rest : List ℕ) where
   -- The first half, with P set or cleared as x says.
-  first-half : {v x y y' v' : ℕ} → Goes reading v x y y' v' → (register last : ℕ) → withPulse 1 (pulsesOf register last) 0 ≡ x →
+  first-half : {v x y y' v' : ℕ} → StoryGoes reading v x y y' v' → (register last : ℕ) → withPulse 1 (pulsesOf register last) 0 ≡ x →
       meterInputOf reading Transfer (live rest) (stands v last) register 0 ≡ gives x
   first-half {v} {x} g register last e =
       input-there reading Transfer (live rest) (stands v last) has-P has-D register 0 refl
@@ -177,7 +168,7 @@ module _ (reading : ℕ) (named : readingRefusal reading ≡ 0) (rest : List ℕ
       ∙ g .input rest
 
   -- The second half, where the total has room.
-  second-half : {v x y y' v' : ℕ} → Goes reading v x y y' v' → (register last b u : ℕ) →
+  second-half : {v x y y' v' : ℕ} → StoryGoes reading v x y y' v' → (register last b u : ℕ) →
       fits (b ∷ u ∷ []) (isOn 1 y') (pulsesOf register last) ≡ true →
       meterOutputOf reading Transfer (live rest) (stands v last) (b ∷ u ∷ []) register x y
       ≡ record { answer = gives y'; station = stands v' register; totals = risen (b ∷ u ∷ []) (isOn 1 y') (pulsesOf register last) }
@@ -197,7 +188,7 @@ module _ (reading : ℕ) (named : readingRefusal reading ≡ 0) (rest : List ℕ
   still c = let h = pulses-advance c c (omega arith) (omega arith) in omega arith
 
   -- A quiet tick: no pulses, and the totals stay.
-  quiet-tick : {v v' y : ℕ} → Goes reading v 0 y 0 v' → (c b u : ℕ) → u ≤ 4294967295 →
+  quiet-tick : {v v' y : ℕ} → StoryGoes reading v 0 y 0 v' → (c b u : ℕ) → u ≤ 4294967295 →
       {ts : List Read} {es rs : Stream} {last ends : List ℕ} →
       MeterTicks reading Transfer (live rest) (stands v' (c % 65536)) (b ∷ u ∷ []) ts es rs last ends →
       MeterTicks reading Transfer (live rest) (stands v (c % 65536)) (b ∷ u ∷ []) (record { register = c % 65536; x = 0; y = y } ∷ ts)
@@ -314,20 +305,20 @@ pub record Story (reading : ℕ) (marks fresh zeros : List ℕ) (c : ℕ) (ds : 
       last (sum ds ∷ 0 ∷ [])
   pub enforced :
       TicksReleased (policyOf reading Transfer) (replicate (length ds) (event 1 1) ++ (replicate n (event 0 0) ++ (event 0 2 ∷ [])))
-      (replicate (length ds) (event 1 1) ++ (replicate n (event 0 0) ++ (event 0 0 ∷ []))) (codeState (stationState last))
+      (replicate (length ds) (event 1 1) ++ (replicate n (event 0 0) ++ (event 0 0 ∷ []))) (stationState last)
 
-module _ {reading : ℕ} {lent marks : List ℕ} {s : Given} (h : PreparePromise reading Transfer lent (Prepare.Gives s) marks)
+module _ {reading : ℕ} {lent marks : List ℕ} {s : Summary} (h : PreparePromise reading Transfer lent (Prepare.Gives s) marks)
     {before totals fresh zeros : List ℕ} (c : ℕ) (new : MeterNewPromise before totals (c % 65536) 0 fresh zeros) where
-  summed : prepareOf reading Transfer lent ≡ gives (summarySaid s)
+  summed : prepareOf reading Transfer lent ≡ gives s
   summed = sym (h .said)
 
   named : readingRefusal reading ≡ 0
-  named = under-none reading Transfer .0 (given-passed reading Transfer lent (summarySaid s) summed) .0
+  named = under-none reading Transfer .0 (given-passed reading Transfer lent s summed) .0
 
   marked : marks ≡ live (drop 4 lent)
   marked =
-      let ok = given-passed reading Transfer lent (summarySaid s) summed in
-      let long = given-long reading Transfer lent (summarySaid s) summed in
+      let ok = given-passed reading Transfer lent s summed in
+      let long = given-long reading Transfer lent s summed in
       h .marks ∙ marks-past reading Transfer lent (marks-granted reading Transfer lent .1 (ok, long))
       ∙ ap₂ (λ (l : List ℕ) (n : ℕ). l ++ drop n lent) (all-live reading named) (four reading named)
 

@@ -23,7 +23,7 @@ use Rattle.resting.specs.Always.{goesOn, same-marks}
 use Rattle.prepare.specs.Table.{machineOf, marksOf}
 use Rattle.prepare.specs.Live.{within}
 use Rattle.prepare.specs.Entry.{prepareOf}
-use Rattle.prepare.specs.Enforces.{EnforcedBy}
+use Rattle.prepare.specs.Enforcing.{EnforcedBy}
 use Rattle.tender.specs.Demand2Shown.{hopeless-exactly}
 
 -- A state is "live if permitted streams of every length leave it"; so is the one that the stream w leads to.
@@ -36,15 +36,15 @@ SomeLengthNone permits w = (n : ℕ) × ((v : Stream) → length v ≡ n → per
 
 -- Demand 2's release by those words: `Enforced`, with `EveryLength` in place of `GoesOn`.
 module _ (permits : Stream → Type 0) (inputs outputs : ℕ) where
-  abbrev pub MayOut : Stream → ℕ → ℕ → Type 0
-  MayOut w x y = (y < 2 ^ outputs) × EveryLength permits (then w x y)
+  abbrev pub MayOut01 : Stream → ℕ → ℕ → Type 0
+  MayOut01 w x y = (y < 2 ^ outputs) × EveryLength permits (then w x y)
 
-  abbrev pub MayIn : Stream → ℕ → Type 0
-  MayIn w x = (x < 2 ^ inputs) × ((y : ℕ) × MayOut w x y)
+  abbrev pub MayIn01 : Stream → ℕ → Type 0
+  MayIn01 w x = (x < 2 ^ inputs) × ((y : ℕ) × MayOut01 w x y)
 
   pub record TickByLengths (w : Stream) (read released : Event) : Type 0 where
-    pub input : Nearest corrections (MayIn w) (read .x) (released .x)
-    pub output : Nearest corrections (MayOut w (released .x)) (read .y) (released .y)
+    pub input : Nearest corrections (MayIn01 w) (read .x) (released .x)
+    pub output : Nearest corrections (MayOut01 w (released .x)) (read .y) (released .y)
 
   pub data EnforcedByLengths : Stream → List Event → List Event → Type 0 where
     done : {w : Stream} → EnforcedByLengths w [] []
@@ -53,16 +53,16 @@ module _ (permits : Stream → Type 0) (inputs outputs : ℕ) where
 
 -- Of any language in which to go on for ever is to have streams of every length.
 module _ (L : Language) (same : (w : Stream) → GoesOn L w ↔ EveryLength (L .permits) w) (n m : ℕ) where
-  out-there : (w : Stream) (x y : ℕ) → Enforced.MayOut L n m w x y → MayOut (L .permits) n m w x y
+  out-there : (w : Stream) (x y : ℕ) → Enforced.MayOut L n m w x y → MayOut01 (L .permits) n m w x y
   out-there w x y p = (p .0, same (then w x y) .0 (p .1))
 
-  out-back : (w : Stream) (x y : ℕ) → MayOut (L .permits) n m w x y → Enforced.MayOut L n m w x y
+  out-back : (w : Stream) (x y : ℕ) → MayOut01 (L .permits) n m w x y → Enforced.MayOut L n m w x y
   out-back w x y p = (p .0, same (then w x y) .1 (p .1))
 
-  in-there : (w : Stream) (x : ℕ) → Enforced.MayIn L n m w x → MayIn (L .permits) n m w x
+  in-there : (w : Stream) (x : ℕ) → Enforced.MayIn L n m w x → MayIn01 (L .permits) n m w x
   in-there w x p = (p .0, (p .1 .0, out-there w x (p .1 .0) (p .1 .1)))
 
-  in-back : (w : Stream) (x : ℕ) → MayIn (L .permits) n m w x → Enforced.MayIn L n m w x
+  in-back : (w : Stream) (x : ℕ) → MayIn01 (L .permits) n m w x → Enforced.MayIn L n m w x
   in-back w x p = (p .0, (p .1 .0, out-back w x (p .1 .0) (p .1 .1)))
 
   there : {w : Stream} {es rs : List Event} → Enforced.Enforced corrections L n m w es rs → EnforcedByLengths (L .permits) n m w es rs
@@ -105,7 +105,7 @@ module _ (p : Policy) (zero : AllZero p) where
   pub hopeless-unchanged : Hopeless (Permits p) ↔ SomeLengthNone (Permits p .permits) []
   hopeless-unchanged = dead-unchanged (start p)
 
-  -- The stream w "can go on for ever".
+  -- The stream w can "go on for ever".
   pub goes-on-unchanged : (w : Stream) → GoesOn (Permits p) w ↔ EveryLength (Permits p .permits) w
   goes-on-unchanged = goes-on-lengths (Permits p) (closed p (start p)) (always (start p))
 

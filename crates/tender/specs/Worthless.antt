@@ -16,7 +16,7 @@ use Rattle.enforcer.specs.Entries.{RunAnswer, eventGood}
 use Rattle.enforcer.specs.Code.{startState}
 use Rattle.enforcer.specs.Promises.{RunPromise}
 use Rattle.enforcer.specs.declared.runs.Ran.{Ran}
-use Rattle.prepare.specs.Promise.{summarySaid, PreparePromise}
+use Rattle.prepare.specs.Promise.{PreparePromise}
 use Rattle.prepare.specs.declared.Summary.{Summary}
 use Rattle.prepare.specs.declared.Prepared.the-variants as Prepared
 use Rattle.tender.specs.Samples.{S, T}
@@ -25,7 +25,7 @@ use Rattle.tender.specs.Granted.{given-passed, given-goes-on}
 use Rattle.tender.specs.Demand2Shown.{releases, released-one, prepared-otherwise, marked, said-released}
 use Rattle.tender.specs.Code.{code-releases}
 -- "one refusing always" and "one inventing the number of live states", of prepare.
-pub use Rattle.tender.specs.Demand1.{not-refusing, not-inventing}
+pub use Rattle.tender.specs.Demand1Shown.{not-refusing, not-inventing}
 
 -- Prepare's code gave a summary, and run's code ran under the same reading, from `State::start()` with those marks, over the events of a marked case
 -- and into a slice of as many bytes: it refuses nothing, and the slice holds what the case says.
@@ -40,8 +40,8 @@ code-marked {reading} {file} {before} {events = events} {rs = rs} {s = s} h k go
     let room : length events ≤ length (Cases.lent (length events)) = rw length-replicate (le-refl (length events)) in
     let long : states p ≤ length lent = rw length-replicate (le-refl (states p)) in
     let gave =
-    prepared-otherwise reading file lent (given-passed reading file before (summarySaid s) given) long .0
-    (not-both (Permits p) [] (given-goes-on reading file before (summarySaid s) given))
+    prepared-otherwise reading file lent (given-passed reading file before s given) long .0
+    (not-both (Permits p) [] (given-goes-on reading file before s given))
     in
     let a = code-releases h k good room in
     let b = releases reading file lent _ gave events (Cases.lent (length events)) good room in

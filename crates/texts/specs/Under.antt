@@ -4,20 +4,21 @@ use mathlib.Core.List.{List, [], _++_, append-assoc, append-nil}
 use Prim.Native.Nat.{ℕ, _+_, _≤_}
 use native.Mathlib.Omega.{arith}
 use lib.ListN.{length, length-append}
-use Rattle.texts.specs.Wrote.{Wrote, wrote-none, wrote-then}
+use Rattle.texts.specs.Wrote.{Wrote}
+use Rattle.texts.specs.WroteLaws.{wrote-none, wrote-then}
 
 -- Of all that is to stand from `at` on, what comes before `rest` stands there, and `next` is the position after it.
-pub record Under (before : List ℕ) (at : ℕ) (all : List ℕ) (next : ℕ) (now : List ℕ) (rest : List ℕ) : Type 0 where
+pub record LinesUnder (before : List ℕ) (at : ℕ) (all : List ℕ) (next : ℕ) (now : List ℕ) (rest : List ℕ) : Type 0 where
   pub done : List ℕ
   pub wrote : Wrote before at done next now
   pub whole : all ≡ done ++ rest
   pub same : length now ≡ length before
 
-pub under-start : (before : List ℕ) (at : ℕ) (all : List ℕ) → Under before at all at before all
+pub under-start : (before : List ℕ) (at : ℕ) (all : List ℕ) → LinesUnder before at all at before all
 under-start before at all = record { done = []; wrote = wrote-none before at; whole = refl; same = refl }
 
 module _ {before : List ℕ} {at : ℕ} {all : List ℕ} (room : at + length all ≤ length before) {next : ℕ} {now rest : List ℕ}
-    (u : Under before at all next now rest) where
+    (u : LinesUnder before at all next now rest) where
   -- There is room for the next part.
   pub under-room : (piece more : List ℕ) → rest ≡ piece ++ more → next + length piece ≤ length now
   under-room piece more e =
@@ -25,7 +26,7 @@ module _ {before : List ℕ} {at : ℕ} {all : List ℕ} (room : at + length all
 
   -- It is written.
   pub under-more : {piece more : List ℕ} {r : ℕ} {after : List ℕ} → rest ≡ piece ++ more → Wrote now next piece r after → length after ≡ length now →
-      Under before at all r after more
+      LinesUnder before at all r after more
   under-more {piece} {more} e w l =
       record {
         done = u .done ++ piece;
@@ -39,7 +40,7 @@ module _ {before : List ℕ} {at : ℕ} {all : List ℕ} (room : at + length all
   under-last {r} {after} w = subst (λ (z : List ℕ). Wrote before at z r after) (sym (u .whole)) (wrote-then (omega arith) (u .wrote) w)
 
 -- Nothing is left.
-pub under-all : {before : List ℕ} {at : ℕ} {all : List ℕ} {next : ℕ} {now rest : List ℕ} → Under before at all next now rest → rest ≡ [] →
+pub under-all : {before : List ℕ} {at : ℕ} {all : List ℕ} {next : ℕ} {now rest : List ℕ} → LinesUnder before at all next now rest → rest ≡ [] →
     Wrote before at all next now
 under-all {before} {at} {all} {next} {now} u e =
     subst (λ (z : List ℕ). Wrote before at z next now) (sym (u .whole ∙ ap (λ (z : List ℕ). u .done ++ z) e ∙ append-nil (u .done))) (u .wrote)

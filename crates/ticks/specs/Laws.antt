@@ -7,7 +7,8 @@ use native.Mathlib.Nat.{div-add-mod', mod-lt, le-mul-of-pos-right, lt-of-mul-lt-
 use native.Mathlib.Omega.{arith}
 use lib.Dec.{ltb, leb, eqb}
 use borrow.Author.Tests.{ltb-true, ltb-false, leb-true, leb-false, eqb-true, eqb-false, lt-ltb, le-ltb, le-leb, lt-leb}
-use Rattle.streams.specs.Answer.{Answer, gives, refused, _orElse_, unless, answer, UpTo, unless-le, else-le, answer-up-to}
+use Rattle.streams.specs.Answer.{Answer, gives, refused, _orElse_, unless, answer, UpTo}
+use Rattle.streams.specs.AnswerLaws.{unless-le, else-le, answer-up-to}
 use Rattle.ticks.specs.declared.Milliseconds.{Milliseconds}
 use Rattle.ticks.specs.declared.Ticks.{Ticks}
 use Rattle.ticks.specs.declared.Rounding.{Rounding}

@@ -11,7 +11,7 @@ pub enum Differs {
 }
 
 // What differs, and where the record ends.
-pub struct Outcome {
+pub struct CallOutcome {
     pub differs: Differs,
     pub next: Cursor,
 }
@@ -60,13 +60,13 @@ pub(crate) fn prepare(
     reading: u8,
     file: &[u8],
     marks: &mut [u8],
-) -> Outcome {
+) -> CallOutcome {
     let got = groovepawn::groovepawn_prepare(reading, file, marks);
     let answer = at.long(cases);
     let next = answer.next;
     let bytes = next.same_string(cases, marks);
     let next = bytes.next;
-    Outcome {
+    CallOutcome {
         differs: first_of(got == answer.value, bytes.same, true),
         next,
     }
@@ -79,13 +79,13 @@ pub(crate) fn input(
     file: &[u8],
     marks: &[u8],
     state: &[u16],
-) -> Outcome {
+) -> CallOutcome {
     let x = at.byte(cases);
     let next = x.next;
     let got = groovepawn::groovepawn_input(reading, file, marks, state, x.value);
     let answer = next.long(cases);
     let next = answer.next;
-    Outcome {
+    CallOutcome {
         differs: first_of(got as u64 == answer.value, true, true),
         next,
     }
@@ -98,7 +98,7 @@ pub(crate) fn output(
     file: &[u8],
     marks: &[u8],
     state: &mut [u16],
-) -> Outcome {
+) -> CallOutcome {
     let x = at.byte(cases);
     let next = x.next;
     let y = next.byte(cases);
@@ -108,7 +108,7 @@ pub(crate) fn output(
     let next = answer.next;
     let after = next.same_state(cases, state);
     let next = after.next;
-    Outcome {
+    CallOutcome {
         differs: first_of(got as u64 == answer.value, true, after.same),
         next,
     }
@@ -123,7 +123,7 @@ pub(crate) fn run(
     state: &mut [u16],
     events: &[u8],
     released: &mut [u8],
-) -> Outcome {
+) -> CallOutcome {
     let got = groovepawn::groovepawn_run(reading, file, marks, state, events, released);
     let answer = at.long(cases);
     let next = answer.next;
@@ -131,25 +131,25 @@ pub(crate) fn run(
     let next = bytes.next;
     let after = next.same_state(cases, state);
     let next = after.next;
-    Outcome {
+    CallOutcome {
         differs: first_of(got == answer.value, bytes.same, after.same),
         next,
     }
 }
 
-pub(crate) fn join(cases: &[u8], at: Cursor, a: &[u8], b: &[u8], out: &mut [u8]) -> Outcome {
+pub(crate) fn join(cases: &[u8], at: Cursor, a: &[u8], b: &[u8], out: &mut [u8]) -> CallOutcome {
     let got = groovepawn::groovepawn_join(a, b, out);
     let answer = at.long(cases);
     let next = answer.next;
     let bytes = next.same_string(cases, out);
     let next = bytes.next;
-    Outcome {
+    CallOutcome {
         differs: first_of(got == answer.value, bytes.same, true),
         next,
     }
 }
 
-pub(crate) fn ticks(cases: &[u8], at: Cursor) -> Outcome {
+pub(crate) fn ticks(cases: &[u8], at: Cursor) -> CallOutcome {
     let milliseconds = at.word(cases);
     let next = milliseconds.next;
     let tick_length = next.word(cases);
@@ -159,7 +159,7 @@ pub(crate) fn ticks(cases: &[u8], at: Cursor) -> Outcome {
     let got = groovepawn::groovepawn_ticks(milliseconds.value, tick_length.value, up.value);
     let answer = next.long(cases);
     let next = answer.next;
-    Outcome {
+    CallOutcome {
         differs: first_of(got as u64 == answer.value, true, true),
         next,
     }
@@ -171,13 +171,13 @@ pub(crate) fn wave_write(
     file: &[u8],
     events: &[u8],
     text: &mut [u8],
-) -> Outcome {
+) -> CallOutcome {
     let got = groovepawn::groovepawn_wave_write(file, events, text);
     let answer = at.long(cases);
     let next = answer.next;
     let bytes = next.same_string(cases, text);
     let next = bytes.next;
-    Outcome {
+    CallOutcome {
         differs: first_of(got == answer.value, bytes.same, true),
         next,
     }
@@ -189,25 +189,25 @@ pub(crate) fn wave_read(
     file: &[u8],
     text: &[u8],
     events: &mut [u8],
-) -> Outcome {
+) -> CallOutcome {
     let got = groovepawn::groovepawn_wave_read(file, text, events);
     let answer = at.long(cases);
     let next = answer.next;
     let bytes = next.same_string(cases, events);
     let next = bytes.next;
-    Outcome {
+    CallOutcome {
         differs: first_of(got == answer.value, bytes.same, true),
         next,
     }
 }
 
-pub(crate) fn index(cases: &[u8], at: Cursor, file: &[u8], index: &mut [u16]) -> Outcome {
+pub(crate) fn index(cases: &[u8], at: Cursor, file: &[u8], index: &mut [u16]) -> CallOutcome {
     let got = groovepawn::groovepawn_index(file, index);
     let answer = at.long(cases);
     let next = answer.next;
     let after = next.same_state(cases, index);
     let next = after.next;
-    Outcome {
+    CallOutcome {
         differs: first_of(got as u64 == answer.value, true, after.same),
         next,
     }
@@ -221,13 +221,13 @@ pub(crate) fn input_indexed(
     index: &[u16],
     marks: &[u8],
     state: &[u16],
-) -> Outcome {
+) -> CallOutcome {
     let x = at.byte(cases);
     let next = x.next;
     let got = groovepawn::groovepawn_input_indexed(reading, file, index, marks, state, x.value);
     let answer = next.long(cases);
     let next = answer.next;
-    Outcome {
+    CallOutcome {
         differs: first_of(got as u64 == answer.value, true, true),
         next,
     }
@@ -241,7 +241,7 @@ pub(crate) fn output_indexed(
     index: &[u16],
     marks: &[u8],
     state: &mut [u16],
-) -> Outcome {
+) -> CallOutcome {
     let x = at.byte(cases);
     let next = x.next;
     let y = next.byte(cases);
@@ -259,19 +259,19 @@ pub(crate) fn output_indexed(
     let next = answer.next;
     let after = next.same_state(cases, state);
     let next = after.next;
-    Outcome {
+    CallOutcome {
         differs: first_of(got as u64 == answer.value, true, after.same),
         next,
     }
 }
 
-pub(crate) fn bays_new(cases: &[u8], at: Cursor, states: &mut [u16]) -> Outcome {
+pub(crate) fn bays_new(cases: &[u8], at: Cursor, states: &mut [u16]) -> CallOutcome {
     let got = groovepawn::groovepawn_bays_new(states);
     let answer = at.long(cases);
     let next = answer.next;
     let after = next.same_state(cases, states);
     let next = after.next;
-    Outcome {
+    CallOutcome {
         differs: first_of(got as u64 == answer.value, true, after.same),
         next,
     }
@@ -284,7 +284,7 @@ pub(crate) fn bay_input(
     file: &[u8],
     marks: &[u8],
     states: &[u16],
-) -> Outcome {
+) -> CallOutcome {
     let bay = at.word(cases);
     let next = bay.next;
     let x = next.byte(cases);
@@ -292,7 +292,7 @@ pub(crate) fn bay_input(
     let got = groovepawn::groovepawn_bay_input(reading, file, marks, states, bay.value, x.value);
     let answer = next.long(cases);
     let next = answer.next;
-    Outcome {
+    CallOutcome {
         differs: first_of(got as u64 == answer.value, true, true),
         next,
     }
@@ -305,7 +305,7 @@ pub(crate) fn bay_output(
     file: &[u8],
     marks: &[u8],
     states: &mut [u16],
-) -> Outcome {
+) -> CallOutcome {
     let bay = at.word(cases);
     let next = bay.next;
     let x = next.byte(cases);
@@ -325,7 +325,7 @@ pub(crate) fn bay_output(
     let next = answer.next;
     let after = next.same_state(cases, states);
     let next = after.next;
-    Outcome {
+    CallOutcome {
         differs: first_of(got as u64 == answer.value, true, after.same),
         next,
     }
@@ -336,7 +336,7 @@ pub(crate) fn meter_new(
     at: Cursor,
     station: &mut [u16],
     totals: &mut [u32],
-) -> Outcome {
+) -> CallOutcome {
     let register = at.pair(cases);
     let next = register.next;
     let got = groovepawn::groovepawn_meter_new(station, totals, register.value);
@@ -346,7 +346,7 @@ pub(crate) fn meter_new(
     let next = after.next;
     let sums = next.same_totals(cases, totals);
     let next = sums.next;
-    Outcome {
+    CallOutcome {
         differs: first_of_station(got as u64 == answer.value, after.same, sums.same),
         next,
     }
@@ -359,7 +359,7 @@ pub(crate) fn meter_input(
     file: &[u8],
     marks: &[u8],
     station: &[u16],
-) -> Outcome {
+) -> CallOutcome {
     let register = at.pair(cases);
     let next = register.next;
     let x = next.byte(cases);
@@ -374,7 +374,7 @@ pub(crate) fn meter_input(
     );
     let answer = next.long(cases);
     let next = answer.next;
-    Outcome {
+    CallOutcome {
         differs: first_of(got as u64 == answer.value, true, true),
         next,
     }
@@ -388,7 +388,7 @@ pub(crate) fn meter_output(
     marks: &[u8],
     station: &mut [u16],
     totals: &mut [u32],
-) -> Outcome {
+) -> CallOutcome {
     let register = at.pair(cases);
     let next = register.next;
     let x = next.byte(cases);
@@ -411,7 +411,7 @@ pub(crate) fn meter_output(
     let next = after.next;
     let sums = next.same_totals(cases, totals);
     let next = sums.next;
-    Outcome {
+    CallOutcome {
         differs: first_of_station(got as u64 == answer.value, after.same, sums.same),
         next,
     }
@@ -428,7 +428,7 @@ pub(crate) fn prepare_fast(
     work_3: &mut [u16],
     work_4: &mut [u16],
     work_5: &mut [u16],
-) -> Outcome {
+) -> CallOutcome {
     let got = groovepawn::groovepawn_prepare_fast(
         reading,
         file,
@@ -443,7 +443,7 @@ pub(crate) fn prepare_fast(
     let next = answer.next;
     let bytes = next.same_string(cases, marks);
     let next = bytes.next;
-    Outcome {
+    CallOutcome {
         differs: first_of(got == answer.value, bytes.same, true),
         next,
     }
@@ -456,7 +456,7 @@ pub(crate) fn clean(
     file: &[u8],
     cleaned: &mut [u8],
     struck: &mut [u8],
-) -> Outcome {
+) -> CallOutcome {
     let got = groovepawn::groovepawn_clean(reading, file, cleaned, struck);
     let answer = at.long(cases);
     let next = answer.next;
@@ -464,7 +464,7 @@ pub(crate) fn clean(
     let next = bytes.next;
     let list = next.same_string(cases, struck);
     let next = list.next;
-    Outcome {
+    CallOutcome {
         differs: first_of_cleaned(got == answer.value, bytes.same, list.same),
         next,
     }
@@ -477,7 +477,7 @@ pub(crate) fn why(
     file: &[u8],
     marks: &[u8],
     state: &[u16],
-) -> Outcome {
+) -> CallOutcome {
     let x = at.byte(cases);
     let next = x.next;
     let y = next.byte(cases);
@@ -485,7 +485,7 @@ pub(crate) fn why(
     let got = groovepawn::groovepawn_why(reading, file, marks, state, x.value, y.value);
     let answer = next.long(cases);
     let next = answer.next;
-    Outcome {
+    CallOutcome {
         differs: first_of(got == answer.value, true, true),
         next,
     }

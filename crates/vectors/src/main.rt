@@ -1,4 +1,4 @@
-// Puts the stored cases to the entries for a controller in C, and writes how many there were of each kind and how many came out different.
+// Puts the stored cases to the entries for a controller in C, and counts what comes out different. It writes how many there were of each kind.
 // Then the same for a file of wrong expectations, all of which must come out different.
 mod calls;
 mod numbers;

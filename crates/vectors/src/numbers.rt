@@ -31,7 +31,7 @@ pub struct Long {
 }
 
 // What was read into a lent slice: how many places of it, from its start.
-pub struct Taken {
+pub struct NumberTaken {
     pub count: usize,
     pub next: Cursor,
 }

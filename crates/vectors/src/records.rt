@@ -1,7 +1,7 @@
 // The records of a file, one after the other.
 use crate::calls;
+use crate::calls::CallOutcome;
 use crate::calls::Differs;
-use crate::calls::Outcome;
 use crate::numbers::Cursor;
 use crate::tally::KINDS;
 use crate::tally::Kind;
@@ -17,7 +17,7 @@ fn run_record(
     file: &[u8],
     marks: &[u8],
     state: &mut [u16],
-) -> Outcome {
+) -> CallOutcome {
     let mut events = [0u8; 65600];
     let mut released = [0u8; 65600];
     let taken = at.string(cases, &mut events);
@@ -46,7 +46,7 @@ fn indexed_input_record(
     file: &[u8],
     marks: &[u8],
     state: &[u16],
-) -> Outcome {
+) -> CallOutcome {
     let mut index = [0u16; 136];
     let taken = at.state(cases, &mut index);
     let entries = taken.count;
@@ -62,7 +62,7 @@ fn indexed_output_record(
     file: &[u8],
     marks: &[u8],
     state: &mut [u16],
-) -> Outcome {
+) -> CallOutcome {
     let mut index = [0u16; 136];
     let taken = at.state(cases, &mut index);
     let entries = taken.count;
@@ -78,7 +78,7 @@ fn state_record(
     reading: u8,
     file: &[u8],
     marks: &[u8],
-) -> Outcome {
+) -> CallOutcome {
     let mut state = [0u16; 8];
     let taken = at.state(cases, &mut state);
     let numbers = taken.count;
@@ -105,7 +105,7 @@ fn bay_record(
     reading: u8,
     file: &[u8],
     marks: &[u8],
-) -> Outcome {
+) -> CallOutcome {
     let mut states = [0u16; 136];
     let taken = at.state(cases, &mut states);
     let numbers = taken.count;
@@ -124,7 +124,7 @@ fn meter_output_record(
     file: &[u8],
     marks: &[u8],
     station: &mut [u16],
-) -> Outcome {
+) -> CallOutcome {
     let mut totals = [0u32; 4];
     let taken = at.totals(cases, &mut totals);
     let count = taken.count;
@@ -148,7 +148,7 @@ fn meter_record(
     reading: u8,
     file: &[u8],
     marks: &[u8],
-) -> Outcome {
+) -> CallOutcome {
     let mut station = [0u16; 8];
     let taken = at.state(cases, &mut station);
     let numbers = taken.count;
@@ -169,7 +169,7 @@ fn other_work(
     file: &[u8],
     marks: &mut [u8],
     work_1: &mut [u16],
-) -> Outcome {
+) -> CallOutcome {
     let mut work_2 = [0u16; 136];
     let mut work_3 = [0u16; 136];
     let mut work_4 = [0u16; 136];
@@ -207,7 +207,7 @@ fn prepare_fast_record(
     reading: u8,
     file: &[u8],
     marks: &mut [u8],
-) -> Outcome {
+) -> CallOutcome {
     let mut work = [0u16; 136];
     let taken = at.state(cases, &mut work);
     let room = taken.count;
@@ -223,7 +223,7 @@ fn marks_record(
     reading: u8,
     file: &[u8],
     marks: &mut [u8],
-) -> Outcome {
+) -> CallOutcome {
     match kind {
         Kind::Prepare => calls::prepare(cases, at, reading, file, marks),
         Kind::PrepareFast => prepare_fast_record(cases, at, reading, file, marks),
@@ -236,7 +236,7 @@ fn marks_record(
 }
 
 // A record that begins with a reading, a policy and marks.
-fn policy_record(cases: &[u8], kind: Kind, at: Cursor) -> Outcome {
+fn policy_record(cases: &[u8], kind: Kind, at: Cursor) -> CallOutcome {
     let mut file = [0u8; 8192];
     let mut marks = [0u8; 65600];
     let reading = at.byte(cases);
@@ -257,7 +257,7 @@ fn policy_record(cases: &[u8], kind: Kind, at: Cursor) -> Outcome {
     )
 }
 
-fn join_record(cases: &[u8], at: Cursor) -> Outcome {
+fn join_record(cases: &[u8], at: Cursor) -> CallOutcome {
     let mut a = [0u8; 8192];
     let mut b = [0u8; 8192];
     let mut out = [0u8; 8192];
@@ -280,7 +280,7 @@ fn join_record(cases: &[u8], at: Cursor) -> Outcome {
 }
 
 // A record of a wave: a policy, what is read and what is written.
-fn wave_record(cases: &[u8], kind: Kind, at: Cursor) -> Outcome {
+fn wave_record(cases: &[u8], kind: Kind, at: Cursor) -> CallOutcome {
     let mut file = [0u8; 8192];
     let mut given = [0u8; 65600];
     let mut lent = [0u8; 65600];
@@ -311,7 +311,7 @@ fn wave_record(cases: &[u8], kind: Kind, at: Cursor) -> Outcome {
     }
 }
 
-fn index_record(cases: &[u8], at: Cursor) -> Outcome {
+fn index_record(cases: &[u8], at: Cursor) -> CallOutcome {
     let mut file = [0u8; 8192];
     let mut index = [0u16; 136];
     let taken = at.string(cases, &mut file);
@@ -323,7 +323,7 @@ fn index_record(cases: &[u8], at: Cursor) -> Outcome {
     calls::index(cases, next, &file[..file_length], &mut index[..entries])
 }
 
-fn bays_new_record(cases: &[u8], at: Cursor) -> Outcome {
+fn bays_new_record(cases: &[u8], at: Cursor) -> CallOutcome {
     let mut states = [0u16; 136];
     let taken = at.state(cases, &mut states);
     let numbers = taken.count;
@@ -331,7 +331,7 @@ fn bays_new_record(cases: &[u8], at: Cursor) -> Outcome {
     calls::bays_new(cases, next, &mut states[..numbers])
 }
 
-fn meter_new_record(cases: &[u8], at: Cursor) -> Outcome {
+fn meter_new_record(cases: &[u8], at: Cursor) -> CallOutcome {
     let mut station = [0u16; 8];
     let mut totals = [0u32; 4];
     let taken = at.state(cases, &mut station);
@@ -343,7 +343,7 @@ fn meter_new_record(cases: &[u8], at: Cursor) -> Outcome {
     calls::meter_new(cases, next, &mut station[..numbers], &mut totals[..count])
 }
 
-fn clean_record(cases: &[u8], at: Cursor) -> Outcome {
+fn clean_record(cases: &[u8], at: Cursor) -> CallOutcome {
     let mut file = [0u8; 8192];
     let mut cleaned = [0u8; 8192];
     let mut struck = [0u8; 8192];
@@ -369,7 +369,7 @@ fn clean_record(cases: &[u8], at: Cursor) -> Outcome {
 }
 
 // The body of a record.
-fn body(cases: &[u8], kind: Kind, at: Cursor) -> Outcome {
+fn body(cases: &[u8], kind: Kind, at: Cursor) -> CallOutcome {
     match kind {
         Kind::Join => join_record(cases, at),
         Kind::Ticks => calls::ticks(cases, at),
@@ -379,7 +379,7 @@ fn body(cases: &[u8], kind: Kind, at: Cursor) -> Outcome {
         Kind::BaysNew => bays_new_record(cases, at),
         Kind::MeterNew => meter_new_record(cases, at),
         Kind::Clean => clean_record(cases, at),
-        Kind::Unknown => Outcome {
+        Kind::Unknown => CallOutcome {
             differs: Differs::Nothing,
             next: at.lose(),
         },

@@ -1,19 +1,19 @@
 // States, and what else is stored as numbers of 16 bits: how many, then the numbers.
 use crate::numbers::Compared;
 use crate::numbers::Cursor;
-use crate::numbers::Taken;
+use crate::numbers::NumberTaken;
 ghost use Rattle.vectors.specs.Counts.{Counts};
 
 impl Cursor {
     // The numbers of the next state, at the start of `into`.
-    pub(crate) fn state(self, cases: &[u8], into: &mut [u16]) -> Taken
+    pub(crate) fn state(self, cases: &[u8], into: &mut [u16]) -> NumberTaken
         ensures { λ r. ⌜ Counts (r .count) (now (into .exit)) ⌝ }
     {
         let head = self.byte(cases);
         let count = head.value as usize;
         let mut next = head.next;
         if into.len() < count {
-            return Taken {
+            return NumberTaken {
                 count: 0,
                 next: next.lose(),
             };
@@ -25,7 +25,7 @@ impl Cursor {
             next = number.next;
             i += 1;
         }
-        Taken { count, next }
+        NumberTaken { count, next }
     }
 
     // The next state, which has as many numbers as `held`, compared with what that holds.

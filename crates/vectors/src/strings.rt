@@ -1,7 +1,7 @@
 // Strings, which are stored in pieces.
 use crate::numbers::Compared;
 use crate::numbers::Cursor;
-use crate::numbers::Taken;
+use crate::numbers::NumberTaken;
 ghost use Prim.Native.Nat.{_<_};
 ghost use Rattle.vectors.specs.Counts.{Counts};
 
@@ -91,14 +91,14 @@ impl Pieces {
 
 impl Cursor {
     // The next string, unpacked to the start of `into`.
-    pub(crate) fn string(self, cases: &[u8], into: &mut [u8]) -> Taken
+    pub(crate) fn string(self, cases: &[u8], into: &mut [u8]) -> NumberTaken
         ensures { λ r. ⌜ Counts (r .count) (now (into .exit)) ⌝ }
     {
         let head = self.word(cases);
         let count = head.value as usize;
         let start = head.next;
         if into.len() < count {
-            return Taken {
+            return NumberTaken {
                 count: 0,
                 next: start.lose(),
             };
@@ -111,7 +111,7 @@ impl Cursor {
             pieces = made.pieces;
             i += 1;
         }
-        Taken {
+        NumberTaken {
             count,
             next: pieces.end(),
         }

@@ -1,19 +1,19 @@
 // The totals of a meter: how many, then the numbers of 32 bits.
 use crate::numbers::Compared;
 use crate::numbers::Cursor;
-use crate::numbers::Taken;
+use crate::numbers::NumberTaken;
 ghost use Rattle.vectors.specs.Counts.{Counts};
 
 impl Cursor {
     // The next totals, at the start of `into`.
-    pub(crate) fn totals(self, cases: &[u8], into: &mut [u32]) -> Taken
+    pub(crate) fn totals(self, cases: &[u8], into: &mut [u32]) -> NumberTaken
         ensures { λ r. ⌜ Counts (r .count) (now (into .exit)) ⌝ }
     {
         let head = self.byte(cases);
         let count = head.value as usize;
         let mut next = head.next;
         if into.len() < count {
-            return Taken {
+            return NumberTaken {
                 count: 0,
                 next: next.lose(),
             };
@@ -25,7 +25,7 @@ impl Cursor {
             next = number.next;
             i += 1;
         }
-        Taken { count, next }
+        NumberTaken { count, next }
     }
 
     // The next totals, which are as many as `held`, compared with what that holds.

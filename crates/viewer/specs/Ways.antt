@@ -5,7 +5,8 @@ use Prim.Native.Nat.{ℕ, zero, suc, _≤_}
 use native.Mathlib.Nat.{zero-add}
 use native.Mathlib.Omega.{arith}
 use lib.ListN.{length, take}
-use Rattle.streams.specs.Answer.{refused, answer, first-refused, given-only}
+use Rattle.streams.specs.Answer.{refused, answer}
+use Rattle.streams.specs.AnswerLaws.{first-refused, given-only}
 use Rattle.enforcer.specs.Code.{startState}
 use Rattle.enforcer.specs.Promises.{RunPromise}
 use Rattle.enforcer.specs.declared.runs.Ran.{Ran}
@@ -15,7 +16,7 @@ use Rattle.texts.specs.Wrote.{Wrote}
 use Rattle.console.specs.Text.{refusedLine}
 use Rattle.console.specs.Frame.{policyFrameRefusal, policyPart, eventsFrameRefusal, eventsPart}
 use Rattle.console.specs.Printed.{unlessRefused, lent, ranOver}
-use Rattle.console.specs.Reply.{Prepares, refused-text, lent-length, run-over}
+use Rattle.console.specs.Replies.{Prepares, refused-text, lent-length, run-over}
 use Rattle.console.specs.Scratch.{prepare-alike}
 use Rattle.waves.specs.Entry.{textOf, writtenOver, writeRefusal, writeOf, writtenOut}
 use Rattle.waves.specs.Promise.{WritePromise}

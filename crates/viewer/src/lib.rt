@@ -1,4 +1,4 @@
-// What the program `wave` decides on slices: the input of `enforce`, and the file of the released stream for a wave viewer.
+// What `wave` decides on slices: the input of `enforce`, and the file for a wave viewer.
 use console::events_frame;
 use console::policy_frame;
 use console::put_refused;
@@ -9,7 +9,8 @@ use prepare::Prepared;
 use waves::Written;
 ghost use mathlib.Core.Path.{_≡_};
 ghost use lib.ListN.{length};
-ghost use Rattle.console.specs.Reply.{Replied, Prepares};
+ghost use Rattle.console.specs.Reply.{Replied};
+ghost use Rattle.console.specs.Replies.{Prepares};
 ghost use Rattle.viewer.specs.Shown.{fileOrLine, releasedFile, shown};
 
 // The reading that the program uses.

@@ -1,4 +1,4 @@
-// Reads a policy and events from standard input, and writes what the enforcer releases for them as a file for wave viewers.
+// Reads what `enforce` reads, and writes what the enforcer releases as a file for wave viewers.
 use libc::STDIN_FILENO;
 use libc::STDOUT_FILENO;
 

@@ -1,17 +1,17 @@
 -- What a checked file says of its signals and of the events that fit them.
-use mathlib.Core.Path.{_≡_, refl, sym, ap, _∙_}
-use mathlib.Core.Bool.{Bool, true, false, not, _&&_, _||_, and-eq-true-iff, false≢true}
+use mathlib.Core.Path.{_≡_, refl, sym}
+use mathlib.Core.Bool.{true, false, not, and-eq-true-iff}
 use mathlib.Core.List.{List, [], _∷_, _++_}
-use Prim.Native.Nat.{ℕ, zero, suc, _≤_, _<_}
+use Prim.Native.Nat.{ℕ, _≤_, _<_}
 use native.Mathlib.Omega.{arith}
-use lib.Dec.{leb, ltb, eqb}
-use lib.ListN.{length, length-take}
-use borrow.Author.Tests.{leb-true, ltb-true, eqb-true, eqb-false, ne-eqb, lt-ltb, not-true}
-use Rattle.policy.specs.File.{inputCount, outputCount, inputTags, outputTags}
+use lib.Dec.{leb, eqb}
+use lib.ListN.{length-take}
+use borrow.Author.Tests.{leb-true, ltb-true, eqb-false, ne-eqb, lt-ltb, not-true}
+use Rattle.policy.specs.File.{inputTags, outputTags}
 use Rattle.policy.specs.Check.{refusalOf, all, among, isCapital, tagsGood}
-use Rattle.policy.specs.Checked.{Passed, passed}
+use Rattle.policy.specs.Checked.{passed}
 use Rattle.waves.specs.Values.{Distinct, NoneOf, neither}
-use Rattle.waves.specs.Events.{Signals, Fits}
+use Rattle.waves.specs.Events.{SignalsGood, EventFits}
 use Rattle.waves.specs.Steps.{AllFit}
 use Rattle.waves.specs.Entry.{eventGood}
 
@@ -62,7 +62,7 @@ distinct before (tag ∷ tags) e =
     ((l .1, d .0), (k .new, l .0))
 
 module _ (f : List ℕ) where
-  pub signals : refusalOf f ≡ 0 → Signals (inputTags f) (outputTags f)
+  pub signals : refusalOf f ≡ 0 → SignalsGood (inputTags f) (outputTags f)
   signals e =
       let p = passed f e in
       let i = distinct [] (inputTags f) (p .inTags) in
@@ -77,10 +77,10 @@ module _ (f : List ℕ) where
         apart = o .1;
       }
 
-  good-fits : (e : ℕ) → eventGood f e ≡ true → Fits (inputTags f) (outputTags f) e
+  good-fits : (e : ℕ) → eventGood f e ≡ true → EventFits (inputTags f) (outputTags f) e
   good-fits e g = let k = and-eq-true-iff _ _ .0 g in record { x = ltb-true _ _ (k .0); y = ltb-true _ _ (k .1) }
 
-  fits-good : (e : ℕ) → Fits (inputTags f) (outputTags f) e → eventGood f e ≡ true
+  fits-good : (e : ℕ) → EventFits (inputTags f) (outputTags f) e → eventGood f e ≡ true
   fits-good e g = rw (lt-ltb _ _ (g .x), lt-ltb _ _ (g .y))
 
   pub all-fit : (events : List ℕ) → all (eventGood f) events ≡ true → AllFit (inputTags f) (outputTags f) events

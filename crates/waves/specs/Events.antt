@@ -1,5 +1,5 @@
 -- How the lines of an event are read: inputs, then outputs.
-use mathlib.Core.Path.{_≡_, refl, sym, ap, ap₂, _∙_}
+use mathlib.Core.Path.{_≡_, refl, sym, ap, _∙_}
 use mathlib.Core.Bool.{Bool, true, false, cond}
 use mathlib.Core.List.{List, [], _∷_, _++_, append-assoc}
 use Prim.Native.Nat.{ℕ, zero, suc, _+_, _-_, _*_, _/_, _%_, _^_, _≤_, _<_}
@@ -8,11 +8,11 @@ use native.Mathlib.Nat.{pow-le-pow-right, mod-eq-of-lt}
 use lib.Arith.{bin-ind}
 use lib.Dec.{eqb}
 use lib.Bits.{differ, bitAnd, bitXor, and-step, and-mask, and-mod, and-shr, xor-step, xor-zero-l, xor-zero-r, xor-mod, xor-shr, xor-lt}
-use lib.ListN.{length, drop}
+use lib.ListN.{length}
 use borrow.Author.Tests.{eqb-true}
 use Rattle.policy.specs.Check.{among}
 use Rattle.waves.specs.Wave.{valueLines, eventLines}
-use Rattle.waves.specs.Values.{Lines, readLines, lines-sound, lines-bound, lines-complete, Apart, Distinct, NoneOf, second-apart}
+use Rattle.waves.specs.Values.{LinesThere, readLines, lines-sound, lines-bound, lines-complete, Apart, Distinct, NoneOf, second-apart}
 
 -- Of the values only those shown make a difference.
 values-shown : (tags : List ℕ) (shown values : ℕ) → valueLines tags shown (bitAnd values shown) ≡ valueLines tags shown values
@@ -68,7 +68,7 @@ pub xor-none : (a b : ℕ) → bitXor a b ≡ 0 → a ≡ b
 xor-none a b e = sym (xor-zero-r a) ∙ ap (bitXor a) (sym e) ∙ xor-back a b
 
 -- What the check has shown of the signals: at most four of each kind, capital letters, no tag twice.
-pub record Signals (inputs outputs : List ℕ) : Type 0 where
+pub record SignalsGood (inputs outputs : List ℕ) : Type 0 where
   pub fewIn : length inputs ≤ 4
   pub fewOut : length outputs ≤ 4
   pub capitalIn : (b : ℕ) → b < 65 → among b inputs ≡ false
@@ -78,7 +78,7 @@ pub record Signals (inputs outputs : List ℕ) : Type 0 where
   pub apart : NoneOf inputs outputs
 
 -- No bit is beyond the signals.
-pub record Fits (inputs outputs : List ℕ) (event : ℕ) : Type 0 where
+pub record EventFits (inputs outputs : List ℕ) (event : ℕ) : Type 0 where
   pub x : event % 16 < 2 ^ length inputs
   pub y : event / 16 < 2 ^ length outputs
 
@@ -92,20 +92,20 @@ module _ (inputs outputs : List ℕ) where
   abbrev pub everySignal : ℕ
   everySignal = 2 ^ length inputs - 1 + 16 * (2 ^ length outputs - 1)
 
-  abbrev bothLines : Lines → Lines → Lines
+  abbrev bothLines : LinesThere → LinesThere → LinesThere
   bothLines l m = record { shown = l .shown + 16 * m .shown; values = l .values + 16 * m .values; rest = m .rest }
 
-  unfoldable pub readEvent : List ℕ → Lines
+  unfoldable pub readEvent : List ℕ → LinesThere
   readEvent text = bothLines (readLines inputs text) (readLines outputs (readLines inputs text .rest))
 
-  module _ (s : Signals inputs outputs) where
+  module _ (s : SignalsGood inputs outputs) where
     xs : (0 < 2 ^ length inputs) × (2 ^ length inputs ≤ 16)
     xs = few-values inputs (s .fewIn)
 
     ys : (0 < 2 ^ length outputs) × (2 ^ length outputs ≤ 16)
     ys = few-values outputs (s .fewOut)
 
-    pub event-bound : (text : List ℕ) → Fits inputs outputs (readEvent text .shown) × Fits inputs outputs (readEvent text .values)
+    pub event-bound : (text : List ℕ) → EventFits inputs outputs (readEvent text .shown) × EventFits inputs outputs (readEvent text .values)
     unfolding readEvent
     event-bound text =
         let x = xs in
@@ -129,7 +129,7 @@ module _ (inputs outputs : List ℕ) where
         rw (a, b, c, d, append-assoc, ← lines-sound outputs (l .rest)) (lines-sound inputs text)
 
     -- Lines that stand there are read.
-    pub event-complete : (shown event : ℕ) (rest : List ℕ) → Fits inputs outputs shown → Apart inputs rest → Apart outputs rest →
+    pub event-complete : (shown event : ℕ) (rest : List ℕ) → EventFits inputs outputs shown → Apart inputs rest → Apart outputs rest →
         readEvent (eventLines inputs outputs shown event ++ rest) ≡ record { shown = shown; values = bitAnd event shown; rest = rest }
     unfolding readEvent eventLines
     event-complete shown event rest f a b =
@@ -142,7 +142,7 @@ module _ (inputs outputs : List ℕ) where
         rw (append-assoc, i, o, p, q)
 
     -- At time 0.
-    every-fits : Fits inputs outputs everySignal
+    every-fits : EventFits inputs outputs everySignal
     every-fits = let x = xs in let y = ys in record { x = omega arith; y = omega arith }
 
     every-shown : (event : ℕ) → eventLines inputs outputs 255 event ≡ eventLines inputs outputs everySignal event
@@ -154,7 +154,7 @@ module _ (inputs outputs : List ℕ) where
         let b : everySignal / 16 ≡ 2 ^ length outputs - 1 = omega arith in
         rw (a, b, ← all-shown inputs 4 (event % 16) (s .fewIn), ← all-shown outputs 4 (event / 16) (s .fewOut))
 
-    every-value : (event : ℕ) → Fits inputs outputs event → bitAnd event everySignal ≡ event
+    every-value : (event : ℕ) → EventFits inputs outputs event → bitAnd event everySignal ≡ event
     every-value event f =
         let x = xs in
         let y = ys in
@@ -164,7 +164,7 @@ module _ (inputs outputs : List ℕ) where
         let d : bitAnd event everySignal / 16 ≡ event / 16 % 2 ^ length outputs = and-shr event everySignal 4 ∙ rw b (and-mask (event / 16) (length outputs)) in
         omega (arith, mod-eq-of-lt (f .x), mod-eq-of-lt (f .y))
 
-    pub first-complete : (event : ℕ) (rest : List ℕ) → Fits inputs outputs event → Apart inputs rest → Apart outputs rest →
+    pub first-complete : (event : ℕ) (rest : List ℕ) → EventFits inputs outputs event → Apart inputs rest → Apart outputs rest →
         readEvent (eventLines inputs outputs 255 event ++ rest) ≡ record { shown = everySignal; values = event; rest = rest }
     first-complete event rest f a b = rw (every-shown event, event-complete everySignal event rest every-fits a b, every-value event f)
 
@@ -181,7 +181,7 @@ module _ (inputs outputs : List ℕ) where
         rw (a, b, values-shown inputs (shown % 16) (event % 16), values-shown outputs (shown / 16) (event / 16))
 
     -- What two events differ in is within the signals.
-    pub xor-fits : (a b : ℕ) → Fits inputs outputs a → Fits inputs outputs b → Fits inputs outputs (bitXor a b)
+    pub xor-fits : (a b : ℕ) → EventFits inputs outputs a → EventFits inputs outputs b → EventFits inputs outputs (bitXor a b)
     xor-fits a b f g =
         record {
           x = rw (xor-mod a b 4) (xor-lt (length inputs) (a % 16) (b % 16) (f .x) (g .x));

@@ -1,5 +1,5 @@
 -- What the reader finds in a text: a stream, or that there is none.
-use mathlib.Core.Path.{_≡_, refl, sym, ap, subst, _∙_}
+use mathlib.Core.Path.{_≡_, refl, sym, ap, _∙_}
 use mathlib.Core.Bool.{Bool, true, false, false≢true}
 use mathlib.Core.List.{List, [], _∷_, _++_, append-nil, append-cancel-left}
 use Prim.Native.Nat.{ℕ, zero, suc, _+_, _-_, _*_, _^_, _≤_, _<_}
@@ -9,13 +9,13 @@ use lib.ListN.{length, getD, take, drop, set, replicate, length-append, length-r
 use lib.Seq.{sets, length-take-le, ext-getD, getD-take}
 use Rattle.waves.specs.Wave.{laterLines, waveText}
 use Rattle.waves.specs.Streams.{opening, body, text-some, text-none, body-read}
-use Rattle.waves.specs.Events.{Signals, Fits, everySignal, readEvent, event-bound, first-sound}
-use Rattle.waves.specs.Values.{Lines}
-use Rattle.waves.specs.Steps.{AllFit, bad, closes, changes, stepIn}
-use Rattle.waves.specs.Reached.{Reached, reached-start, reached-bad, Closed, reached-closes, reached-changes}
+use Rattle.waves.specs.Events.{SignalsGood, EventFits, everySignal, readEvent, event-bound, first-sound}
+use Rattle.waves.specs.Values.{LinesThere}
+use Rattle.waves.specs.Steps.{AllFit, closes, stepIn}
+use Rattle.waves.specs.Reached.{ReadSoFar, reached-closes}
 use Rattle.waves.specs.Next.{sets-append}
-use Rattle.waves.specs.declared.stream.Stream.{Stream}
-use Rattle.waves.specs.declared.stream.Stream.the-variants.{Nothing, Events}
+use Rattle.waves.specs.declared.stream.StreamRead.{StreamRead}
+use Rattle.waves.specs.declared.stream.StreamRead.the-variants.{Nothing, Events}
 
 -- Whether the text begins with these bytes.
 pub record Begins (text front : List ℕ) (r : Bool) : Type 0 where
@@ -39,28 +39,28 @@ begins-all {text} {front} i h l s =
 
 module _ (inputs outputs : List ℕ) where
   -- The lines after time 0 are those of no stream; or of the one with these events, which are stored.
-  abbrev pub LaterFound : (whole : List ℕ) (first : ℕ) (before : List ℕ) → Stream → (after : List ℕ) → Type 0
+  abbrev pub LaterFound : (whole : List ℕ) (first : ℕ) (before : List ℕ) → StreamRead → (after : List ℕ) → Type 0
   LaterFound whole first before Nothing after =
       (z : List ℕ) → AllFit inputs outputs z → 1 + length z ≤ 16384 → whole ≡ laterLines inputs outputs 1 first z → ⊥
   LaterFound whole first before (Events n) after =
       (z : List ℕ) × (whole ≡ laterLines inputs outputs 1 first z) × AllFit inputs outputs z × (n ≡ 1 + length z) × (n ≤ 16384) × (after ≡ sets before 1 z)
 
   -- What stands after the opening is what follows it in no stream's text; or in that of these events, which are stored.
-  abbrev pub BodyFound : (whole before : List ℕ) → Stream → (after : List ℕ) → Type 0
+  abbrev pub BodyFound : (whole before : List ℕ) → StreamRead → (after : List ℕ) → Type 0
   BodyFound whole before Nothing after =
-      (e : ℕ) (z : List ℕ) → Fits inputs outputs e → AllFit inputs outputs z → 1 + length z ≤ 16384 → whole ≡ body inputs outputs e z → ⊥
+      (e : ℕ) (z : List ℕ) → EventFits inputs outputs e → AllFit inputs outputs z → 1 + length z ≤ 16384 → whole ≡ body inputs outputs e z → ⊥
   BodyFound whole before (Events n) after =
-      (e : ℕ) × (z : List ℕ) × (whole ≡ body inputs outputs e z) × Fits inputs outputs e × AllFit inputs outputs z × (n ≡ 1 + length z) × (n ≤ 16384)
+      (e : ℕ) × (z : List ℕ) × (whole ≡ body inputs outputs e z) × EventFits inputs outputs e × AllFit inputs outputs z × (n ≡ 1 + length z) × (n ≤ 16384)
       × (after ≡ sets before 0 (e ∷ z))
 
   -- The text is that of no stream; or of the one with these events, which are stored.
-  abbrev pub Found : (text before : List ℕ) → Stream → (after : List ℕ) → Type 0
-  Found text before Nothing after = (z : List ℕ) → AllFit inputs outputs z → length z ≤ 16384 → text ≡ waveText inputs outputs z → ⊥
-  Found text before (Events n) after =
+  abbrev pub FoundStream : (text before : List ℕ) → StreamRead → (after : List ℕ) → Type 0
+  FoundStream text before Nothing after = (z : List ℕ) → AllFit inputs outputs z → length z ≤ 16384 → text ≡ waveText inputs outputs z → ⊥
+  FoundStream text before (Events n) after =
       (z : List ℕ) × (text ≡ waveText inputs outputs z) × AllFit inputs outputs z × (n ≡ length z) × (n ≤ 16384) × (after ≡ sets before 0 z)
 
-  module _ (g : Signals inputs outputs) {whole : List ℕ} {first : ℕ} {rest : List ℕ} {count event : ℕ} {s : List ℕ}
-      (r : Reached inputs outputs whole first rest count event s) where
+  module _ (g : SignalsGood inputs outputs) {whole : List ℕ} {first : ℕ} {rest : List ℕ} {count event : ℕ} {s : List ℕ}
+      (r : ReadSoFar inputs outputs whole first rest count event s) where
     -- The events stored so far, and those of the next step.
     pub stored-closes : (n : ℕ) (before now after : List ℕ) → stepIn inputs outputs count event rest ≡ closes n → now ≡ sets before 1 s →
         after ≡ sets now count (replicate (n - count) event) → LaterFound whole first before (Events n) after
@@ -83,29 +83,29 @@ module _ (inputs outputs : List ℕ) where
         let l : 1 + length s ≡ count = sym (r .counted) in
         sym (sets-append before 1 s (f ++ e ∷ []) ∙ rw (l, ← a, sets-append now count f (e ∷ []), ← b, k))
 
-  module _ (g : Signals inputs outputs) where
+  module _ (g : SignalsGood inputs outputs) where
     -- The values at time 0 are not all there.
     pub body-none : (whole before after : List ℕ) → (readEvent inputs outputs whole .shown ≡ everySignal inputs outputs → ⊥) → BodyFound whole before Nothing after
     body-none whole before after d e z f a h q =
-        d (ap (λ (t : List ℕ). readEvent inputs outputs t .shown) q ∙ ap (λ (l : Lines). l .shown) (body-read inputs outputs g e z f))
+        d (ap (λ (t : List ℕ). readEvent inputs outputs t .shown) q ∙ ap (λ (l : LinesThere). l .shown) (body-read inputs outputs g e z f))
 
     -- They are: the later lines decide.
-    pub body-on : (whole before after : List ℕ) (r : Stream) → readEvent inputs outputs whole .shown ≡ everySignal inputs outputs →
+    pub body-on : (whole before after : List ℕ) (r : StreamRead) → readEvent inputs outputs whole .shown ≡ everySignal inputs outputs →
         LaterFound (readEvent inputs outputs whole .rest) (readEvent inputs outputs whole .values) (set before 0 (readEvent inputs outputs whole .values)) r after →
         BodyFound whole before r after
     body-on whole before after Nothing s l = λ e z f a h q.
         let b = ap (readEvent inputs outputs) q ∙ body-read inputs outputs g e z f in
-        let v : readEvent inputs outputs whole .values ≡ e = ap (λ (l : Lines). l .values) b in
-        l z a h (ap (λ (l : Lines). l .rest) b ∙ rw v)
+        let v : readEvent inputs outputs whole .values ≡ e = ap (λ (l : LinesThere). l .values) b in
+        l z a h (ap (λ (l : LinesThere). l .rest) b ∙ rw v)
     body-on whole before after (Events n) s l =
         (readEvent inputs outputs whole .values, l .0, first-sound inputs outputs g whole s ∙ rw (l .1), event-bound inputs outputs g whole .1, l .2, l .3, l .4, l .5)
 
     -- The whole text: it does not begin with the opening, it is the opening, or more follows.
-    pub found-none : (text before after : List ℕ) → ((rest : List ℕ) → text ≡ opening inputs outputs ++ rest → ⊥) → Found text before Nothing after
+    pub found-none : (text before after : List ℕ) → ((rest : List ℕ) → text ≡ opening inputs outputs ++ rest → ⊥) → FoundStream text before Nothing after
     found-none text before after d [] a h q = d [] (q ∙ text-none inputs outputs ∙ sym (append-nil (opening inputs outputs)))
     found-none text before after d (e ∷ z) a h q = d (body inputs outputs e z) (q ∙ text-some inputs outputs e z)
 
-    pub found-empty : (text before : List ℕ) → text ≡ opening inputs outputs → Found text before (Events 0) before
+    pub found-empty : (text before : List ℕ) → text ≡ opening inputs outputs → FoundStream text before (Events 0) before
     unfolding AllFit
     found-empty text before q = ([], q ∙ sym (text-none inputs outputs), tt, refl, omega arith, refl)
 
@@ -117,8 +117,8 @@ module _ (inputs outputs : List ℕ) where
     no-text text rest q d b (e ∷ z) a h w =
         b e z (a .0) (a .1) (omega arith) (append-cancel-left (opening inputs outputs) rest (body inputs outputs e z) (sym q ∙ w ∙ text-some inputs outputs e z))
 
-    pub found-body : (text rest before after : List ℕ) (r : Stream) → text ≡ opening inputs outputs ++ rest → (rest ≡ [] → ⊥) → BodyFound rest before r after →
-        Found text before r after
+    pub found-body : (text rest before after : List ℕ) (r : StreamRead) → text ≡ opening inputs outputs ++ rest → (rest ≡ [] → ⊥) → BodyFound rest before r after →
+        FoundStream text before r after
     unfolding AllFit
     found-body text rest before after Nothing q d b = no-text text rest q d b
     found-body text rest before after (Events n) q d b =

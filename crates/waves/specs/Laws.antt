@@ -8,9 +8,11 @@ use lib.Dec.{leb}
 use lib.ListN.{length, take, drop}
 use lib.Seq.{take-at}
 use borrow.Author.Tests.{le-leb, leb-true}
-use Rattle.streams.specs.Answer.{Answer, refused, gives, unless, UpTo, none-refused, none-unless, given-only, unless-le, else-le, answer-up-to}
+use Rattle.streams.specs.Answer.{Answer, refused, gives, unless, UpTo}
+use Rattle.streams.specs.AnswerLaws.{none-refused, none-unless, given-only, unless-le, else-le, answer-up-to}
 use Rattle.policy.specs.File.{inputTags, outputTags}
-use Rattle.policy.specs.Check.{refusalOf, refusal-le, all}
+use Rattle.policy.specs.Check.{refusalOf, all}
+use Rattle.policy.specs.CheckLaws.{refusal-le}
 use Rattle.waves.specs.Checked.{signals}
 use Rattle.waves.specs.Lengths.{text-most}
 use Rattle.waves.specs.Streams.{stream-one}

@@ -2,7 +2,7 @@
 use mathlib.Core.Path.{_≡_, refl, sym, ap, _∙_}
 use mathlib.Core.Bool.{Bool, true, false, cond}
 use mathlib.Core.List.{List, [], _∷_, _++_}
-use Prim.Native.Nat.{ℕ, zero, suc, _+_, _*_, _/_, _%_, _≤_, _<_}
+use Prim.Native.Nat.{ℕ, _+_, _*_, _/_, _%_, _≤_, _<_}
 use native.Mathlib.Numerals.{add-one}
 use native.Mathlib.Omega.{arith}
 use lib.Dec.{eqb}
@@ -11,7 +11,7 @@ use lib.ListN.{length, getD, drop, length-append, drop-of-length-le}
 use lib.Seq.{drop-cons}
 use borrow.Author.Tests.{eqb-true, eqb-false, ne-eqb}
 use Rattle.texts.specs.Decimal.{decimal-one, decimal-short}
-use Rattle.waves.specs.Wave.{varLine, varLines, timeLine, valueLine, valueLines, header, eventLines, changeLines, laterLines, waveText}
+use Rattle.waves.specs.Wave.{varLine, varLines, timeLine, valueLine, valueLines, eventLines, changeLines, laterLines, waveText}
 use Rattle.waves.specs.Streams.{opening, body, text-some, text-none}
 use Rattle.waves.specs.Under.{time-length, event-length, opening-length, values-turn}
 

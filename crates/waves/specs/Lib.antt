@@ -13,4 +13,5 @@ pub mod Read
 pub mod Next
 pub mod Found
 pub mod Promise
+pub mod BySignals
 pub mod Laws

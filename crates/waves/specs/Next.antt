@@ -1,26 +1,24 @@
 -- What the search for the next time says, and the stores of events.
 use mathlib.Core.Path.{_≡_, refl, sym, ap, _∙_}
-use mathlib.Core.Bool.{Bool, true, false, cond, not, _&&_, and-false}
-use mathlib.Core.List.{List, [], _∷_, _++_, append-nil}
+use mathlib.Core.Bool.{true, false, not, and-false}
+use mathlib.Core.List.{List, [], _∷_, _++_}
 use Prim.Native.Nat.{ℕ, zero, suc, _+_, _-_, _≤_, _<_}
-use native.Mathlib.Numerals.{add-one}
 use native.Mathlib.Omega.{arith}
 use lib.Bits.{bitAnd, bitXor}
-use lib.Dec.{leb, eqb}
+use lib.Dec.{eqb}
 use lib.ListN.{length, drop, set, replicate, drop-of-length-le, length-replicate}
-use lib.Seq.{sets, drop-cons, set-out}
+use lib.Seq.{sets, drop-cons}
 use borrow.Author.Tests.{le-leb, lt-leb, eq-eqb, ne-eqb}
-use Rattle.waves.specs.Times.{Timed, readTime}
-use Rattle.waves.specs.Values.{Lines}
+use Rattle.waves.specs.Times.{readTime}
 use Rattle.waves.specs.Events.{readEvent}
-use Rattle.waves.specs.Steps.{Step, bad, closes, changes, changeBy, stepAfter, stepIn}
+use Rattle.waves.specs.Steps.{ReadStep, bad, closes, changes, changeBy, stepAfter, stepIn}
 use Rattle.waves.specs.Read.{Between, TimeRead, EventRead}
 use Rattle.waves.specs.declared.read.Time.{Time}
 use Rattle.waves.specs.declared.read.Lines as Code
 use Rattle.waves.specs.declared.next.Next.{Next}
 use Rattle.waves.specs.declared.next.Next.the-variants.{Nothing, Closes, Changes}
 
-abbrev pub nextSaid : List ℕ → Next → Step
+abbrev pub nextSaid : List ℕ → Next → ReadStep
 nextSaid text Nothing = bad
 nextSaid text (Closes n) = closes n
 nextSaid text (Changes n e next) = changes n e (drop next text)

@@ -1,13 +1,13 @@
 -- The reader on its way: what it has read so far, and that no stream with this text begins otherwise.
 use mathlib.Core.Path.{_≡_, refl, sym, ap, subst, _∙_}
-use mathlib.Core.List.{List, [], _∷_, _++_, append-assoc, append-nil}
-use mathlib.Core.Logic.{_⊎_, inl, inr, ⊎-elim}
-use Prim.Native.Nat.{ℕ, zero, suc, _+_, _-_, _≤_, _<_}
+use mathlib.Core.List.{List, [], _∷_, _++_, append-assoc}
+use mathlib.Core.Logic.{_⊎_, inl, inr}
+use Prim.Native.Nat.{ℕ, zero, suc, _+_, _-_, _≤_}
 use native.Mathlib.Omega.{arith}
 use lib.ListN.{length, replicate, length-append, length-replicate}
 use Rattle.waves.specs.Wave.{laterLines}
-use Rattle.waves.specs.Events.{Signals, Fits}
-use Rattle.waves.specs.Steps.{Step, bad, closes, changes, AllFit, stepIn, Says, step-says, closing-lines, changing-lines, ReadClosing, ReadChanging, later-read}
+use Rattle.waves.specs.Events.{SignalsGood, EventFits}
+use Rattle.waves.specs.Steps.{bad, closes, changes, AllFit, stepIn, Says, step-says, closing-lines, changing-lines, ReadClosing, ReadChanging, later-read}
 
 module _ (inputs outputs : List ℕ) where
   fits-both : (a b : List ℕ) → AllFit inputs outputs a → AllFit inputs outputs b → AllFit inputs outputs (a ++ b)
@@ -15,31 +15,31 @@ module _ (inputs outputs : List ℕ) where
   fits-both [] b f g = g
   fits-both (e ∷ a) b f g = (f .0, fits-both a b (f .1) g)
 
-  fits-same : (n e : ℕ) → Fits inputs outputs e → AllFit inputs outputs (replicate n e)
+  fits-same : (n e : ℕ) → EventFits inputs outputs e → AllFit inputs outputs (replicate n e)
   unfolding AllFit
   fits-same zero e f = tt
   fits-same (suc n) e f = (f, fits-same n e f)
 
-  fits-one : (e : ℕ) → Fits inputs outputs e → AllFit inputs outputs (e ∷ [])
+  fits-one : (e : ℕ) → EventFits inputs outputs e → AllFit inputs outputs (e ∷ [])
   unfolding AllFit
   fits-one e f = (f, tt)
 
   -- The lines after time 0, `whole`, of a stream whose first event is `first`: those of its next events `s` are read, and `rest` is left, with `count`
   -- events so far and `event` the last of them.
-  pub record Reached (whole : List ℕ) (first : ℕ) (rest : List ℕ) (count event : ℕ) (s : List ℕ) : Type 0 where
+  pub record ReadSoFar (whole : List ℕ) (first : ℕ) (rest : List ℕ) (count event : ℕ) (s : List ℕ) : Type 0 where
     pub sound : (es : List ℕ) → rest ≡ laterLines inputs outputs count event es → whole ≡ laterLines inputs outputs 1 first (s ++ es)
     pub complete : (z : List ℕ) → AllFit inputs outputs z → 1 + length z ≤ 16384 → whole ≡ laterLines inputs outputs 1 first z →
         (es : List ℕ) × (z ≡ s ++ es) × AllFit inputs outputs es × (rest ≡ laterLines inputs outputs count event es)
     pub counted : count ≡ 1 + length s
     pub fits : AllFit inputs outputs s
-    pub last : Fits inputs outputs event
+    pub last : EventFits inputs outputs event
 
-  pub reached-start : (whole : List ℕ) (first : ℕ) → Fits inputs outputs first → Reached whole first whole 1 first []
+  pub reached-start : (whole : List ℕ) (first : ℕ) → EventFits inputs outputs first → ReadSoFar whole first whole 1 first []
   unfolding AllFit
   reached-start whole first f =
       record { sound = λ es e. e; complete = λ z a h e. (z, refl, a, e); counted = refl; fits = tt; last = f }
 
-  module _ (g : Signals inputs outputs) {whole : List ℕ} {first : ℕ} {rest : List ℕ} {count event : ℕ} {s : List ℕ} (r : Reached whole first rest count event s) where
+  module _ (g : SignalsGood inputs outputs) {whole : List ℕ} {first : ℕ} {rest : List ℕ} {count event : ℕ} {s : List ℕ} (r : ReadSoFar whole first rest count event s) where
     left : (z es : List ℕ) → 1 + length z ≤ 16384 → z ≡ s ++ es → count + length es ≤ 16384
     left z es h e = omega (arith, r .counted, ap length e, length-append s es)
 
@@ -66,14 +66,14 @@ module _ (inputs outputs : List ℕ) where
             let z : _≡_ {A = ℕ} 0 1 = cc in omega arith
 
     -- The closing time stands there.
-    pub record Closed (n : ℕ) : Type 0 where
+    pub record ClosedAt (n : ℕ) : Type 0 where
       pub whole-is : whole ≡ laterLines inputs outputs 1 first (s ++ replicate (n - count) event)
       pub fits : AllFit inputs outputs (s ++ replicate (n - count) event)
       pub counted : n ≡ 1 + length (s ++ replicate (n - count) event)
       pub few : n ≤ 16384
       pub from : count ≤ n
 
-    pub reached-closes : (n : ℕ) → stepIn inputs outputs count event rest ≡ closes n → Closed n
+    pub reached-closes : (n : ℕ) → stepIn inputs outputs count event rest ≡ closes n → ClosedAt n
     reached-closes n q =
         let w = subst (Says inputs outputs g count event rest) q (step-says inputs outputs g count event rest (r .last)) in
         let t : count + (n - count) ≡ n = omega arith in
@@ -87,7 +87,7 @@ module _ (inputs outputs : List ℕ) where
 
     -- A change stands there.
     pub reached-changes : (n e : ℕ) (more : List ℕ) → stepIn inputs outputs count event rest ≡ changes n e more →
-        Reached whole first more (n + 1) e (s ++ (replicate (n - count) event ++ e ∷ [])) × (count ≤ n) × (n ≤ 16384)
+        ReadSoFar whole first more (n + 1) e (s ++ (replicate (n - count) event ++ e ∷ [])) × (count ≤ n) × (n ≤ 16384)
     reached-changes n e more q =
         let w = subst (Says inputs outputs g count event rest) q (step-says inputs outputs g count event rest (r .last)) in
         let t : count + (n - count) ≡ n = omega arith in (

@@ -1,8 +1,8 @@
 -- What the functions that read a text say, by positions.
-use mathlib.Core.Path.{_≡_, refl, sym, ap, _∙_}
+use mathlib.Core.Path.{_≡_, sym, ap, _∙_}
 use mathlib.Core.Bool.{Bool, true, false, cond, _&&_, and-false, and-eq-true-iff, false≢true}
 use mathlib.Core.List.{List, [], _∷_}
-use Prim.Native.Nat.{ℕ, zero, suc, _+_, _-_, _*_, _^_, _≤_, _<_}
+use Prim.Native.Nat.{ℕ, zero, suc, _+_, _-_, _*_, _≤_, _<_}
 use native.Mathlib.Numerals.{add-one}
 use native.Mathlib.Nat.{add-zero}
 use native.Mathlib.Omega.{arith}
@@ -13,7 +13,6 @@ use borrow.Author.Tests.{leb-true, le-leb, lt-leb, eq-eqb, ne-eqb}
 use Rattle.waves.specs.Times.{isDigit, goesOn, readDigits, Timed, untimed, timedBy, readTime}
 use Rattle.waves.specs.Values.{lineOf, withLine, withoutLine, readLines, lines-bound, line-there}
 use Rattle.waves.specs.Events.{readEvent, few-values}
-use Rattle.waves.specs.Steps.{Step, bad, closes, changes}
 use Rattle.waves.specs.declared.read.Number.{Number}
 use Rattle.waves.specs.declared.read.Time.{Time}
 use Rattle.waves.specs.declared.read.Lines.{Lines}

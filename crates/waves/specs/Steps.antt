@@ -1,48 +1,47 @@
 -- The lines after time 0: the next time that stands there, with a change or as the last, and what each stream's lines begin with.
 use mathlib.Core.Path.{_≡_, refl, sym, ap, _∙_}
-use mathlib.Core.Bool.{Bool, true, false, cond, not, _&&_, and-eq-true-iff, false≢true}
+use mathlib.Core.Bool.{Bool, true, false, cond, not, _&&_, and-eq-true-iff}
 use mathlib.Core.List.{List, [], _∷_, _++_, append-assoc, append-nil}
 use mathlib.Core.Logic.{_⊎_, inl, inr, ⊎-elim}
-use Prim.Native.Nat.{ℕ, zero, suc, _+_, _-_, _*_, _≤_, _<_}
+use Prim.Native.Nat.{ℕ, zero, suc, _+_, _-_, _≤_, _<_}
 use native.Mathlib.Omega.{arith}
 use native.Mathlib.Nat.{add-zero}
 use lib.Dec.{leb, eqb}
 use lib.Bits.{bitAnd, bitXor, xor-self}
-use lib.ListN.{length, getD, drop, replicate, length-append, length-replicate, List·getD-append}
+use lib.ListN.{length, getD, replicate, length-append, length-replicate, List·getD-append}
 use borrow.Author.Tests.{leb-true, eqb-true, eqb-false, le-leb, eq-eqb, ne-eqb, not-true}
-use Rattle.policy.specs.Check.{all}
 use Rattle.texts.specs.Text.{decimal}
 use Rattle.texts.specs.Decimal.{digits-alone, no-leading-zero}
 use Rattle.waves.specs.Wave.{timeLine, eventLines, laterLines}
 use Rattle.waves.specs.Times.{Timed, readTime, time-sound, time-complete}
-use Rattle.waves.specs.Values.{Lines, Apart}
-use Rattle.waves.specs.Events.{Signals, Fits, readEvent, event-bound, event-sound, event-complete, event-shown, xor-fits, xor-back, xor-none}
+use Rattle.waves.specs.Values.{LinesThere, Apart}
+use Rattle.waves.specs.Events.{SignalsGood, EventFits, readEvent, event-bound, event-sound, event-complete, event-shown, xor-fits, xor-back, xor-none}
 
 -- What is read next: no such line; the closing time; a time with the event that begins there, and what stands after its changes.
-pub data Step : Type 0 where
-  bad : Step
-  closes : ℕ → Step
-  changes : (time event : ℕ) → (rest : List ℕ) → Step
+pub data ReadStep : Type 0 where
+  bad : ReadStep
+  closes : ℕ → ReadStep
+  changes : (time event : ℕ) → (rest : List ℕ) → ReadStep
 
 -- Each event of a stream fits.
 unfoldable pub AllFit : (inputs outputs : List ℕ) → List ℕ → Type 0
 AllFit inputs outputs [] = Unit {0}
-AllFit inputs outputs (e ∷ events) = Fits inputs outputs e × AllFit inputs outputs events
+AllFit inputs outputs (e ∷ events) = EventFits inputs outputs e × AllFit inputs outputs events
 
 module _ (inputs outputs : List ℕ) where
-  abbrev pub changeBy : (time before : ℕ) → Lines → Step
+  abbrev pub changeBy : (time before : ℕ) → LinesThere → ReadStep
   changeBy time before l =
       cond (not (eqb (l .shown) 0) && eqb (bitAnd (bitXor before (l .shown)) (l .shown)) (l .values))
       (changes time (bitXor before (l .shown)) (l .rest)) bad
 
-  abbrev pub stepAfter : (time before : ℕ) → List ℕ → Step
+  abbrev pub stepAfter : (time before : ℕ) → List ℕ → ReadStep
   stepAfter time before [] = closes time
   stepAfter time before (b ∷ rest) = changeBy time before (readEvent inputs outputs (b ∷ rest))
 
-  abbrev pub stepBy : (from before : ℕ) → Timed → Step
+  abbrev pub stepBy : (from before : ℕ) → Timed → ReadStep
   stepBy from before t = cond (t .good && leb from (t .time)) (stepAfter (t .time) before (t .rest)) bad
 
-  unfoldable pub stepIn : (from before : ℕ) → List ℕ → Step
+  unfoldable pub stepIn : (from before : ℕ) → List ℕ → ReadStep
   stepIn from before text = stepBy from before (readTime text)
 
   -- The lines from a time on: all later events are as the one before, ..
@@ -110,7 +109,7 @@ module _ (inputs outputs : List ℕ) where
       let a : time + 1 + n ≡ time + suc n = omega arith in
       rw (xor-self, changing-lines (time + 1) before n event events h, a)
 
-  module _ (s : Signals inputs outputs) where
+  module _ (s : SignalsGood inputs outputs) where
     -- No text that begins with a time begins with a value.
     time-apart : (n : ℕ) (rest : List ℕ) → Apart inputs (timeLine n ++ rest) × Apart outputs (timeLine n ++ rest)
     unfolding timeLine
@@ -137,7 +136,7 @@ module _ (inputs outputs : List ℕ) where
     closing-read from before n h =
         rw (← append-nil (timeLine (from + n)), time-complete (from + n) [] h, le-leb from (from + n) (omega arith))
 
-    pub changing-read : (from before n event : ℕ) (events : List ℕ) → from + n ≤ 16384 → Fits inputs outputs before → Fits inputs outputs event →
+    pub changing-read : (from before n event : ℕ) (events : List ℕ) → from + n ≤ 16384 → EventFits inputs outputs before → EventFits inputs outputs event →
         (bitXor before event ≡ 0 → ⊥) →
         let rest = laterLines inputs outputs (from + n + 1) event events in
         stepIn from before (timeLine (from + n) ++ (eventLines inputs outputs (bitXor before event) event ++ rest)) ≡ changes (from + n) event rest
@@ -163,14 +162,14 @@ module _ (inputs outputs : List ℕ) where
         go (b ∷ text) e = rw (← e, event-read, xor-back before event, ne-eqb shown 0 other, eq-eqb (bitAnd event shown) (bitAnd event shown) refl)
 
     -- What is read is what stands there.
-    abbrev pub Says : (from before : ℕ) → List ℕ → Step → Type 0
+    abbrev pub Says : (from before : ℕ) → List ℕ → ReadStep → Type 0
     Says from before text bad = Unit {0}
     Says from before text (closes n) = (text ≡ timeLine n) × (from ≤ n) × (n ≤ 16384)
     Says from before text (changes n e rest) =
         (text ≡ timeLine n ++ (eventLines inputs outputs (bitXor before e) e ++ rest)) × (from ≤ n) × (n ≤ 16384) × (bitXor before e ≡ 0 → ⊥)
-        × Fits inputs outputs e
+        × EventFits inputs outputs e
 
-    pub step-says : (from before : ℕ) (text : List ℕ) → Fits inputs outputs before → Says from before text (stepIn from before text)
+    pub step-says : (from before : ℕ) (text : List ℕ) → EventFits inputs outputs before → Says from before text (stepIn from before text)
     unfolding stepIn
     step-says from before text f = go (readTime text .good && leb from (readTime text .time)) refl (readTime text .rest) refl
       where
@@ -189,7 +188,7 @@ module _ (inputs outputs : List ℕ) where
             let h = time-sound text (k .0) in
             change (rw r at (h .0)) (leb-true _ _ (k .1)) (h .1) (not (eqb shown 0) && eqb (bitAnd (bitXor before shown) shown) (l .values)) refl
           where
-            l : Lines
+            l : LinesThere
             l = readEvent inputs outputs (b ∷ rest)
 
             shown : ℕ
@@ -211,7 +210,7 @@ module _ (inputs outputs : List ℕ) where
                 )
 
     fits-behind : (n before event : ℕ) (events : List ℕ) → AllFit inputs outputs (replicate n before ++ event ∷ events) →
-        Fits inputs outputs event × AllFit inputs outputs events
+        EventFits inputs outputs event × AllFit inputs outputs events
     unfolding AllFit
     fits-behind zero before event events a = a
     fits-behind (suc n) before event events a = fits-behind n before event events (a .1)
@@ -229,11 +228,11 @@ module _ (inputs outputs : List ℕ) where
       pub changing : Changing from before events
       pub read : stepIn from before (laterLines inputs outputs from before events)
           ≡ changes (from + changing .times) (changing .event) (laterLines inputs outputs (from + changing .times + 1) (changing .event) (changing .later))
-      pub fits : Fits inputs outputs (changing .event)
+      pub fits : EventFits inputs outputs (changing .event)
       pub laterFit : AllFit inputs outputs (changing .later)
       pub few : from + changing .times + 1 + length (changing .later) ≤ 16384
 
-    pub later-read : (from before : ℕ) (events : List ℕ) → from + length events ≤ 16384 → Fits inputs outputs before → AllFit inputs outputs events →
+    pub later-read : (from before : ℕ) (events : List ℕ) → from + length events ≤ 16384 → EventFits inputs outputs before → AllFit inputs outputs events →
         ReadClosing from before events ⊎ ReadChanging from before events
     later-read from before events h f a = ⊎-elim close change (split from before events)
       where
@@ -268,7 +267,7 @@ module _ (inputs outputs : List ℕ) where
     alike from before es others e more (inr k) (inr j) = more k j
 
     pub later-one : (n from before : ℕ) (es others : List ℕ) → length es ≤ n → from + length es ≤ 16384 → from + length others ≤ 16384 →
-        Fits inputs outputs before → AllFit inputs outputs es → AllFit inputs outputs others →
+        EventFits inputs outputs before → AllFit inputs outputs es → AllFit inputs outputs others →
         laterLines inputs outputs from before es ≡ laterLines inputs outputs from before others → es ≡ others
     later-one zero from before es others b h l f a c e =
         alike from before es others e (λ k j. absurd (omega (arith, changing-length (k .changing)))) (later-read from before es h f a) (later-read from before others l f c)

@@ -1,15 +1,15 @@
 -- One stream at most has a text.
-use mathlib.Core.Path.{_≡_, refl, sym, ap, subst, _∙_}
+use mathlib.Core.Path.{_≡_, refl, sym, ap, _∙_}
 use mathlib.Core.List.{List, [], _∷_, _++_, append-assoc, append-cancel-left}
-use Prim.Native.Nat.{ℕ, zero, suc, _+_, _≤_}
+use Prim.Native.Nat.{ℕ, _+_, _≤_}
 use native.Mathlib.Nat.{le-refl}
 use native.Mathlib.Omega.{arith}
 use lib.ListN.{length, length-append}
 use Rattle.policy.specs.File.{inputTags, outputTags}
 use Rattle.policy.specs.Check.{refusalOf}
 use Rattle.waves.specs.Wave.{header, timeLine, eventLines, laterLines, waveText}
-use Rattle.waves.specs.Values.{Lines}
-use Rattle.waves.specs.Events.{Signals, Fits, everySignal, readEvent, first-complete}
+use Rattle.waves.specs.Values.{LinesThere}
+use Rattle.waves.specs.Events.{SignalsGood, EventFits, everySignal, readEvent, first-complete}
 use Rattle.waves.specs.Steps.{AllFit, later-apart, later-some, later-one}
 use Rattle.waves.specs.Entry.{Makes}
 use Rattle.waves.specs.Checked.{signals, all-fit}
@@ -30,14 +30,14 @@ module _ (inputs outputs : List ℕ) where
   unfolding waveText
   text-none = refl
 
-  module _ (s : Signals inputs outputs) where
+  module _ (s : SignalsGood inputs outputs) where
     pub body-some : (e : ℕ) (events : List ℕ) → body e events ≡ [] → ⊥
     body-some e events q =
         let a = length-append (eventLines inputs outputs 255 e) (laterLines inputs outputs 1 e events) in
         omega (arith, later-some inputs outputs s 1 e events, ap length q)
 
     -- The values at time 0 are read as they stand.
-    pub body-read : (e : ℕ) (events : List ℕ) → Fits inputs outputs e →
+    pub body-read : (e : ℕ) (events : List ℕ) → EventFits inputs outputs e →
         readEvent inputs outputs (body e events) ≡ record { shown = everySignal inputs outputs; values = e; rest = laterLines inputs outputs 1 e events }
     body-read e events f =
         let a = later-apart inputs outputs s 1 e events in
@@ -57,8 +57,8 @@ module _ (inputs outputs : List ℕ) where
     text-one (e ∷ es) (o ∷ others) h l a b q =
         let t = append-cancel-left opening (body e es) (body o others) (sym (text-some e es) ∙ q ∙ text-some o others) in
         let r = sym (body-read e es (a .0)) ∙ ap (readEvent inputs outputs) t ∙ body-read o others (b .0) in
-        let v : e ≡ o = ap (λ (l : Lines). l .values) r in
-        let w : laterLines inputs outputs 1 e es ≡ laterLines inputs outputs 1 o others = ap (λ (l : Lines). l .rest) r in
+        let v : e ≡ o = ap (λ (l : LinesThere). l .values) r in
+        let w : laterLines inputs outputs 1 e es ≡ laterLines inputs outputs 1 o others = ap (λ (l : LinesThere). l .rest) r in
         let z : es ≡ others =
         later-one inputs outputs s (length es) 1 e es others (le-refl (length es)) (omega arith) (omega arith) (a .0) (a .1) (b .1) (rw (← v) at w) in
         rw (v, z)

@@ -4,9 +4,9 @@ use mathlib.Core.Bool.{Bool, true, false, cond, _&&_, and-eq-true-iff, and-false
 use mathlib.Core.List.{List, [], _∷_, _++_, append-assoc}
 use Prim.Native.Nat.{ℕ, zero, suc, _+_, _-_, _*_, _/_, _≤_, _<_}
 use native.Mathlib.Omega.{arith}
-use lib.Dec.{leb, ltb, eqb}
-use lib.ListN.{length, getD, drop, List·getD-append}
-use borrow.Author.Tests.{ltb-true, ltb-false, leb-true, eqb-true, lt-ltb, le-ltb, le-leb}
+use lib.Dec.{leb, eqb}
+use lib.ListN.{getD, drop, List·getD-append}
+use borrow.Author.Tests.{leb-true, eqb-true, le-leb}
 use Rattle.texts.specs.Text.{digit, decimal}
 use Rattle.texts.specs.Decimal.{decimal-one, decimal-more, by-digits, digits-alone, no-leading-zero}
 use Rattle.waves.specs.Wave.{timeLine}
@@ -14,7 +14,7 @@ use Rattle.waves.specs.Wave.{timeLine}
 abbrev pub isDigit : ℕ → Bool
 isDigit b = leb 48 b && leb b 57
 
-pub record Number : Type 0 where
+pub record NumberThere : Type 0 where
   pub value : ℕ
   pub rest : List ℕ
 
@@ -22,7 +22,7 @@ pub record Number : Type 0 where
 abbrev pub goesOn : (v digit : ℕ) → Bool
 goesOn v d = leb 1 v && (leb v 16384 && isDigit d)
 
-unfoldable pub readDigits : ℕ → List ℕ → Number
+unfoldable pub readDigits : ℕ → List ℕ → NumberThere
 readDigits v [] = record { value = v; rest = [] }
 readDigits v (d ∷ ds) = cond (goesOn v d) (readDigits (v * 10 + (d - 48)) ds) (record { value = v; rest = d ∷ ds })
 
@@ -34,7 +34,7 @@ pub record Timed : Type 0 where
 abbrev pub untimed : Timed
 untimed = record { good = false; time = 0; rest = [] }
 
-abbrev pub timedBy : Number → Timed
+abbrev pub timedBy : NumberThere → Timed
 timedBy n = cond (leb (n .value) 16384 && eqb (getD (n .rest) 0 0) 10) (record { good = true; time = n .value; rest = drop 1 (n .rest) }) untimed
 
 unfoldable pub readTime : List ℕ → Timed
@@ -94,7 +94,7 @@ first-digit d text h l = go (d - 48) refl
         let z : digit (suc v) ≡ d = omega arith in
         rw (decimal-one (suc v) (omega arith), z) at (digits-sound (suc v) text (omega arith))
 
-time-by : (n : Number) → timedBy n .good ≡ true →
+time-by : (n : NumberThere) → timedBy n .good ≡ true →
     (decimal (n .value) ++ n .rest ≡ (decimal (timedBy n .time) ++ (10 ∷ [])) ++ timedBy n .rest) × (timedBy n .time ≤ 16384)
 time-by n = go (leb (n .value) 16384 && eqb (getD (n .rest) 0 0) 10) refl
   where
@@ -129,7 +129,7 @@ time-sound text = go (eqb (getD text 0 0) 35 && isDigit (getD text 1 0)) refl
         )
 
 -- The digits of a number are read as the number.
-abbrev fromFirst : List ℕ → Number
+abbrev fromFirst : List ℕ → NumberThere
 fromFirst text = readDigits (getD text 0 0 - 48) (drop 1 text)
 
 digits-read : (n : ℕ) → n ≤ 16384 → (tail : List ℕ) → fromFirst (decimal n ++ tail) ≡ readDigits n tail

@@ -1,18 +1,17 @@
 -- How the lines of values are read from the front of a text: which signals have a line there, what it says, and what stands after the lines.
-use mathlib.Core.Path.{_≡_, refl, sym, ap, _∙_}
-use mathlib.Core.Bool.{Bool, true, false, cond, not, _&&_, _||_, and-eq-true-iff, and-false, false≢true}
-use mathlib.Core.List.{List, [], _∷_, _++_, append-assoc}
-use Prim.Native.Nat.{ℕ, zero, suc, _+_, _-_, _*_, _/_, _%_, _^_, _≤_, _<_}
+use mathlib.Core.Path.{_≡_, refl, sym}
+use mathlib.Core.Bool.{Bool, true, false, cond, _&&_, _||_, and-eq-true-iff, and-false, false≢true}
+use mathlib.Core.List.{List, [], _∷_, _++_}
+use Prim.Native.Nat.{ℕ, suc, _+_, _-_, _*_, _/_, _%_, _^_, _≤_, _<_}
 use native.Mathlib.Omega.{arith}
-use native.Mathlib.Nat.{pow-le-pow-right}
 use lib.Dec.{leb, eqb}
-use lib.Bits.{bitAnd, bitXor, and-step, and-zero-r, and-mask, and-mod, and-shr}
+use lib.Bits.{bitAnd, and-step, and-zero-r}
 use lib.ListN.{length, getD, drop}
 use borrow.Author.Tests.{leb-true, eqb-true, eqb-false, le-leb, eq-eqb, ne-eqb}
 use Rattle.policy.specs.Check.{among}
-use Rattle.waves.specs.Wave.{valueLines, eventLines}
+use Rattle.waves.specs.Wave.{valueLines}
 
-pub record Lines : Type 0 where
+pub record LinesThere : Type 0 where
   pub shown : ℕ
   pub values : ℕ
   pub rest : List ℕ
@@ -21,13 +20,13 @@ pub record Lines : Type 0 where
 abbrev pub lineOf : ℕ → List ℕ → Bool
 lineOf tag text = leb 48 (getD text 0 0) && (leb (getD text 0 0) 49 && (eqb (getD text 1 0) tag && eqb (getD text 2 0) 10))
 
-abbrev pub withLine : ℕ → Lines → Lines
+abbrev pub withLine : ℕ → LinesThere → LinesThere
 withLine v l = record { shown = 1 + 2 * l .shown; values = v + 2 * l .values; rest = l .rest }
 
-abbrev pub withoutLine : Lines → Lines
+abbrev pub withoutLine : LinesThere → LinesThere
 withoutLine l = record { shown = 2 * l .shown; values = 2 * l .values; rest = l .rest }
 
-unfoldable pub readLines : List ℕ → List ℕ → Lines
+unfoldable pub readLines : List ℕ → List ℕ → LinesThere
 readLines [] text = record { shown = 0; values = 0; rest = text }
 readLines (tag ∷ tags) text =
     cond (lineOf tag text) (withLine (getD text 0 0 - 48) (readLines tags (drop 3 text))) (withoutLine (readLines tags text))

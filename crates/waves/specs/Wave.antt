@@ -1,5 +1,5 @@
 -- A stream as a Value Change Dump: the writer's text, by the signals' tags and the events. "Each line ends with one line feed."
-use mathlib.Core.Bool.{Bool, cond}
+use mathlib.Core.Bool.{cond}
 use mathlib.Core.List.{List, [], _∷_, _++_}
 use Prim.Native.Nat.{ℕ, _+_, _/_, _%_}
 use Prim.Native.Char.{code}

@@ -1,8 +1,9 @@
 // The reader: the policy's checks, then the text is read twice, once to decide and once to store.
-use crate::stream::Stream;
+use crate::stream::StreamRead;
 use crate::stream::read_stream;
-ghost use Rattle.waves.specs.Events.{Signals};
-ghost use Rattle.waves.specs.Promise.{TakenBy, TakePromise};
+ghost use Rattle.waves.specs.Events.{SignalsGood};
+ghost use Rattle.waves.specs.Promise.{TakePromise};
+ghost use Rattle.waves.specs.BySignals.{TakenBy};
 
 // How many events are given, or the refusal's number.
 pub enum Taken {
@@ -12,14 +13,14 @@ pub enum Taken {
 
 // The policy passes its checks. The text is read once with no room for its events, and then, where it is a stream's and there is room, with all of it.
 fn take_checked(inputs: &[u8], outputs: &[u8], text: &[u8], events: &mut [u8]) -> Taken
-    requires { ⌜ Signals (now inputs) (now outputs) ⌝ }
+    requires { ⌜ SignalsGood (now inputs) (now outputs) ⌝ }
     ensures { λ r. ⌜ TakenBy (now (inputs .entry)) (now (outputs .entry)) (now (text .entry)) (now (events .entry)) r (now (events .exit)) ⌝ }
 {
     let mut nowhere = [0u8; 1];
     let found = read_stream(text, inputs, outputs, &mut nowhere);
     match found {
-        Stream::Nothing => Taken::Refused(21),
-        Stream::Events(count) => {
+        StreamRead::Nothing => Taken::Refused(21),
+        StreamRead::Events(count) => {
             if events.len() < count {
                 return Taken::Refused(14);
             }

@@ -8,11 +8,11 @@ use crate::store::put;
 ghost use mathlib.Core.Path.{_≡_};
 ghost use Prim.Native.Nat.{_-_, _^_, _≤_};
 ghost use lib.ListN.{length, drop};
-ghost use Rattle.waves.specs.Events.{Signals, Fits};
-ghost use Rattle.waves.specs.Found.{Begins, LaterFound, BodyFound, Found};
+ghost use Rattle.waves.specs.Events.{SignalsGood, EventFits};
+ghost use Rattle.waves.specs.Found.{Begins, LaterFound, BodyFound, FoundStream};
 
 // How many events the text has, if it is a stream's.
-pub enum Stream {
+pub enum StreamRead {
     Nothing,
     Events(usize),
 }
@@ -25,9 +25,9 @@ fn read_later(
     outputs: &[u8],
     first: u8,
     events: &mut [u8],
-) -> Stream
+) -> StreamRead
     requires { ⌜ at ≤ length (now text) ⌝ }
-    requires { ⌜ Signals (now inputs) (now outputs) × Fits (now inputs) (now outputs) first ⌝ }
+    requires { ⌜ SignalsGood (now inputs) (now outputs) × EventFits (now inputs) (now outputs) first ⌝ }
     ensures { λ r. ⌜ LaterFound (now (inputs .entry)) (now (outputs .entry)) (drop at (now (text .entry))) first (now (events .entry)) r (now (events .exit)) ⌝ }
 {
     let mut next = at;
@@ -37,11 +37,11 @@ fn read_later(
         let step = read_next(text, next, inputs, outputs, count, event);
         match step {
             Next::Nothing => {
-                return Stream::Nothing;
+                return StreamRead::Nothing;
             }
             Next::Closes(time) => {
                 fill(events, count, time, event);
-                return Stream::Events(time);
+                return StreamRead::Events(time);
             }
             Next::Changes(time, changed, after) => {
                 fill(events, count, time, event);
@@ -83,15 +83,15 @@ pub(crate) fn ones(n: usize) -> u8
 }
 
 // The values at time 0, then the later lines.
-fn read_body(text: &[u8], at: usize, inputs: &[u8], outputs: &[u8], events: &mut [u8]) -> Stream
+fn read_body(text: &[u8], at: usize, inputs: &[u8], outputs: &[u8], events: &mut [u8]) -> StreamRead
     requires { ⌜ at ≤ length (now text) ⌝ }
-    requires { ⌜ Signals (now inputs) (now outputs) ⌝ }
+    requires { ⌜ SignalsGood (now inputs) (now outputs) ⌝ }
     ensures { λ r. ⌜ BodyFound (now (inputs .entry)) (now (outputs .entry)) (drop at (now (text .entry))) (now (events .entry)) r (now (events .exit)) ⌝ }
 {
     let lines = read_event(text, at, inputs, outputs);
     let every = ones(inputs.len()) + 16 * ones(outputs.len());
     if lines.shown != every {
-        return Stream::Nothing;
+        return StreamRead::Nothing;
     }
     let first = lines.values;
     put(events, 0, first);
@@ -99,17 +99,22 @@ fn read_body(text: &[u8], at: usize, inputs: &[u8], outputs: &[u8], events: &mut
 }
 
 // The whole text. The opening is at most 47 + 8 * 21 bytes.
-pub(crate) fn read_stream(text: &[u8], inputs: &[u8], outputs: &[u8], events: &mut [u8]) -> Stream
-    requires { ⌜ Signals (now inputs) (now outputs) ⌝ }
-    ensures { λ r. ⌜ Found (now (inputs .entry)) (now (outputs .entry)) (now (text .entry)) (now (events .entry)) r (now (events .exit)) ⌝ }
+pub(crate) fn read_stream(
+    text: &[u8],
+    inputs: &[u8],
+    outputs: &[u8],
+    events: &mut [u8],
+) -> StreamRead
+    requires { ⌜ SignalsGood (now inputs) (now outputs) ⌝ }
+    ensures { λ r. ⌜ FoundStream (now (inputs .entry)) (now (outputs .entry)) (now (text .entry)) (now (events .entry)) r (now (events .exit)) ⌝ }
 {
     let mut opening = [0u8; 215];
     let end = put_opening(&mut opening, 0, inputs, outputs);
     if !begins(text, &opening[..end]) {
-        return Stream::Nothing;
+        return StreamRead::Nothing;
     }
     if end == text.len() {
-        return Stream::Events(0);
+        return StreamRead::Events(0);
     }
     read_body(text, end, inputs, outputs, events)
 }

@@ -6,8 +6,9 @@ ghost use mathlib.Core.Path.{_≡_};
 ghost use Prim.Native.Nat.{_≤_};
 ghost use lib.ListN.{length};
 ghost use Rattle.policy.specs.Check.{all};
-ghost use Rattle.waves.specs.Events.{Signals};
-ghost use Rattle.waves.specs.Promise.{goodFor, WrittenBy, WritePromise};
+ghost use Rattle.waves.specs.Events.{SignalsGood};
+ghost use Rattle.waves.specs.Promise.{WritePromise};
+ghost use Rattle.waves.specs.BySignals.{goodFor, WrittenBy};
 
 // The length written, or the refusal's number.
 pub enum Written {
@@ -38,7 +39,7 @@ fn events_good(inputs: usize, outputs: usize, events: &[u8]) -> bool
 
 // The policy passes its checks.
 fn write_checked(inputs: &[u8], outputs: &[u8], events: &[u8], text: &mut [u8]) -> Written
-    requires { ⌜ Signals (now inputs) (now outputs) ⌝ }
+    requires { ⌜ SignalsGood (now inputs) (now outputs) ⌝ }
     ensures { λ r. ⌜ WrittenBy (now (inputs .entry)) (now (outputs .entry)) (now (events .entry)) (now (text .entry)) r (now (text .exit)) ⌝ }
 {
     if 16384 < events.len() {

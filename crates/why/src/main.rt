@@ -1,4 +1,4 @@
-// Reads a policy and events from standard input, and prints what the enforcer releases for them, with a reason after each edited half.
+// Reads what `enforce` reads, and prints what it prints, with a reason after each edited half.
 use libc::STDIN_FILENO;
 use libc::STDOUT_FILENO;
 

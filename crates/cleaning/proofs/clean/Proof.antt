@@ -4,7 +4,7 @@ use Prim.Native.Nat.{ℕ}
 use denote.Ref.{now}
 use borrow.Author.Needs.{needs}
 use Rattle.policy.specs.Check.{refusalUnder}
-use Rattle.policy.specs.Layout.{checkedUnder, under-says}
+use Rattle.policy.specs.LayoutLaws.{under-says}
 use Rattle.policy.specs.declared.Checked.{Checked}
 use Rattle.enforcer.specs.Laid.{laid-of}
 use Rattle.cleaning.specs.Entry.{cleanedFile, struckList}

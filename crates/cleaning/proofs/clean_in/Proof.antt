@@ -1,16 +1,15 @@
 -- `cleaning::clean_in` meets its contract: the flags found are those of the definitions.
 use mathlib.Core.Path.{_≡_, refl, sym, ap, _∙_}
 use mathlib.Core.List.{List, _++_}
-use Prim.Native.Nat.{ℕ, _*_, _/_, _≤_, _<_}
+use Prim.Native.Nat.{ℕ, _/_, _≤_}
 use native.Mathlib.Omega.{arith}
-use lib.ListN.{length, getD, take, drop, replicate, length-append, length-replicate}
+use lib.ListN.{length, take, drop, length-append, length-replicate}
 use lib.Seq.{length-take-le, getD-take}
 use denote.Ref.{now}
 use borrow.Author.Needs.{needs}
 use Rattle.policy.specs.File.{policyOf}
 use Rattle.policy.specs.Number.{states}
 use Rattle.enforcer.specs.Laid.{laid-well, laid-limits}
-use Rattle.cleaning.specs.Code.{Flagged}
 use Rattle.cleaning.proofs.FlagLaws.{from-own, laid-sized, sized-all, laid-entered, laid-used, first-long, first-at, zeros-at}
 use Rattle.cleaning.proofs.PromiseLaws.{cleaned-is, struck-is}
 use Rattle.cleaning.proofs.clean_in.Statement.{statement}

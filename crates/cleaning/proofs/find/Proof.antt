@@ -1,8 +1,7 @@
 -- `cleaning::find` meets its contract, by those of the three that it calls.
-use mathlib.Core.Path.{_≡_, _∙_}
+use mathlib.Core.Path.{_∙_}
 use native.Mathlib.Omega.{arith}
 use denote.Ref.{now}
-use borrow.Author.Needs.{needs}
 use Rattle.policy.specs.File.{policyOf}
 use Rattle.enforcer.specs.Laid.{laid-well}
 use Rattle.prepare.specs.Located.{laid-start}

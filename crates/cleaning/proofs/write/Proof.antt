@@ -1,11 +1,10 @@
 -- `cleaning::write` meets its contract: neither slice is touched before both lengths are known.
-use mathlib.Core.Path.{_≡_, ap, _∙_}
+use mathlib.Core.Path.{ap, _∙_}
 use mathlib.Core.List.{List}
-use Prim.Native.Nat.{ℕ, _≤_, _<_}
+use Prim.Native.Nat.{ℕ}
 use native.Mathlib.Omega.{arith}
 use lib.ListN.{length}
 use denote.Ref.{now}
-use borrow.Author.Needs.{needs}
 use Rattle.join.specs.Laying.{laid-length}
 use Rattle.cleaning.specs.Code.{cleanedBy, struckBy}
 use Rattle.cleaning.proofs.PromiseLaws.{writes-first, writes-second, writes-both}

@@ -48,12 +48,12 @@ use denote.Triple.Clauses.{Lasts, ensured, lasts}
 use denote.Exit.{yes}
 use Rattle.enforcer.specs.Promises.{OutputPromise}
 use Rattle.enforcer.specs.declared.state.State.{State}
-use Rattle.enforcer.specs.declared.halves.Answer.{Answer}
+use Rattle.enforcer.specs.declared.halves.HalfAnswer.{HalfAnswer}
 use Rattle.enforcer.specs.declared.halves.Output.{Output}
 use Rattle.enforcer.proofs.state.State as S
 use Rattle.enforcer.proofs.state.State.Laws as S′
-use Rattle.enforcer.proofs.halves.Answer as N
-use Rattle.enforcer.proofs.halves.Answer.Laws as N′
+use Rattle.enforcer.proofs.halves.HalfAnswer as N
+use Rattle.enforcer.proofs.halves.HalfAnswer.Laws as N′
 use Rattle.enforcer.proofs.halves.Output as O
 use Rattle.enforcer.proofs.halves.Output.Laws as O′
 use Rattle.enforcer.proofs.output_half as half
@@ -72,18 +72,18 @@ stayed = (stay-none (λ _. S.the-row) yes, (stay-none (λ _. u8) yes, (stay-none
 abbrev state-val : State → Val
 state-val = LL.val S.the-type S′.the-laws
 
-abbrev answer-val : Answer → Val
+abbrev answer-val : HalfAnswer → Val
 answer-val = EL.val N.the-type N′.the-laws
 
 abbrev output-val : Output → Val
 output-val = LL.val O.the-type O′.the-laws
 
 -- an answer and a state as one output
-abbrev both : Answer → State → Output
+abbrev both : HalfAnswer → State → Output
 both r s = record { answer = r; state = s }
 
 -- what whoever returns an output owes, of what the machine values of its two fields are known to be
-made : (r : Answer) (s : State) (u v : Val) → Is N.the-row r (u ∷ []) → Is S.the-row s (v ∷ []) → Is O.the-row (both r s) (output-val (both r s) ∷ [])
+made : (r : HalfAnswer) (s : State) (u v : Val) → Is N.the-row r (u ∷ []) → Is S.the-row s (v ∷ []) → Is O.the-row (both r s) (output-val (both r s) ∷ [])
 made r s u v a b = LL.owes O.the-type O′.the-laws (both r s) (subst (Is N.the-row r) (EL.tells N.the-type N′.the-laws r (u ∷ []) a) a, (subst (Is S.the-row s) (LL.tells S.the-type S′.the-laws s (v ∷ []) b) b, tt))
 
 -- the contract that the proof cites
@@ -119,13 +119,13 @@ module _ {M : Type 1} (𝓤 : URA M) (H : Heap 𝓤) (A : Atoms 𝓤) (W : Given
   Toks = ‵ (flft κ₁ q₁) ⊛ ‵ (flft κ₂ q₂) ⊛ ‵ ftrue
 
   -- what the callee says of its result and of the state that it leaves
-  abbrev Said : Answer → State → Type 0
+  abbrev Said : HalfAnswer → State → Type 0
   Said r s = OutputPromise reading (now file) (now marks) h x y (both r s)
 
   abbrev Post : Val → SProp 𝓤
   Post = walkOf 𝓤 H A lend.ended stayed (lend.clauses 𝓤 H A at-mem run) .post (((κ₁, (κ₂, tt)), (q₁, (q₂, tt)), tt, args, vals), tt)
 
-  exits : (r : Answer) (s : State) → Is O.the-row (both r s) (output-val (both r s) ∷ []) → Said r s → ent 𝓤 (⋆ 𝓤 H A (Toks ∷ ‵ All ∷ [])) (Post (output-val (both r s)))
+  exits : (r : HalfAnswer) (s : State) → Is O.the-row (both r s) (output-val (both r s) ∷ []) → Said r s → ent 𝓤 (⋆ 𝓤 H A (Toks ∷ ‵ All ∷ [])) (Post (output-val (both r s)))
   exits r s is e =
       qed W (Toks ∷ ‵ All ∷ []) ∵
       suffices ! _ (ends-at 𝓤 H A lend.ended stayed (lend.clauses 𝓤 H A at-mem run) W (((κ₁, (κ₂, tt)), (q₁, (q₂, tt)), tt, args, vals), tt) (output-val (both r s)) (both r s) (tt, (tt, (tt, (tt, (tt, (tt, tt)))))) (tt, (tt, (tt, (tt, (tt, (tt, tt))))))) $
@@ -166,7 +166,7 @@ module _ {M : Type 1} (𝓤 : URA M) (H : Heap 𝓤) (A : Atoms 𝓤) (W : Given
         move ! (2 ∷ 26 ∷ []) $ join ! $ move ! (0 ∷ 1 ∷ 24 ∷ []) $ use3 W (raw (Half 𝓤 H A at-mem run .pre (to l₇ α γ))) (goes-out l₇ α γ) $
         -- [what the call asks; the way back; _10; …; _9; …; _8; …; …; _6; …; _5; …; _4; …; _3; …; _2; …; _1; …; room for _0; …; all]
         calls-at ! fm (Half 𝓤 H A at-mem run) known (to l₇ α γ) (and-then ! (load ! (from ! (stop !)) (look ! 4 refl)) (and-then ! (load ! (from ! (stop !)) (look ! 17 refl)) (and-then ! (load ! (from ! (stop !)) (look ! 15 refl)) (and-then ! (load ! (from ! (stop !)) (look ! 13 refl)) (and-then ! (load ! (from ! (stop !)) (look ! 11 refl)) (and-then ! (load ! (from ! (stop !)) (look ! 9 refl)) (no-more !))))))) (λ u.
-        use1 W (later (some (λ (r : Answer). ((‵ (flft (α ∷ []) fullShare) ⊛ Toks) ⊛ ‵ (N.the-row .own r (u ∷ []))) ⊛ raw (ensured 𝓤 H A half.ended (half.clauses 𝓤 H A at-mem run) (α ∷ [], (κ₁, (κ₂, tt))) (passed l₇ α γ) tt r)))) (id⊢ 𝓤 _) $ await ! tt $ pick ! (λ r. split ! $ move ! (1 ∷ []) $
+        use1 W (later (some (λ (r : HalfAnswer). ((‵ (flft (α ∷ []) fullShare) ⊛ Toks) ⊛ ‵ (N.the-row .own r (u ∷ []))) ⊛ raw (ensured 𝓤 H A half.ended (half.clauses 𝓤 H A at-mem run) (α ∷ [], (κ₁, (κ₂, tt))) (passed l₇ α γ) tt r)))) (id⊢ 𝓤 _) $ await ! tt $ pick ! (λ r. split ! $ move ! (1 ∷ []) $
         use1 W (some (λ (ws : Lasts half.ended (α ∷ [], (κ₁, (κ₂, tt))) (passed l₇ α γ)). ‵ (lasts half.ended (α ∷ [], (κ₁, (κ₂, tt))) (passed l₇ α γ) ws) ⊛ raw (fact 𝓤 (Said r (ws .0))))) (id⊢ 𝓤 _) $ pick ! (λ ws. split ! $ move ! (1 ∷ []) $ heard ! (Said r (ws .0)) (λ e.
         fsplit ! $ move ! (1 ∷ []) $ drop ! $ move ! (1 ∷ []) $ split ! $ move ! (1 ∷ []) $ facts ! N.the-row (Is N.the-row) (shows 𝓤 H A N.the-row) r (u ∷ []) (λ is. split ! $
         -- [the reference's token; the slices' tokens; the last state; the way back; _10; …; _9; …; room for _8; …; …; _6; …; _5; …; _4; …; _3; …; _2; …; _1; …; room for _0; …; all]

@@ -1,6 +1,6 @@
 -- `groovepawn::odd_indexed` meets its contract: 22, 1 to 9, 28 and 10 come first, then 16.
-use mathlib.Core.Path.{_≡_, sym, _∙_}
-use Rattle.streams.specs.Answer.{first-refused}
+use mathlib.Core.Path.{sym, _∙_}
+use Rattle.streams.specs.AnswerLaws.{first-refused}
 use Rattle.groovepawn.specs.Indexed.{oddIndexed}
 use borrow.Author.Needs.{needs}
 use Rattle.groovepawn.proofs.odd_indexed.Statement.{statement}

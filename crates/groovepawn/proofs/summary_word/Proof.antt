@@ -2,7 +2,7 @@
 use mathlib.Core.Path.{ap}
 use native.Mathlib.Omega.{arith}
 use borrow.Author.Needs.{needs}
-use Rattle.prepare.specs.Promise.{summarySaid, preparedSaid}
+use Rattle.prepare.specs.Promise.{preparedSaid}
 use Rattle.groovepawn.specs.Bounds.{Small}
 use Rattle.groovepawn.proofs.summary_word.Statement.{statement}
 use Rattle.groovepawn.proofs.summary_word.Tie as tie
@@ -16,7 +16,7 @@ cast-result c = search needs
 mul-result : tie.Need-mul-result
 mul-result c = search needs
 
-small : (c : tie.After-prepared) → Small (summarySaid (c .prepared .given .0 .0))
+small : (c : tie.After-prepared) → Small (c .prepared .given .0 .0)
 small c = c .before .before .pre _ (ap preparedSaid (c .prepared .given .1))
 
 mul-result-2 : tie.Need-mul-result-2

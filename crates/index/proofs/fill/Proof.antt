@@ -5,7 +5,6 @@ use Prim.Native.Nat.{_+_, _-_, _*_, _≤_}
 use native.Mathlib.Omega.{arith}
 use lib.ListN.{length, drop, length-set}
 use denote.Ref.{now}
-use borrow.Author.Needs.{needs}
 use Rattle.policy.specs.File.{rulesOf}
 use Rattle.index.specs.Index.{lower, entries, indexOf}
 use Rattle.index.specs.Names.{lower-none, lower-few, entry-few, entry-next}

@@ -3,7 +3,6 @@ use mathlib.Core.Path.{_≡_, refl, sym, ap, _∙_}
 use Prim.Native.Nat.{_+_, _-_, _*_, _≤_}
 use native.Mathlib.Omega.{arith}
 use lib.ListN.{take}
-use borrow.Author.Needs.{needs}
 use Rattle.policy.specs.File.{rulesOf}
 use Rattle.index.specs.declared.entry.Entry.{Entry}
 use Rattle.index.specs.Index.{lower, entries}

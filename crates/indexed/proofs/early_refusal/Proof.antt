@@ -1,5 +1,5 @@
 -- `indexed::early_refusal` meets its contract: what the check refuses, then 28, then 10.
-use mathlib.Core.Path.{_≡_, sym, _∙_}
+use mathlib.Core.Path.{sym, _∙_}
 use borrow.Author.Needs.{needs}
 use borrow.Author.Tests.{not-true, not-false}
 use Rattle.indexed.proofs.Laws.{early-check, early-sections, early-wrong, early-marks}

@@ -3,7 +3,6 @@ use mathlib.Core.Path.{_≡_, sym, _∙_}
 use borrow.Author.Needs.{needs}
 use denote.Ref.{now}
 use Rattle.enforcer.specs.Entries.{stateRefusal}
-use Rattle.enforcer.specs.Code.{asPlace}
 use Rattle.enforcer.specs.Ready.{Standing}
 use Rattle.enforcer.specs.Laid.{laid-sections, standing-location}
 use Rattle.enforcer.specs.States.{Granted}
@@ -44,7 +43,7 @@ returns-2 c =
 good : (c : tie.Else2) →
     let e = c .before .before .before in
     let a = e .before .before .before .before .before .before .args in
-    stateRefusal (e .before .before .check-under .result .layout .reading) (now (a .file)) (now (a .marks)) (asPlace (a .state)) ≡ 0
+    stateRefusal (e .before .before .check-under .result .layout .reading) (now (a .file)) (now (a .marks)) (a .state) ≡ 0
 good c = sym (c .before .state-refusal .ensures) ∙ c .if2 .left
 
 standing : (c : tie.Else2) →

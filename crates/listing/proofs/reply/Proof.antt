@@ -10,9 +10,10 @@ use borrow.Author.Needs.{needs}
 use Rattle.cleaning.specs.Promise.{CleanPromise}
 use Rattle.cleaning.specs.declared.Cleaned.{Cleaned}
 use Rattle.cleaning.specs.declared.Cleaned.the-variants as Cleaned
-use Rattle.texts.specs.Wrote.{Wrote, wrote-none, wrote-then}
+use Rattle.texts.specs.Wrote.{Wrote}
+use Rattle.texts.specs.WroteLaws.{wrote-none, wrote-then}
 use Rattle.console.specs.Reply.{replied}
-use Rattle.listing.specs.Ways.{refused-way, Goes, given-way}
+use Rattle.listing.specs.Ways.{refused-way, GoesOut, given-way}
 use Rattle.listing.proofs.reply.Statement.{statement}
 use Rattle.listing.proofs.reply.Tie as tie
 
@@ -40,7 +41,7 @@ listAfter k = k .before .before .before .before .before .before .clean .last .1 
 
 goes : (k : tie.After-lengths) →
     let s = start k in
-    Goes (s .args .reading) (now (s .args .file)) (now (s .args .cleaned)) (now (s .args .list)) (s .pre .0) (s .pre .1) (k .lengths .given .0 .0) (cleanedAfter k) (listAfter k)
+    GoesOut (s .args .reading) (now (s .args .file)) (now (s .args .cleaned)) (now (s .args .list)) (s .pre .0) (s .pre .1) (k .lengths .given .0 .0) (cleanedAfter k) (listAfter k)
 goes k =
     let s = start k in
     let a = s .args in

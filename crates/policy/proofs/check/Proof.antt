@@ -8,7 +8,7 @@ use denote.Ref.{now}
 use borrow.Author.Needs.{needs}
 use Rattle.policy.specs.File.{ruleSize, rulesEnd}
 use Rattle.policy.specs.Check.{inputsRefusal, outputsRefusal, clocksRefusal, locationsRefusal, rulesSectionRefusal, refusalOf}
-use Rattle.policy.specs.Layout.{ShapeOf}
+use Rattle.policy.specs.LayoutLaws.{ShapeOf}
 use Rattle.policy.specs.declared.rules.Shape.{Shape}
 use Rattle.policy.proofs.Laws.{locations-fit}
 use Rattle.policy.proofs.CheckLaws.{statesIn, afterInputs, afterOutputs, afterClocks, afterLocations, afterRules, afterEnd, from-inputs}

@@ -1,14 +1,15 @@
 -- `policy::check_under` meets its contract: 22 comes first, and what passes the check has the reading. Assumes nothing.
-use mathlib.Core.Path.{_≡_, refl, ap, sym, _∙_}
+use mathlib.Core.Path.{_≡_, ap, sym, _∙_}
 use mathlib.Core.Logic.{_⊎_}
 use mathlib.Core.List.{List}
 use Prim.Native.Nat.{ℕ, _≤_, _<_}
 use native.Mathlib.Omega.{arith}
-use denote.Ref.{now}
 use borrow.Author.Needs.{needs}
-use Rattle.streams.specs.Answer.{next-refused, first-refused}
-use Rattle.policy.specs.Check.{readingRefusal, refusalOf, refusalUnder, a-reading, no-reading}
-use Rattle.policy.specs.Layout.{checkedOf, checkedUnder, noLayout, layoutOf, checked-says, checked-refused, under-passed, under-refused}
+use Rattle.streams.specs.AnswerLaws.{next-refused}
+use Rattle.policy.specs.Check.{refusalOf, refusalUnder}
+use Rattle.policy.specs.CheckLaws.{a-reading, no-reading}
+use Rattle.policy.specs.Layout.{checkedOf, checkedUnder, noLayout, layoutOf}
+use Rattle.policy.specs.LayoutLaws.{checked-says, checked-refused, under-passed, under-refused}
 use Rattle.policy.specs.declared.Checked.{Checked}
 use Rattle.policy.proofs.check_under.Statement.{statement}
 use Rattle.policy.proofs.check_under.Tie as tie

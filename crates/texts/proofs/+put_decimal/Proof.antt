@@ -6,7 +6,7 @@ use lib.ListN.{length}
 use borrow.Fn.Kinds.{In}
 use borrow.Fn.PlainCycle.{Measures, is, falls, and}
 use Rattle.texts.specs.Decimal.{decimal-one, decimal-more, decimal-longer}
-use Rattle.texts.specs.Wrote.{wrote-then}
+use Rattle.texts.specs.WroteLaws.{wrote-then}
 use Rattle.texts.proofs.+put_decimal.{statement}
 use Rattle.texts.proofs.+put_decimal.Tie.{close}
 use Rattle.texts.proofs.put_decimal.Reads as put-decimal

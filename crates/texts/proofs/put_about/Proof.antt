@@ -1,7 +1,7 @@
 -- `texts::put_about` meets its contract: the words, the digits, the words.
 use native.Mathlib.Omega.{arith}
 use borrow.Author.Needs.{needs}
-use Rattle.texts.specs.Wrote.{wrote-then}
+use Rattle.texts.specs.WroteLaws.{wrote-then}
 use Rattle.texts.proofs.put_about.Statement.{statement}
 use Rattle.texts.proofs.put_about.Tie as tie
 

@@ -1,6 +1,6 @@
 -- `texts::put_digit` meets its contract.
 use borrow.Author.Needs.{needs}
-use Rattle.texts.specs.Wrote.{wrote-byte}
+use Rattle.texts.specs.WroteLaws.{wrote-byte}
 use Rattle.texts.proofs.put_digit.Statement.{statement}
 use Rattle.texts.proofs.put_digit.Tie as tie
 

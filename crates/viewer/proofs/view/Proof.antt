@@ -14,7 +14,8 @@ use Rattle.prepare.specs.declared.Prepared.the-variants as Prepared
 use Rattle.console.specs.Frame.{policyEnd, policyPart, policyFrameRefusal}
 use Rattle.console.specs.Framed.{count-fits, part-between}
 use Rattle.viewer.specs.Shown.{preparedFile, shown}
-use Rattle.console.specs.Reply.{replied, prepared-marks}
+use Rattle.console.specs.Reply.{replied}
+use Rattle.console.specs.Replies.{prepared-marks}
 use Rattle.viewer.specs.Ways.{policy-refused, policy-framed}
 use Rattle.console.specs.declared.frame.Part.{Part}
 use Rattle.viewer.proofs.view.Statement.{statement}

@@ -1,6 +1,6 @@
 -- `asks::bounds::put_bound` meets its contract, by what the bounds are.
 use native.Mathlib.Omega.{arith}
-use Rattle.texts.specs.Wrote.{wrote-none, wrote-then}
+use Rattle.texts.specs.WroteLaws.{wrote-none, wrote-then}
 use Rattle.asks.specs.Turns.{bound-to, bound-none, bound-on, to-length, on-length}
 use borrow.Author.Needs.{needs}
 use Rattle.asks.proofs.bounds.put_bound.Statement.{statement}

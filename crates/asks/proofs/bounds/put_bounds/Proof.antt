@@ -2,7 +2,7 @@
 use Prim.Native.Nat.{_+_, _-_, _≤_}
 use lib.ListN.{length}
 use denote.Ref.{now}
-use Rattle.texts.specs.Under.{Under, under-start, under-room, under-more, under-all}
+use Rattle.texts.specs.Under.{LinesUnder, under-start, under-room, under-more, under-all}
 use Rattle.asks.specs.Words.{bound}
 use Rattle.asks.specs.Turns.{boundsOn, bounds-start, bounds-turn, bounds-end}
 use borrow.Author.Needs.{needs}
@@ -10,7 +10,7 @@ use Rattle.asks.proofs.bounds.put_bounds.Statement.{statement}
 use Rattle.asks.proofs.bounds.put_bounds.Tie as tie
 
 abbrev Inv-loop : tie.InvT-loop
-Inv-loop text₀ at rule clocks next₀ i₀ text next i = (i ≤ clocks) × Under text₀ at (boundsOn rule clocks 0) next text (boundsOn rule clocks i)
+Inv-loop text₀ at rule clocks next₀ i₀ text next i = (i ≤ clocks) × LinesUnder text₀ at (boundsOn rule clocks 0) next text (boundsOn rule clocks i)
 
 abbrev μ-loop : tie.MeasureT-loop
 μ-loop text₀ at rule clocks next₀ i₀ text next i = clocks - i

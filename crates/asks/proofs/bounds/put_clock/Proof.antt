@@ -1,7 +1,7 @@
 -- `asks::bounds::put_clock` meets its contract: its number, then its low.
 use native.Mathlib.Omega.{arith}
 use Rattle.texts.specs.Text.{ascii, decimal}
-use Rattle.texts.specs.Wrote.{wrote-then}
+use Rattle.texts.specs.WroteLaws.{wrote-then}
 use Rattle.asks.specs.Turns.{three-length, clock-length}
 use borrow.Author.Needs.{needs}
 use Rattle.asks.proofs.bounds.put_clock.Statement.{statement}

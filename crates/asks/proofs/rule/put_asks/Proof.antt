@@ -6,7 +6,7 @@ use native.Mathlib.Omega.{arith}
 use lib.ListN.{length}
 use denote.Ref.{now}
 use Rattle.policy.specs.File.{byteAt, boundsFrom, ruleFrom}
-use Rattle.texts.specs.Wrote.{wrote-then}
+use Rattle.texts.specs.WroteLaws.{wrote-then}
 use Rattle.asks.specs.Words.{location, cared, bounds, asks}
 use Rattle.asks.specs.Turns.{asks-parts, asks-length}
 use borrow.Author.Needs.{needs}

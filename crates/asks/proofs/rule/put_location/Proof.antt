@@ -1,6 +1,6 @@
 -- `asks::rule::put_location` meets its contract: the words, then the number.
 use native.Mathlib.Omega.{arith}
-use Rattle.texts.specs.Wrote.{wrote-then}
+use Rattle.texts.specs.WroteLaws.{wrote-then}
 use Rattle.asks.specs.Words.{location}
 use Rattle.asks.specs.Turns.{location-length}
 use borrow.Author.Needs.{needs}

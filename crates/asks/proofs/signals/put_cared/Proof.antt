@@ -7,7 +7,7 @@ use lib.ListN.{length}
 use denote.Ref.{now}
 use Rattle.policy.specs.File.{byteAt}
 use Rattle.texts.specs.Text.{ascii}
-use Rattle.texts.specs.Wrote.{wrote-then}
+use Rattle.texts.specs.WroteLaws.{wrote-then}
 use Rattle.asks.specs.Words.{signals, cared}
 use Rattle.asks.specs.Turns.{cared-parts, cared-length}
 use borrow.Author.Needs.{needs}

@@ -1,7 +1,7 @@
 -- `asks::signals::put_name` meets its contract: the tag, if the mask names it.
 use native.Mathlib.Omega.{arith}
 use borrow.Author.Tests.{eq-eqb, ne-eqb}
-use Rattle.texts.specs.Wrote.{wrote-none}
+use Rattle.texts.specs.WroteLaws.{wrote-none}
 use Rattle.asks.specs.Turns.{name-length}
 use borrow.Author.Needs.{needs}
 use Rattle.asks.proofs.signals.put_name.Statement.{statement}

@@ -3,7 +3,7 @@ use Prim.Native.Nat.{_+_, _-_, _/_, _≤_}
 use native.Mathlib.Omega.{arith}
 use lib.ListN.{length, getD, drop}
 use denote.Ref.{now}
-use Rattle.texts.specs.Under.{Under, under-start, under-room, under-more, under-all}
+use Rattle.texts.specs.Under.{LinesUnder, under-start, under-room, under-more, under-all}
 use Rattle.asks.specs.Words.{name, names}
 use Rattle.asks.specs.Turns.{names-turn, names-end}
 use borrow.Author.Needs.{needs}
@@ -12,7 +12,7 @@ use Rattle.asks.proofs.signals.put_names.Tie as tie
 
 abbrev Inv-loop : tie.InvT-loop
 Inv-loop text₀ at tags mask next₀ mask-on₀ i₀ text next mask-on i =
-    (i ≤ length tags) × Under text₀ at (names tags mask) next text (names (drop i tags) mask-on)
+    (i ≤ length tags) × LinesUnder text₀ at (names tags mask) next text (names (drop i tags) mask-on)
 
 abbrev μ-loop : tie.MeasureT-loop
 μ-loop text₀ at tags mask next₀ mask-on₀ i₀ text next mask-on i = length tags - i

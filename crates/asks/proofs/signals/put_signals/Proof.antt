@@ -4,7 +4,7 @@ use Prim.Native.Nat.{_+_}
 use native.Mathlib.Omega.{arith}
 use lib.ListN.{length}
 use denote.Ref.{now}
-use Rattle.texts.specs.Wrote.{wrote-none, wrote-then}
+use Rattle.texts.specs.WroteLaws.{wrote-none, wrote-then}
 use Rattle.asks.specs.Words.{names, signals}
 use Rattle.asks.specs.Turns.{signals-none, signals-some, signals-length}
 use borrow.Author.Needs.{needs}

@@ -5,13 +5,13 @@ use native.Mathlib.Omega.{arith}
 use lib.ListN.{length}
 use denote.Ref.{now}
 use Rattle.streams.specs.Answer.{refused}
-use Rattle.policy.specs.Rules.{Place}
 use Rattle.enforcer.specs.Entries.{inputOf}
 use Rattle.bays.specs.Bays.{baysIn}
 use Rattle.bays.specs.There.{input-there, input-none}
 use borrow.Author.Needs.{needs}
 use Rattle.bays.proofs.bays.bay_input.Statement.{statement}
 use Rattle.bays.proofs.bays.bay_input.Tie as tie
+use Rattle.enforcer.specs.declared.state.State.{State}
 
 bays-in-requires : tie.Need-bays-in-requires
 bays-in-requires c κs = search needs
@@ -46,7 +46,7 @@ returns-2 c =
     record {
       said =
           c .input-half .ensures .said
-          ∙ ap (λ (s : Place). inputOf (a .reading) (now (a .file)) (now (a .marks)) s (a .x)) (c .before .bay-state .ensures)
+          ∙ ap (λ (s : State). inputOf (a .reading) (now (a .file)) (now (a .marks)) s (a .x)) (c .before .bay-state .ensures)
           ∙ sym (input-there (a .reading) (now (a .file)) (now (a .marks)) (now (a .states)) (a .bay) (is e) (a .x));
     }
 

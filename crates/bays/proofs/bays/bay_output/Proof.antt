@@ -7,7 +7,6 @@ use native.Mathlib.Omega.{arith}
 use lib.ListN.{length}
 use denote.Ref.{now}
 use Rattle.streams.specs.Answer.{refused}
-use Rattle.policy.specs.Rules.{Place}
 use Rattle.enforcer.specs.Entries.{outputOf}
 use Rattle.enforcer.specs.Promises.{answerSaid, outputSaid}
 use Rattle.bays.specs.Bays.{baysIn, bayState}
@@ -16,6 +15,7 @@ use Rattle.bays.specs.There.{output-there, output-none}
 use borrow.Author.Needs.{needs}
 use Rattle.bays.proofs.bays.bay_output.Statement.{statement}
 use Rattle.bays.proofs.bays.bay_output.Tie as tie
+use Rattle.enforcer.specs.declared.state.State.{State}
 
 bays-in-requires : tie.Need-bays-in-requires
 bays-in-requires c κs = search needs
@@ -58,7 +58,7 @@ returns-2 c =
     let a = e .before .before .before .before .before .args in
     let states = now (a .states) in
     let said : outputSaid (o .output .result) ≡ outputOf (a .reading) (now (a .file)) (now (a .marks)) (bayState states (a .bay)) (a .x) (a .y) =
-    o .output .ensures .said ∙ ap (λ (z : Place). outputOf (a .reading) (now (a .file)) (now (a .marks)) z (a .x) (a .y)) (s .bay-state .ensures)
+    o .output .ensures .said ∙ ap (λ (z : State). outputOf (a .reading) (now (a .file)) (now (a .marks)) z (a .x) (a .y)) (s .bay-state .ensures)
     in
     record {
       said =

@@ -1,7 +1,7 @@
 -- `bays::bays::no_bay` meets its contract: 22 and 1 to 10 come first, then 24.
 use mathlib.Core.Path.{_≡_, sym, _∙_}
 use denote.Ref.{now}
-use Rattle.streams.specs.Answer.{first-refused, next-refused}
+use Rattle.streams.specs.AnswerLaws.{first-refused, next-refused}
 use Rattle.enforcer.specs.Entries.{marksRefusal}
 use Rattle.enforcer.specs.States.{marks-by}
 use Rattle.bays.specs.Entries.{noBay}

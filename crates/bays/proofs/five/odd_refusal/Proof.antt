@@ -1,7 +1,7 @@
 -- `bays::five::odd_refusal` meets its contract: 22 and 1 to 10 come first, then 14 where there is no room, then 16.
 use mathlib.Core.Path.{_≡_, sym, _∙_}
 use denote.Ref.{now}
-use Rattle.streams.specs.Answer.{first-refused}
+use Rattle.streams.specs.AnswerLaws.{first-refused}
 use Rattle.enforcer.specs.Entries.{marksRefusal}
 use Rattle.enforcer.specs.States.{marks-by}
 use Rattle.bays.specs.Odd.{oddRefusal}

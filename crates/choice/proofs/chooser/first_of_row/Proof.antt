@@ -6,14 +6,14 @@ use native.Mathlib.Omega.{arith}
 use lib.ListN.{getD}
 use borrow.Author.Needs.{needs}
 use denote.Ref.{now}
-use Rattle.choice.proofs.ChooserLaws.{Left, left-starts, left-ends, left-found, left-out, left-passed}
+use Rattle.choice.proofs.ChooserLaws.{LeftOfRow, left-starts, left-ends, left-found, left-out, left-passed}
 use Rattle.choice.specs.Sets.{has}
 use Rattle.choice.specs.Table.{table, entry-below}
 use Rattle.choice.proofs.chooser.first_of_row.Statement.{statement}
 use Rattle.choice.proofs.chooser.first_of_row.Tie as tie
 
 abbrev Inv-loop : tie.InvT-loop
-Inv-loop rows set wanted n start i₀ i = (i ≤ 16) × Left (has set) n wanted i
+Inv-loop rows set wanted n start i₀ i = (i ≤ 16) × LeftOfRow (has set) n wanted i
 
 abbrev μ-loop : tie.MeasureT-loop
 μ-loop rows set wanted n start i₀ i = 16 - i

@@ -2,8 +2,7 @@
 use mathlib.Core.Path.{_≡_, refl, sym, _∙_}
 use Prim.Native.Nat.{_+_, _*_, _/_, _%_}
 use native.Mathlib.Omega.{arith}
-use borrow.Author.Needs.{needs}
-use Rattle.streams.specs.Choose.{nearest-high}
+use Rattle.streams.specs.ChooseLaws.{nearest-high}
 use Rattle.choice.specs.Sets.{has}
 use Rattle.choice.specs.Table.{table}
 use Rattle.choice.proofs.chooser.nearest.Statement.{statement}

@@ -1,5 +1,5 @@
 -- `choice::sets::is_left` meets its contract. The loop's invariant: no input passed has something left that agrees.
-use mathlib.Core.Path.{_≡_, sym}
+use mathlib.Core.Path.{sym}
 use Prim.Native.Nat.{_-_, _<_}
 use native.Mathlib.Omega.{arith}
 use borrow.Author.Needs.{needs}

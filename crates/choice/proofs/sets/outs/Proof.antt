@@ -1,7 +1,6 @@
 -- `choice::sets::outs` meets its contract: the table it lends is the one that was computed with.
 use mathlib.Core.Path.{refl, _∙_}
 use native.Mathlib.Omega.{arith}
-use borrow.Author.Needs.{needs}
 use Rattle.choice.specs.Outs.{clear, outs-low}
 use Rattle.choice.proofs.sets.outs.Statement.{statement}
 use Rattle.choice.proofs.sets.outs.Tie as tie

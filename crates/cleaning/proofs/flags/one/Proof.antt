@@ -1,5 +1,5 @@
 -- `cleaning::flags::one` meets its contract.
-use mathlib.Core.Path.{_≡_, sym, ap}
+use mathlib.Core.Path.{sym, ap}
 use borrow.Author.Tests.{eq-eqb, ne-eqb}
 use Rattle.resting.specs.Table.{bit}
 use Rattle.cleaning.proofs.flags.one.Statement.{statement}

@@ -1,11 +1,11 @@
 -- `cleaning::list::lay_locations` meets its contract. The invariant: the entries from i on, laid from here, give what all give.
-use mathlib.Core.Path.{_≡_, refl}
-use Prim.Native.Nat.{_+_, _-_, _*_, _≤_}
+use mathlib.Core.Path.{refl}
+use Prim.Native.Nat.{_-_, _*_, _≤_}
 use native.Mathlib.Omega.{arith}
 use lib.ListN.{length, drop}
 use denote.Ref.{now}
 use borrow.Author.Needs.{needs}
-use Rattle.join.specs.Laying.{Left, left-start, left-turn, left-end, left-length}
+use Rattle.join.specs.Laying.{LeftToLay, left-start, left-turn, left-end, left-length}
 use Rattle.cleaning.specs.Clean.{struckBytes, locationsStruck}
 use Rattle.cleaning.specs.Code.{flagsOf}
 use Rattle.cleaning.proofs.LayLaws.{locations-turn, locations-end}
@@ -15,7 +15,7 @@ use Rattle.cleaning.proofs.list.lay_locations.Tie as tie
 abbrev Inv-loop : tie.InvT-loop
 Inv-loop entered out₀ next₀ i₀ out next i =
     (i ≤ length entered) × (next ≤ 3 * i)
-    × Left (struckBytes (locationsStruck 0 (flagsOf entered))) (struckBytes (locationsStruck i (drop i (flagsOf entered)))) out₀ 0 out next
+    × LeftToLay (struckBytes (locationsStruck 0 (flagsOf entered))) (struckBytes (locationsStruck i (drop i (flagsOf entered)))) out₀ 0 out next
 
 abbrev μ-loop : tie.MeasureT-loop
 μ-loop entered out₀ next₀ i₀ out next i = length entered - i

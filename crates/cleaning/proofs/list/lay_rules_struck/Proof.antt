@@ -1,5 +1,5 @@
 -- `cleaning::list::lay_rules_struck` meets its contract. The invariant: the entries from rule i on, laid from here, give what all give.
-use mathlib.Core.Path.{_≡_, refl}
+use mathlib.Core.Path.{refl}
 use Prim.Native.Nat.{_+_, _-_, _*_, _≤_, _<_}
 use native.Mathlib.Omega.{arith}
 use lib.ListN.{length, drop}
@@ -7,8 +7,8 @@ use denote.Ref.{now}
 use borrow.Author.Needs.{needs}
 use Rattle.policy.specs.File.{rulesFrom, rulesOf}
 use Rattle.enforcer.specs.Laid.{laid-limits}
-use Rattle.enforcer.specs.Pass.{laid-short}
-use Rattle.join.specs.Laying.{Left, left-start, left-same, left-turn, left-end, left-length}
+use Rattle.enforcer.specs.RuleAhead.{laid-short}
+use Rattle.join.specs.Laying.{LeftToLay, left-start, left-same, left-turn, left-end, left-length}
 use Rattle.cleaning.specs.Clean.{struckBytes, rulesStruck}
 use Rattle.cleaning.specs.Code.{flagsOf}
 use Rattle.cleaning.proofs.LayLaws.{Rest, rest-start, rest-first, rest-more, struck-start, struck-turn, struck-end}
@@ -18,7 +18,7 @@ use Rattle.cleaning.proofs.list.lay_rules_struck.Tie as tie
 abbrev Inv-loop : tie.InvT-loop
 Inv-loop file entered used out₀ at clocks size next₀ p₀ i₀ out next p i =
     Rest file clocks (length used) (length entered) i p × (next ≤ at + 3 * i)
-    × Left (struckBytes (rulesStruck (flagsOf entered) 0 (flagsOf used) (rulesOf file)))
+    × LeftToLay (struckBytes (rulesStruck (flagsOf entered) 0 (flagsOf used) (rulesOf file)))
     (struckBytes (rulesStruck (flagsOf entered) i (drop i (flagsOf used)) (rulesFrom clocks file p (length used - i)))) out₀ at out next
 
 abbrev μ-loop : tie.MeasureT-loop

@@ -1,5 +1,4 @@
 -- `cleaning::rules::lay_kept` meets its contract.
-use mathlib.Core.Path.{_≡_}
 use native.Mathlib.Omega.{arith}
 use denote.Ref.{now}
 use borrow.Author.Needs.{needs}

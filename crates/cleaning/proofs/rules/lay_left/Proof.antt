@@ -1,12 +1,12 @@
 -- `cleaning::rules::lay_left` meets its contract. The invariant: the bytes from i on whose flags are set, laid from here, give what all give.
-use mathlib.Core.Path.{_≡_, refl}
+use mathlib.Core.Path.{refl}
 use Prim.Native.Nat.{_+_, _-_, _≤_}
 use native.Mathlib.Omega.{arith}
 use lib.ListN.{length, drop}
 use denote.Ref.{now}
 use borrow.Author.Needs.{needs}
 use Rattle.join.specs.Lay.{bytesFrom}
-use Rattle.join.specs.Laying.{Left, left-start, left-same, left-turn, left-end, left-length}
+use Rattle.join.specs.Laying.{LeftToLay, left-start, left-same, left-turn, left-end, left-length}
 use Rattle.cleaning.specs.Sift.{sift}
 use Rattle.cleaning.specs.Code.{flagsOf}
 use Rattle.cleaning.proofs.LayLaws.{left-kept, left-struck, left-from, left-none}
@@ -16,7 +16,7 @@ use Rattle.cleaning.proofs.rules.lay_left.Tie as tie
 abbrev Inv-loop : tie.InvT-loop
 Inv-loop file start entered out₀ at next₀ i₀ out next i =
     (i ≤ length entered) × (next ≤ at + i)
-    × Left (sift (flagsOf entered) (bytesFrom file start (length entered))) (sift (drop i (flagsOf entered)) (bytesFrom file (start + i) (length entered - i))) out₀ at out next
+    × LeftToLay (sift (flagsOf entered) (bytesFrom file start (length entered))) (sift (drop i (flagsOf entered)) (bytesFrom file (start + i) (length entered - i))) out₀ at out next
 
 abbrev μ-loop : tie.MeasureT-loop
 μ-loop file start entered out₀ at next₀ i₀ out next i = length entered - i

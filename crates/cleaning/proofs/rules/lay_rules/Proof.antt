@@ -1,15 +1,15 @@
 -- `cleaning::rules::lay_rules` meets its contract. The invariant: the rules from i on whose flags are set, laid from here, give what all give.
-use mathlib.Core.Path.{_≡_, refl}
-use Prim.Native.Nat.{_+_, _-_, _*_, _≤_, _<_}
+use mathlib.Core.Path.{refl}
+use Prim.Native.Nat.{_+_, _-_, _*_, _≤_}
 use native.Mathlib.Omega.{arith}
 use lib.ListN.{length, drop}
 use denote.Ref.{now}
 use borrow.Author.Needs.{needs}
 use Rattle.policy.specs.File.{rulesFrom, rulesOf, ruleSize}
 use Rattle.enforcer.specs.Laid.{laid-limits}
-use Rattle.enforcer.specs.Pass.{laid-short}
-use Rattle.join.specs.Laying.{Left, left-start, left-same, left-turn, left-end, left-length}
-use Rattle.cleaning.specs.Code.{flagsOf, Ends, cleanedRules}
+use Rattle.enforcer.specs.RuleAhead.{laid-short}
+use Rattle.join.specs.Laying.{LeftToLay, left-start, left-same, left-turn, left-end, left-length}
+use Rattle.cleaning.specs.Code.{flagsOf, EndsAt, cleanedRules}
 use Rattle.cleaning.proofs.LayLaws.{Rest, rest-start, rest-first, rest-more, flags-few, cleaned-start, cleaned-turn, cleaned-end}
 use Rattle.cleaning.proofs.rules.lay_rules.Statement.{statement}
 use Rattle.cleaning.proofs.rules.lay_rules.Tie as tie
@@ -17,7 +17,7 @@ use Rattle.cleaning.proofs.rules.lay_rules.Tie as tie
 abbrev Inv-loop : tie.InvT-loop
 Inv-loop file entered used out₀ at clocks size next₀ p₀ i₀ out next p i =
     Rest file clocks (length used) (length entered) i p × (next ≤ at + 23 * i)
-    × Left (cleanedRules (flagsOf entered) (flagsOf used) (rulesOf file)) (cleanedRules (flagsOf entered) (drop i (flagsOf used)) (rulesFrom clocks file p (length used - i))) out₀ at out next
+    × LeftToLay (cleanedRules (flagsOf entered) (flagsOf used) (rulesOf file)) (cleanedRules (flagsOf entered) (drop i (flagsOf used)) (rulesFrom clocks file p (length used - i))) out₀ at out next
 
 abbrev μ-loop : tie.MeasureT-loop
 μ-loop file entered used out₀ at clocks size next₀ p₀ i₀ out next p i = length used - i
@@ -29,7 +29,7 @@ entry i = i .before .before .before .before .before .before
 first : (i : tie.In-loop Inv-loop μ-loop) →
     let a = entry i .args in
     let l = i .before .loop in
-    (l .p + ruleSize (a .layout .clocks) ≤ length (now (a .file))) × Ends (now (a .file)) (l .p) (length (now (a .entered)))
+    (l .p + ruleSize (a .layout .clocks) ≤ length (now (a .file))) × EndsAt (now (a .file)) (l .p) (length (now (a .entered)))
 first i =
     let a = entry i .args in
     let l = i .before .loop in

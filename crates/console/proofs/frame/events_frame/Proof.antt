@@ -4,7 +4,7 @@ use Prim.Native.Nat.{_+_}
 use denote.Ref.{now}
 use borrow.Author.Tests.{le-leb, lt-leb}
 use borrow.Author.Needs.{needs}
-use Rattle.streams.specs.Answer.{first-refused}
+use Rattle.streams.specs.AnswerLaws.{first-refused}
 use Rattle.console.specs.Frame.{countRefusal}
 use Rattle.console.proofs.frame.events_frame.Statement.{statement}
 use Rattle.console.proofs.frame.events_frame.Tie as tie

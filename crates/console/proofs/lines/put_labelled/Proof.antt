@@ -1,7 +1,7 @@
 -- `console::lines::put_labelled` meets its contract: the label, then the digits.
 use native.Mathlib.Omega.{arith}
 use borrow.Author.Needs.{needs}
-use Rattle.texts.specs.Wrote.{wrote-then}
+use Rattle.texts.specs.WroteLaws.{wrote-then}
 use Rattle.console.proofs.lines.put_labelled.Statement.{statement}
 use Rattle.console.proofs.lines.put_labelled.Tie as tie
 

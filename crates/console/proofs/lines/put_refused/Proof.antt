@@ -1,7 +1,7 @@
 -- `console::lines::put_refused` meets its contract: at most three digits.
 use native.Mathlib.Omega.{arith}
 use borrow.Author.Needs.{needs}
-use Rattle.texts.specs.Wrote.{wrote-then}
+use Rattle.texts.specs.WroteLaws.{wrote-then}
 use Rattle.console.specs.Text.{refusedLine}
 use Rattle.texts.specs.Decimal.{decimal-short}
 use Rattle.console.proofs.lines.put_refused.Statement.{statement}

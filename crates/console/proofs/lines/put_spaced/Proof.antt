@@ -2,7 +2,7 @@
 use native.Mathlib.Omega.{arith}
 use lib.ListN.{length-append}
 use borrow.Author.Needs.{needs}
-use Rattle.texts.specs.Wrote.{wrote-then}
+use Rattle.texts.specs.WroteLaws.{wrote-then}
 use Rattle.texts.specs.Text.{ascii, decimal}
 use Rattle.console.proofs.lines.put_spaced.Statement.{statement}
 use Rattle.console.proofs.lines.put_spaced.Tie as tie

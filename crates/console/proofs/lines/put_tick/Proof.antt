@@ -2,7 +2,7 @@
 use native.Mathlib.Omega.{arith}
 use borrow.Author.Needs.{needs}
 use Rattle.console.specs.Text.{tickLine}
-use Rattle.texts.specs.Wrote.{wrote-then}
+use Rattle.texts.specs.WroteLaws.{wrote-then}
 use Rattle.console.specs.Lines.{spaced-short, halves-short}
 use Rattle.console.proofs.lines.put_tick.Statement.{statement}
 use Rattle.console.proofs.lines.put_tick.Tie as tie

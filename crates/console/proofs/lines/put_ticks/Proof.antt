@@ -7,7 +7,8 @@ use lib.ListN.{length, take, getD}
 use denote.Ref.{now}
 use borrow.Author.Needs.{needs}
 use Rattle.console.specs.Lines.{line-short, lines-more, lines-all}
-use Rattle.texts.specs.Wrote.{Wrote, wrote-none, wrote-then}
+use Rattle.texts.specs.Wrote.{Wrote}
+use Rattle.texts.specs.WroteLaws.{wrote-none, wrote-then}
 use Rattle.console.specs.Text.{eventLine, tickLines}
 use Rattle.console.proofs.lines.put_ticks.Statement.{statement}
 use Rattle.console.proofs.lines.put_ticks.Tie as tie

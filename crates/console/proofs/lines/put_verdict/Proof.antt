@@ -3,7 +3,7 @@ use Prim.Native.Nat.{_≤_}
 use native.Mathlib.Omega.{arith}
 use lib.ListN.{length}
 use borrow.Author.Needs.{needs}
-use Rattle.texts.specs.Wrote.{wrote-then}
+use Rattle.texts.specs.WroteLaws.{wrote-then}
 use Rattle.texts.specs.Text.{decimal}
 use Rattle.console.specs.Text.{verdictLine}
 use Rattle.texts.specs.Decimal.{decimal-short}

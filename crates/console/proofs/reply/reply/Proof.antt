@@ -14,7 +14,8 @@ use Rattle.prepare.specs.declared.Prepared.the-variants as Prepared
 use Rattle.console.specs.Frame.{policyEnd, policyPart, policyFrameRefusal}
 use Rattle.console.specs.Framed.{count-fits, part-between}
 use Rattle.console.specs.Printed.{enforcedText, printed}
-use Rattle.console.specs.Reply.{replied, prepared-marks, policy-refused, policy-framed}
+use Rattle.console.specs.Reply.{replied}
+use Rattle.console.specs.Replies.{prepared-marks, policy-refused, policy-framed}
 use Rattle.console.specs.declared.frame.Part.{Part}
 use Rattle.console.proofs.reply.reply.Statement.{statement}
 use Rattle.console.proofs.reply.reply.Tie as tie

@@ -10,11 +10,11 @@ use Rattle.policy.specs.File.{pairAt}
 use Rattle.enforcer.specs.Code.{startState}
 use Rattle.enforcer.specs.Promises.{RunPromise}
 use Rattle.enforcer.specs.declared.state.State.{State}
-use Rattle.prepare.specs.Promise.{summarySaid}
 use Rattle.console.specs.Frame.{policyEnd, eventsStart, eventsEnd, eventsPart, eventsFrameRefusal}
 use Rattle.console.specs.Framed.{part-between, events-fit}
-use Rattle.texts.specs.Wrote.{wrote-then}
-use Rattle.console.specs.Reply.{replied, events-refused, run-refused, run-released}
+use Rattle.texts.specs.WroteLaws.{wrote-then}
+use Rattle.console.specs.Reply.{replied}
+use Rattle.console.specs.Replies.{events-refused, run-refused, run-released}
 use Rattle.console.specs.declared.frame.Part.{Part}
 use Rattle.console.proofs.reply.reply_events.Statement.{statement}
 use Rattle.console.proofs.reply.reply_events.Tie as tie
@@ -33,7 +33,7 @@ returns c =
     let i = c .before .before .before .before in
     let f = i .before .before in
     let s = f .before .before .before .before .before .before in
-    rw (events-refused (now (s .args .input)) (summarySaid (s .args .summary)) (ap (λ (p : Part). p .refusal) (f .events-frame .ensures)) (i .if1 .taken))
+    rw (events-refused (now (s .args .input)) (s .args .summary) (ap (λ (p : Part). p .refusal) (f .events-frame .ensures)) (i .if1 .taken))
     (replied (c .before .before .put-refused .ensures) (c .before .before .put-refused .kept .0))
 
 -- The frame is not refused: where the events stand.
@@ -109,7 +109,7 @@ returns-2 c =
     let i = c .before .before .before .before in
     let r = i .before .before .before .before in
     let s = start (place r) in
-    rw (run-refused (input (place r)) (summarySaid (s .args .summary)) (s .pre .0) (passed (place r)) _ (room r) (ran r) (i .if2 .taken))
+    rw (run-refused (input (place r)) (s .args .summary) (s .pre .0) (passed (place r)) _ (room r) (ran r) (i .if2 .taken))
     (replied (c .before .before .put-refused2 .ensures) (c .before .before .put-refused2 .kept .0))
 
 put-verdict-requires : tie.Need-put-verdict-requires
@@ -139,7 +139,7 @@ returns-3 c =
     let i = v .before .before in
     let r = i .before .before .before .before in
     let s = start (place r) in
-    rw (run-released (input (place r)) (summarySaid (s .args .summary)) (s .pre .0) (passed (place r)) _ (room r) (ran r) (i .if2 .left), ← events-are (place r))
+    rw (run-released (input (place r)) (s .args .summary) (s .pre .0) (passed (place r)) _ (room r) (ran r) (i .if2 .left), ← events-are (place r))
     (replied (wrote-then zero-le (v .put-verdict .ensures .0) (t .put-ticks .ensures)) (t .put-ticks .kept .0 ∙ v .put-verdict .kept .0))
 
 pub reply-events-spec : {M : Type 1} → statement M

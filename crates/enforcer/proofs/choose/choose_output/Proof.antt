@@ -3,7 +3,7 @@ use mathlib.Core.Path.{_≡_, sym, _∙_}
 use Prim.Native.Nat.{_≤_}
 use borrow.Author.Needs.{needs}
 use denote.Ref.{now}
-use Rattle.streams.specs.Choose.{nearest-kept}
+use Rattle.streams.specs.ChooseLaws.{nearest-kept}
 use Rattle.policy.specs.Rules.{outputValues}
 use Rattle.policy.specs.File.{policyOf}
 use Rattle.enforcer.specs.Tick.{outputChoice}

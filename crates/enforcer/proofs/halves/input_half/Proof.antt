@@ -4,7 +4,7 @@ use borrow.Author.Needs.{needs}
 use denote.Ref.{now}
 use Rattle.policy.specs.declared.Layout.{Layout}
 use Rattle.enforcer.specs.Entries.{marksRefusal, stateRefusal, inputRefusal, inputOf, inputPast}
-use Rattle.enforcer.specs.Code.{asPlace, place}
+use Rattle.enforcer.specs.State.{place}
 use Rattle.enforcer.specs.Ready.{Standing}
 use Rattle.enforcer.specs.Laid.{laid-place}
 use Rattle.enforcer.specs.States.{chosen-first, Granted, marks-by, granted-laid, granted-standing}
@@ -49,7 +49,7 @@ returns-2 c =
 -- No 16, so the state is in range.
 granted : (c : tie.Else2) →
     let a = c .before .before .before .before .before .before .before .before .args in
-    stateRefusal (laidOut (c .before .before .before) .reading) (now (a .file)) (now (a .marks)) (asPlace (a .state)) ≡ 0
+    stateRefusal (laidOut (c .before .before .before) .reading) (now (a .file)) (now (a .marks)) (a .state) ≡ 0
 granted c = sym (c .before .state-refusal .ensures) ∙ c .if2 .left
 
 standing : (c : tie.Else2) →
@@ -62,7 +62,7 @@ standing c = let l = laid (c .before .before .before) in granted-standing (l .la
 left : (c : tie.Else2) →
     let s = c .before .before .before .before .before in
     let a = s .before .before .before .args in
-    inputOf (a .reading) (now (a .file)) (now (a .marks)) (asPlace (a .state)) (a .x)
+    inputOf (a .reading) (now (a .file)) (now (a .marks)) (a .state) (a .x)
     ≡ inputPast (s .check-under .result .layout .reading) (now (a .file)) (now (a .marks)) (place (s .check-under .result .layout .clocks) (a .state)) (a .x)
 unfolding inputOf inputRefusal
 left c =

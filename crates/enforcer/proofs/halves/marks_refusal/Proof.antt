@@ -1,9 +1,7 @@
 -- `enforcer::halves::marks_refusal` meets its contract: what the check refuses comes first, and without that the layout says how many states there are.
-use mathlib.Core.Path.{_≡_, sym}
-use native.Mathlib.Omega.{arith}
-use lib.ListN.{length}
+use mathlib.Core.Path.{sym}
 use borrow.Author.Tests.{le-leb, lt-leb}
-use Rattle.streams.specs.Answer.{first-refused}
+use Rattle.streams.specs.AnswerLaws.{first-refused}
 use Rattle.enforcer.proofs.halves.marks_refusal.Statement.{statement}
 use Rattle.enforcer.proofs.halves.marks_refusal.Tie as tie
 

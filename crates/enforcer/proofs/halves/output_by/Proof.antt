@@ -9,15 +9,15 @@ use borrow.Author.Tests.{lt-ltb, le-ltb, not-true, not-false}
 use denote.Ref.{now}
 use Rattle.policy.specs.Rules.{inputValues, outputValues}
 use Rattle.policy.specs.File.{policyOf}
-use Rattle.enforcer.specs.Tick.{Tick, outputTick}
+use Rattle.enforcer.specs.Tick.{ReleasedTick, outputTick}
 use Rattle.enforcer.specs.Entries.{OutputAnswer, chosen, outputFrom, outputPast}
-use Rattle.enforcer.specs.Code.{asPlace, place}
+use Rattle.enforcer.specs.State.{place}
 use Rattle.enforcer.specs.Chosen.{tickFrom}
 use Rattle.enforcer.specs.Laid.{laid-limits, laid-inputs, laid-outputs}
 use Rattle.enforcer.specs.Promises.{outputSaid}
 use Rattle.enforcer.specs.declared.state.State.{State}
 use Rattle.enforcer.specs.declared.tick.Ticked.{Ticked}
-use Rattle.enforcer.specs.declared.halves.Answer.the-variants.{Value, Refused}
+use Rattle.enforcer.specs.declared.halves.HalfAnswer.the-variants.{Value, Refused}
 use Rattle.enforcer.proofs.halves.output_by.Statement.{statement}
 use Rattle.enforcer.proofs.halves.output_by.Tie as tie
 
@@ -26,7 +26,7 @@ abbrev tickSaid : State → Ticked → OutputAnswer
 tickSaid s r =
     cond (r .released) (outputSaid (record { answer = Value (r .y); state = r .state })) (outputSaid (record { answer = Refused 17; state = s }))
 
-tick-says : (s : State) (d : Option Tick) → outputFrom (asPlace s) (chosen 0 d) ≡ tickSaid s (tickFrom s d)
+tick-says : (s : State) (d : Option ReleasedTick) → outputFrom s (chosen 0 d) ≡ tickSaid s (tickFrom s d)
 tick-says s none = refl
 tick-says s (some t) = refl
 
@@ -72,14 +72,14 @@ output-tick-requires c κs =
     (record { standing = e .before .before .before .before .before .before .pre .0; here = c .here-by .ensures }, y-fits e)
 
 -- The tick says the rest.
-abbrev asked : tie.After-output-tick → Option Tick
+abbrev asked : tie.After-output-tick → Option ReleasedTick
 asked c =
     let a = c .before .before .before .before .before .before .before .before .args in
     outputTick (policyOf (a .layout .reading) (now (a .file))) (now (a .marks)) (place (a .layout .clocks) (a .state)) (a .x) (a .y)
 
 given : (c : tie.After-output-tick) →
     let a = c .before .before .before .before .before .before .before .before .args in
-    outputPast (a .layout .reading) (now (a .file)) (now (a .marks)) (asPlace (a .state)) (place (a .layout .clocks) (a .state)) (a .x) (a .y)
+    outputPast (a .layout .reading) (now (a .file)) (now (a .marks)) (a .state) (place (a .layout .clocks) (a .state)) (a .x) (a .y)
     ≡ tickSaid (a .state) (c .output-tick .result)
 given c =
     let e = c .before .before in

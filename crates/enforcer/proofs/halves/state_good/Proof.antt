@@ -10,7 +10,6 @@ use borrow.Author.Needs.{needs}
 use borrow.Author.Tests.{lt-ltb, le-ltb, le-leb, lt-leb}
 use Rattle.policy.specs.File.{policyOf}
 use Rattle.enforcer.specs.State.{clocksGood, stateGood}
-use Rattle.enforcer.specs.Code.{asPlace}
 use Rattle.enforcer.specs.States.{laid-good}
 use Rattle.enforcer.proofs.Laws.{good-turn, good-ends}
 use Rattle.enforcer.proofs.halves.state_good.Statement.{statement}
@@ -28,7 +27,7 @@ lengths c = search needs
 
 tested : (c : tie.Start Inv-loop μ-loop) →
     let a = c .args in
-    stateGood (policyOf (a .layout .reading) (now (a .file))) (asPlace (a .state))
+    stateGood (policyOf (a .layout .reading) (now (a .file))) (a .state)
     ≡ (ltb (a .state .location) (a .layout .locations) && clocksGood (a .layout .ceilings) (a .state .clocks))
 tested c = laid-good (c .pre) (c .args .state) (lengths c .1)
 

@@ -9,7 +9,6 @@ use Rattle.policy.specs.Number.{numberOf}
 use Rattle.policy.specs.File.{policyOf}
 use Rattle.enforcer.specs.State.{placeIn, stateGood, isMarked}
 use Rattle.enforcer.specs.Entries.{stateRefusal}
-use Rattle.enforcer.specs.Code.{asPlace}
 use Rattle.enforcer.specs.Laid.{stateNumber, Numbered, laid-limits, laid-well}
 use Rattle.enforcer.specs.States.{good-numbered, state-granted}
 use Rattle.enforcer.proofs.halves.state_refusal.Statement.{statement}
@@ -24,13 +23,13 @@ returns c = rw (sym (c .before .state-good .ensures) ∙ not-true _ (c .if1 .tak
 
 -- The state is in range, so it has a number, whose mark is the place's.
 good : (c : tie.Else1) →
-    let a = c .before .before .before .before .args in stateGood (policyOf (a .layout .reading) (now (a .file))) (asPlace (a .state)) ≡ true
+    let a = c .before .before .before .before .args in stateGood (policyOf (a .layout .reading) (now (a .file))) (a .state) ≡ true
 good c = sym (c .before .state-good .ensures) ∙ not-false _ (c .if1 .left)
 
 numbered : (c : tie.Else1) →
     let a = c .before .before .before .before .args in
     let p = policyOf (a .layout .reading) (now (a .file)) in
-    Numbered (a .layout .reading) (now (a .file)) (now (a .marks)) (stateNumber (a .layout) (a .state)) (isMarked (now (a .marks)) (numberOf p (placeIn p (asPlace (a .state)))))
+    Numbered (a .layout .reading) (now (a .file)) (now (a .marks)) (stateNumber (a .layout) (a .state)) (isMarked (now (a .marks)) (numberOf p (placeIn p (a .state))))
 numbered c = let s = c .before .before .before .before in good-numbered (s .pre .0) (now (s .args .marks)) (s .args .state) (good c)
 
 number-requires : tie.Need-number-requires
@@ -46,7 +45,7 @@ shared-slice-read-if2 c =
 marked : (c : tie.After-number) →
     let a = c .before .before .before .before .before .before .args in
     let p = policyOf (a .layout .reading) (now (a .file)) in
-    isMarked (now (a .marks)) (numberOf p (placeIn p (asPlace (a .state)))) ≡ isMarked (now (a .marks)) (c .number .result)
+    isMarked (now (a .marks)) (numberOf p (placeIn p (a .state))) ≡ isMarked (now (a .marks)) (c .number .result)
 marked c = rw (c .number .ensures) (sym (numbered (c .before .before) .mark))
 
 returns-2 : tie.Need-returns-2

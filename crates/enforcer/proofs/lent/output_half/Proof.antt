@@ -46,12 +46,12 @@ use denote.Triple.Clauses.{ensured, lasts}
 use denote.Exit.{yes}
 use Rattle.enforcer.specs.Promises.{OutputPromise}
 use Rattle.enforcer.specs.declared.state.State.{State}
-use Rattle.enforcer.specs.declared.halves.Answer.{Answer}
+use Rattle.enforcer.specs.declared.halves.HalfAnswer.{HalfAnswer}
 use Rattle.enforcer.specs.declared.halves.Output.{Output}
 use Rattle.enforcer.proofs.state.State as S
 use Rattle.enforcer.proofs.state.State.Laws as S′
-use Rattle.enforcer.proofs.halves.Answer as N
-use Rattle.enforcer.proofs.halves.Answer.Laws as N′
+use Rattle.enforcer.proofs.halves.HalfAnswer as N
+use Rattle.enforcer.proofs.halves.HalfAnswer.Laws as N′
 use Rattle.enforcer.proofs.halves.Output as O
 use Rattle.enforcer.proofs.halves.Output.Laws as O′
 use Rattle.enforcer.proofs.state.State.output as out
@@ -70,7 +70,7 @@ stayed = (stay-ref (0 ∷ []) tt (plain (λ _. S.the-row)), (stay-none (λ _. u8
 abbrev state-vals : State → List Val
 state-vals = LL.vals S.the-type S′.the-laws
 
-abbrev answer-val : Answer → Val
+abbrev answer-val : HalfAnswer → Val
 answer-val = EL.val N.the-type N′.the-laws
 
 -- what whoever holds an output knows of its two fields

@@ -8,7 +8,8 @@ use denote.Ref.{now}
 use borrow.Author.Needs.{needs}
 use Rattle.policy.specs.File.{byteAt, ruleSize, rulesFrom}
 use Rattle.policy.specs.Own.{level, level-all}
-use Rattle.enforcer.specs.Code.{eventXY, place, decider}
+use Rattle.enforcer.specs.Code.{eventXY, decider}
+use Rattle.enforcer.specs.State.{place}
 use Rattle.enforcer.proofs.RuleLaws.{deciderFrom, decider-start, decider-here, decider-turn, decider-end}
 use Rattle.enforcer.proofs.matcher.first_rule.Statement.{statement}
 use Rattle.enforcer.proofs.matcher.first_rule.Tie as tie

@@ -7,9 +7,10 @@ use borrow.Author.Needs.{needs}
 use denote.Ref.{now}
 use Rattle.policy.specs.Rules.{inputValues, outputValues}
 use Rattle.policy.specs.File.{rulesFrom, policyOf}
-use Rattle.enforcer.specs.Code.{place}
+use Rattle.enforcer.specs.State.{place}
 use Rattle.enforcer.specs.Laid.{laid-limits, laid-well, laid-inputs, laid-outputs}
-use Rattle.enforcer.specs.Pass.{Ahead, Gathering, gathers-as, gathering-start, gathering-more, gathering-done, own-here, own-ahead, laid-short, ahead-first, ahead-rule, ahead-rest, none-ahead}
+use Rattle.enforcer.specs.Pass.{Gathering, gathers-as, gathering-start, gathering-more, gathering-done}
+use Rattle.enforcer.specs.RuleAhead.{Ahead, own-here, own-ahead, laid-short, ahead-first, ahead-rule, ahead-rest, none-ahead}
 use Rattle.enforcer.proofs.pass.allowed.Statement.{statement}
 use Rattle.enforcer.proofs.pass.allowed.Tie as tie
 

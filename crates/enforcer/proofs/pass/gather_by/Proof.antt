@@ -5,7 +5,7 @@ use borrow.Author.Needs.{needs}
 use denote.Ref.{now}
 use Rattle.policy.specs.Rules.{stopped, looked}
 use Rattle.policy.specs.File.{policyOf, ruleFrom}
-use Rattle.enforcer.specs.Code.{place}
+use Rattle.enforcer.specs.State.{place}
 use Rattle.enforcer.specs.Laid.{laid-limits}
 use Rattle.enforcer.specs.Pass.{Parts, parts-so, parted-bounds, gathers-not, gathers-led}
 use Rattle.enforcer.proofs.WayLaws.{rule-seen}

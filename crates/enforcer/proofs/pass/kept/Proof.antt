@@ -5,7 +5,7 @@ use Prim.Native.Nat.{ℕ}
 use borrow.Author.Needs.{needs}
 use denote.Ref.{now}
 use Rattle.policy.specs.File.{policyOf, ruleFrom}
-use Rattle.enforcer.specs.Code.{place}
+use Rattle.enforcer.specs.State.{place}
 use Rattle.enforcer.specs.Ways.{leads}
 use Rattle.enforcer.proofs.pass.kept.Statement.{statement}
 use Rattle.enforcer.proofs.pass.kept.Tie as tie

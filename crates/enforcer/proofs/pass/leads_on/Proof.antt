@@ -6,13 +6,14 @@ use lib.ListN.{length, replicate}
 use lib.Pow.{pow-pos}
 use borrow.Author.Needs.{needs}
 use denote.Ref.{now}
-use Rattle.streams.specs.Choose.{any-has}
+use Rattle.streams.specs.ChooseLaws.{any-has}
 use Rattle.policy.specs.Rules.{inputValues, outputValues}
 use Rattle.policy.specs.File.{rulesFrom, policyOf}
 use Rattle.enforcer.specs.Tick.{mayStand}
-use Rattle.enforcer.specs.Code.{place}
+use Rattle.enforcer.specs.State.{place}
 use Rattle.enforcer.specs.Laid.{laid-limits, laid-well, laid-inputs, laid-outputs}
-use Rattle.enforcer.specs.Pass.{Ahead, Gathering, went-as, gathering-start, gathering-on, gathering-found, gathering-nothing, own-here, own-ahead, laid-short, ahead-first, ahead-rule, ahead-rest, none-ahead}
+use Rattle.enforcer.specs.Pass.{Gathering, went-as, gathering-start, gathering-on, gathering-found, gathering-nothing}
+use Rattle.enforcer.specs.RuleAhead.{Ahead, own-here, own-ahead, laid-short, ahead-first, ahead-rule, ahead-rest, none-ahead}
 use Rattle.enforcer.proofs.pass.leads_on.Statement.{statement}
 use Rattle.enforcer.proofs.pass.leads_on.Tie as tie
 

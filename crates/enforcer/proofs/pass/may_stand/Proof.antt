@@ -2,10 +2,10 @@
 use mathlib.Core.Path.{sym, _∙_}
 use lib.Pow.{pow-pos}
 use borrow.Author.Needs.{needs}
-use Rattle.streams.specs.Choose.{any-has}
+use Rattle.streams.specs.ChooseLaws.{any-has}
 use Rattle.enforcer.specs.Tick.{mayStand}
 use Rattle.enforcer.specs.Laid.{laid-well}
-use Rattle.enforcer.specs.Ways.{row-stands}
+use Rattle.enforcer.specs.WaysLaws.{row-stands}
 use Rattle.enforcer.proofs.pass.may_stand.Statement.{statement}
 use Rattle.enforcer.proofs.pass.may_stand.Tie as tie
 

@@ -9,7 +9,7 @@ use borrow.Author.Needs.{needs}
 use denote.Ref.{now}
 use Rattle.policy.specs.File.{policyOf, ruleFrom}
 use Rattle.policy.specs.Number.{numberFrom}
-use Rattle.enforcer.specs.Code.{place}
+use Rattle.enforcer.specs.State.{place}
 use Rattle.enforcer.specs.Laid.{Numbered, laid-well}
 use Rattle.enforcer.specs.Ways.{leads}
 use Rattle.enforcer.proofs.WayLaws.{leads-violation, leads-next}

@@ -6,10 +6,11 @@ use borrow.Author.Needs.{needs}
 use denote.Ref.{now}
 use Rattle.policy.specs.Rules.{outputValues}
 use Rattle.policy.specs.File.{rulesFrom, policyOf}
-use Rattle.enforcer.specs.Code.{place}
+use Rattle.enforcer.specs.State.{place}
 use Rattle.enforcer.specs.Laid.{laid-limits, laid-well, laid-outputs}
 use Rattle.choice.specs.Sets.{allBelow}
-use Rattle.enforcer.specs.Pass.{Ahead, Rowing, rowing-start, rowing-more, rowing-done, own-here, own-ahead, laid-short, ahead-first, ahead-rule, ahead-rest, none-ahead}
+use Rattle.enforcer.specs.Pass.{Rowing, rowing-start, rowing-more, rowing-done}
+use Rattle.enforcer.specs.RuleAhead.{Ahead, own-here, own-ahead, laid-short, ahead-first, ahead-rule, ahead-rest, none-ahead}
 use Rattle.enforcer.proofs.pass.row.Statement.{statement}
 use Rattle.enforcer.proofs.pass.row.Tie as tie
 

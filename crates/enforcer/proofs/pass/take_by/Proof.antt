@@ -1,5 +1,4 @@
 -- `enforcer::pass::take_by` meets its contract: a rule that takes nothing leaves all as it is, and else the part says what it takes.
-use borrow.Author.Needs.{needs}
 use borrow.Author.Tests.{not-true, not-false}
 use Rattle.enforcer.specs.Pass.{took-not, took-so}
 use Rattle.enforcer.proofs.pass.take_by.Statement.{statement}

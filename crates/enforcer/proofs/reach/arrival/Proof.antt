@@ -7,7 +7,8 @@ use Rattle.policy.specs.Rules.{stopped, step}
 use Rattle.policy.specs.File.{policyOf}
 use Rattle.policy.specs.Number.{numberFrom}
 use Rattle.enforcer.specs.Tick.{reaches}
-use Rattle.enforcer.specs.Code.{eventXY, place, stepFrom}
+use Rattle.enforcer.specs.Code.{eventXY, stepFrom}
+use Rattle.enforcer.specs.State.{place}
 use Rattle.enforcer.specs.Arrived.{arrival, arrival-never}
 use Rattle.enforcer.specs.Laid.{Numbered, laid-limits, laid-well, reaches-next}
 use Rattle.enforcer.proofs.DecidedLaws.{decided-step}

@@ -1,7 +1,7 @@
 -- `enforcer::reach::here_by` meets its contract: of the four clocks that go on those of the policy are looked at.
 use mathlib.Core.Path.{ap, _∙_}
 use borrow.Author.Needs.{needs}
-use Rattle.enforcer.specs.Code.{place}
+use Rattle.enforcer.specs.State.{place}
 use Rattle.enforcer.specs.Laid.{laid-seen}
 use Rattle.enforcer.proofs.reach.here_by.Statement.{statement}
 use Rattle.enforcer.proofs.reach.here_by.Tie as tie

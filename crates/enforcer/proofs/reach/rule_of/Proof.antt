@@ -8,7 +8,8 @@ use denote.Ref.{now}
 use borrow.Author.Needs.{needs}
 use Rattle.policy.specs.Rules.{Place}
 use Rattle.policy.specs.File.{part, ruleSize, rulesFrom}
-use Rattle.enforcer.specs.Code.{eventXY, place, decider, foundSaid}
+use Rattle.enforcer.specs.Code.{eventXY, decider, foundSaid}
+use Rattle.enforcer.specs.State.{place}
 use Rattle.enforcer.specs.Laid.{laid-limits, own-fits, own-level}
 use Rattle.enforcer.specs.Decider.{decider-lt}
 use Rattle.enforcer.proofs.DecidedLaws.{decided-none, decided-rule}

@@ -1,20 +1,16 @@
 -- `enforcer::runs::run` meets its contract: at each return the refusals before it are none.
 use mathlib.Core.Path.{_≡_, sym, _∙_}
 use mathlib.Core.List.{append-nil}
-use Prim.Native.Nat.{_≤_}
 use native.Mathlib.Omega.{arith}
 use lib.ListN.{length}
 use denote.Ref.{now}
 use borrow.Author.Needs.{needs}
 use borrow.Author.Tests.{le-leb, lt-leb, not-true, not-false}
-use Rattle.streams.specs.Answer.{unless, first-refused}
-use Rattle.policy.specs.File.{policyOf}
-use Rattle.policy.specs.Number.{states}
+use Rattle.streams.specs.Answer.{unless}
+use Rattle.streams.specs.AnswerLaws.{first-refused}
 use Rattle.policy.specs.Check.{all}
 use Rattle.policy.specs.declared.Layout.{Layout}
 use Rattle.enforcer.specs.Entries.{eventGood, marksRefusal, stateRefusal, runRefusal, runOf}
-use Rattle.enforcer.specs.Code.{asPlace}
-use Rattle.enforcer.specs.Ready.{Laid}
 use Rattle.enforcer.specs.Laid.{laid-place, laid-sections}
 use Rattle.enforcer.specs.States.{state-granted, Granted, marks-by, granted-laid, granted-standing}
 use Rattle.enforcer.proofs.RunLaws.{good-back, run-past, run-refused}
@@ -47,12 +43,12 @@ laid c = granted-laid _ (c .before .before .check-under .ensures) (none1 c)
 -- No 16, and only 15 is left to ask.
 none3 : (c : tie.Else3) →
     let a = start (c .before .before .before .before) .args in
-    stateRefusal (laidOut (c .before .before .before .before) .reading) (now (a .file)) (now (a .marks)) (asPlace (a .state)) ≡ 0
+    stateRefusal (laidOut (c .before .before .before .before) .reading) (now (a .file)) (now (a .marks)) (a .state) ≡ 0
 none3 c = sym (c .before .state-refusal .ensures) ∙ c .if3 .left
 
 past : (c : tie.Else3) →
     let a = start (c .before .before .before .before) .args in
-    runRefusal (a .reading) (now (a .file)) (now (a .marks)) (asPlace (a .state)) (now (a .events)) (now (a .out))
+    runRefusal (a .reading) (now (a .file)) (now (a .marks)) (a .state) (now (a .events)) (now (a .out))
     ≡ unless (all (eventGood (laidOut (c .before .before .before .before) .reading) (now (a .file))) (now (a .events))) 15
 past c =
     let l = c .before .before .before in

@@ -1,11 +1,10 @@
 -- `index::entry::entry_at` meets its contract: past the rules of lower locations the location's own come first.
 use mathlib.Core.Path.{_≡_, sym, _∙_}
-use Prim.Native.Nat.{_+_, _-_, _*_, _≤_, _<_}
+use Prim.Native.Nat.{_+_, _-_}
 use native.Mathlib.Nat.{add-mul}
 use native.Mathlib.Omega.{arith}
 use lib.ListN.{length-take, length-drop}
 use denote.Ref.{now}
-use borrow.Author.Needs.{needs}
 use borrow.Author.Tests.{le-ltb}
 use Rattle.policy.specs.File.{ruleSize}
 use Rattle.index.specs.Index.{entryOf}

@@ -6,7 +6,7 @@ use denote.Ref.{now}
 use borrow.Author.Needs.{needs}
 use Rattle.join.specs.Entry.{said}
 use Rattle.join.specs.Join.{leftBelow}
-use Rattle.join.specs.Lay.{Laid}
+use Rattle.join.specs.Lay.{LaidAt}
 use Rattle.join.specs.Laying.{laid-none, laid-more, laid-as, laid-length}
 use Rattle.join.proofs.RuleLaws.{left-none, left-more}
 use Rattle.join.proofs.FileLaws.{few}
@@ -15,7 +15,7 @@ use Rattle.join.proofs.counts.lay_left.Tie as tie
 
 abbrev Inv-loop : tie.InvT-loop
 Inv-loop a x b y out₀ at locations next₀ location₀ out next location =
-    (location ≤ x .locations * y .locations) × (next ≡ at + location) × Laid (leftBelow (said a) (said b) location) out₀ at out next
+    (location ≤ x .locations * y .locations) × (next ≡ at + location) × LaidAt (leftBelow (said a) (said b) location) out₀ at out next
 
 abbrev μ-loop : tie.MeasureT-loop
 μ-loop a x b y out₀ at locations next₀ location₀ out next location = x .locations * y .locations - location

@@ -4,13 +4,13 @@ use Prim.Native.Nat.{_+_, _-_, _≤_}
 use native.Mathlib.Omega.{arith}
 use borrow.Author.Needs.{needs}
 use Rattle.join.specs.Lay.{bytesFrom}
-use Rattle.join.specs.Laying.{Left, left-start, left-same, left-turn, left-end, left-length, bytes-start, bytes-turn, bytes-end}
+use Rattle.join.specs.Laying.{LeftToLay, left-start, left-same, left-turn, left-end, left-length, bytes-start, bytes-turn, bytes-end}
 use Rattle.join.proofs.lay.copy.Statement.{statement}
 use Rattle.join.proofs.lay.copy.Tie as tie
 
 abbrev Inv-loop : tie.InvT-loop
 Inv-loop from start n out₀ at next₀ i₀ out next i =
-    (i ≤ n) × (next ≡ at + i) × Left (bytesFrom from start n) (bytesFrom from (start + i) (n - i)) out₀ at out next
+    (i ≤ n) × (next ≡ at + i) × LeftToLay (bytesFrom from start n) (bytesFrom from (start + i) (n - i)) out₀ at out next
 
 abbrev μ-loop : tie.MeasureT-loop
 μ-loop from start n out₀ at next₀ i₀ out next i = n - i

@@ -5,14 +5,14 @@ use native.Mathlib.Omega.{arith}
 use lib.Bits.{or-lt}
 use borrow.Author.Needs.{needs}
 use Rattle.join.specs.Lay.{eitherFrom}
-use Rattle.join.specs.Laying.{Left, left-start, left-same, left-turn, left-end, left-length}
+use Rattle.join.specs.Laying.{LeftToLay, left-start, left-same, left-turn, left-end, left-length}
 use Rattle.join.proofs.Laws.{either-start, either-turn, either-end}
 use Rattle.join.proofs.lay.put_either.Statement.{statement}
 use Rattle.join.proofs.lay.put_either.Tie as tie
 
 abbrev Inv-loop : tie.InvT-loop
 Inv-loop a p b q n out₀ at next₀ i₀ out next i =
-    (i ≤ n) × (next ≡ at + i) × Left (eitherFrom a p b q n) (eitherFrom a (p + i) b (q + i) (n - i)) out₀ at out next
+    (i ≤ n) × (next ≡ at + i) × LeftToLay (eitherFrom a p b q n) (eitherFrom a (p + i) b (q + i) (n - i)) out₀ at out next
 
 abbrev μ-loop : tie.MeasureT-loop
 μ-loop a p b q n out₀ at next₀ i₀ out next i = n - i

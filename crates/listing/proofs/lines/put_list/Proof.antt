@@ -6,8 +6,8 @@ use native.Mathlib.Omega.{arith}
 use lib.ListN.{length, drop, getD}
 use denote.Ref.{now}
 use borrow.Author.Needs.{needs}
-use Rattle.policy.specs.File.{pairAt}
-use Rattle.texts.specs.Wrote.{Wrote, wrote-none, wrote-then}
+use Rattle.texts.specs.Wrote.{Wrote}
+use Rattle.texts.specs.WroteLaws.{wrote-none, wrote-then}
 use Rattle.listing.specs.Listed.{entryLine, bytesLines}
 use Rattle.listing.specs.Ways.{line-short, lines-step, lines-end}
 use Rattle.listing.proofs.lines.put_list.Statement.{statement}

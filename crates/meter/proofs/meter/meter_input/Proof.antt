@@ -6,7 +6,6 @@ use lib.ListN.{length}
 use denote.Ref.{now}
 use borrow.Author.Tests.{eq-eqb, ne-eqb}
 use Rattle.streams.specs.Answer.{refused}
-use Rattle.policy.specs.Rules.{Place}
 use Rattle.policy.specs.File.{byteAt}
 use Rattle.enforcer.specs.Entries.{inputOf}
 use Rattle.meter.specs.Meter.{withPulse}
@@ -17,6 +16,7 @@ use Rattle.meter.specs.declared.signals.Signals.{Signals}
 use borrow.Author.Needs.{needs}
 use Rattle.meter.proofs.meter.meter_input.Statement.{statement}
 use Rattle.meter.proofs.meter.meter_input.Tie as tie
+use Rattle.enforcer.specs.declared.state.State.{State}
 
 signals-of-requires : tie.Need-signals-of-requires
 signals-of-requires c κs = search needs
@@ -96,7 +96,7 @@ returns-4 c =
     record {
       said =
           c .input-half .ensures .said
-          ∙ ap₂ (λ (s : Place) (z : ℕ). inputOf (a .reading) (now (a .file)) (now (a .marks)) s z) (c .before .station-state .ensures) x
+          ∙ ap₂ (λ (s : State) (z : ℕ). inputOf (a .reading) (now (a .file)) (now (a .marks)) s z) (c .before .station-state .ensures) x
           ∙ sym (input-there (a .reading) (now (a .file)) (now (a .marks)) (now (a .station)) (k .0) (k .1) (a .register) (a .x)
           (eq-eqb (length (now (a .station))) 6 (c .before .before .before .before .before .if3 .left)));
     }

@@ -3,7 +3,6 @@ use mathlib.Core.Path.{ap, _∙_}
 use lib.ListN.{length}
 use denote.Ref.{now}
 use borrow.Author.Tests.{eq-eqb, ne-eqb}
-use Rattle.enforcer.specs.Code.{asPlace}
 use Rattle.enforcer.specs.declared.state.State.{State}
 use Rattle.meter.specs.Meter.{stationWords}
 use Rattle.meter.specs.Entries.{newRefusal, newStation, newTotals}
@@ -46,7 +45,7 @@ returns-3 c =
     let g = eq-eqb (length (now (a .totals))) 2 (c .before .before .before .before .before .before .before .before .before .if2 .left) in
     record {
       said = rw (e, g);
-      placed = rw (e, g) (c .before .before .before .before .before .before .put-station .ensures ∙ ap (λ (s : State). stationWords (asPlace s) (a .register)) (c .before .before .before .before .before .before .before .start .ensures));
+      placed = rw (e, g) (c .before .before .before .before .before .before .put-station .ensures ∙ ap (λ (s : State). stationWords s (a .register)) (c .before .before .before .before .before .before .before .start .ensures));
       cleared = rw (e, g) (c .before .before .clear-totals .ensures);
     }
 

@@ -1,16 +1,15 @@
 -- `meter::meter::release` meets its contract: what follows from what the output half answers.
 use mathlib.Core.Path.{_≡_, sym, ap, _∙_}
 use denote.Ref.{now}
-use Rattle.policy.specs.Rules.{Place}
 use Rattle.enforcer.specs.Entries.{OutputAnswer, outputOf}
-use Rattle.enforcer.specs.Code.{asPlace}
 use Rattle.enforcer.specs.Promises.{answerSaid, outputSaid}
-use Rattle.enforcer.specs.declared.halves.Answer.{Answer}
+use Rattle.enforcer.specs.declared.halves.HalfAnswer.{HalfAnswer}
 use Rattle.meter.specs.Meter.{stationState}
 use Rattle.meter.specs.Entries.{metered}
 use borrow.Author.Needs.{needs}
 use Rattle.meter.proofs.meter.release.Statement.{statement}
 use Rattle.meter.proofs.meter.release.Tie as tie
+use Rattle.enforcer.specs.declared.state.State.{State}
 
 station-state-requires : tie.Need-station-state-requires
 station-state-requires c κs = search needs
@@ -25,17 +24,17 @@ given : (c : tie.After-output) →
 given c =
     let a = c .before .before .before .before .before .before .before .args in
     c .output .ensures .said
-    ∙ ap (λ (s : Place). outputOf (a .reading) (now (a .file)) (now (a .marks)) s (a .x) (a .y)) (c .before .station-state .ensures)
+    ∙ ap (λ (s : State). outputOf (a .reading) (now (a .file)) (now (a .marks)) s (a .x) (a .y)) (c .before .station-state .ensures)
 
 -- What follows from the answer that the code has, follows from it.
-follows : (c : tie.After-output) {z : Answer} → c .output .result .answer ≡ z →
+follows : (c : tie.After-output) {z : HalfAnswer} → c .output .result .answer ≡ z →
     let a = c .before .before .before .before .before .before .before .args in
     let o = outputOf (a .reading) (now (a .file)) (now (a .marks)) (stationState (now (a .station))) (a .x) (a .y) in
-    metered (now (a .station)) (now (a .totals)) (a .register) (a .weight) (asPlace (c .output .result .state)) (answerSaid z)
+    metered (now (a .station)) (now (a .totals)) (a .register) (a .weight) (c .output .result .state) (answerSaid z)
     ≡ metered (now (a .station)) (now (a .totals)) (a .register) (a .weight) (o .state) (o .answer)
 follows c e =
     let a = c .before .before .before .before .before .before .before .args in
-    ap (λ (z : Answer). metered (now (a .station)) (now (a .totals)) (a .register) (a .weight) (asPlace (c .output .result .state)) (answerSaid z)) (sym e)
+    ap (λ (z : HalfAnswer). metered (now (a .station)) (now (a .totals)) (a .register) (a .weight) (c .output .result .state) (answerSaid z)) (sym e)
     ∙ ap (λ (o : OutputAnswer). metered (now (a .station)) (now (a .totals)) (a .register) (a .weight) (o .state) (o .answer)) (given c)
 
 enum-known-answer : tie.Need-enum-known-answer

@@ -1,9 +1,9 @@
 -- `meter::signals::no_signals` meets its contract: 22 and 1 to 9 come first, then 26.
 use mathlib.Core.Path.{_≡_, sym, ap, _∙_}
 use denote.Ref.{now}
-use Rattle.streams.specs.Answer.{first-refused, next-refused}
+use Rattle.streams.specs.AnswerLaws.{first-refused, next-refused}
 use Rattle.policy.specs.Check.{refusalUnder}
-use Rattle.policy.specs.Layout.{under-says}
+use Rattle.policy.specs.LayoutLaws.{under-says}
 use Rattle.policy.specs.declared.Checked.{Checked}
 use borrow.Author.Needs.{needs}
 use Rattle.meter.proofs.signals.no_signals.Statement.{statement}

@@ -5,7 +5,6 @@ use Prim.Native.Nat.{ℕ}
 use native.Mathlib.Omega.{arith}
 use lib.ListN.{length, set, drop, length-set, length-append}
 use denote.Ref.{now}
-use Rattle.enforcer.specs.Code.{asPlace}
 use Rattle.meter.specs.Meter.{stationWords}
 use lib.Seq.{length-take-le}
 use borrow.Author.Needs.{needs}
@@ -31,7 +30,7 @@ put-state-requires c κs =
 
 stored : (c : tie.After-put-state) →
     let a = c .before .before .before .args in
-    c .put-state .last .0 ++ drop 5 (set (now (a .station)) 5 (a .register)) ≡ stationWords (asPlace (a .next)) (a .register)
+    c .put-state .last .0 ++ drop 5 (set (now (a .station)) 5 (a .register)) ≡ stationWords (a .next) (a .register)
 stored c =
     let s = c .before .before .before in
     ap₂ {C = List ℕ} _++_ (c .put-state .ensures) (sixth (now (s .args .station)) (s .args .register) (s .pre))

@@ -11,7 +11,7 @@ use Rattle.streams.specs.Answer.{_orElse_}
 use Rattle.policy.specs.File.{byteAt, ruleSize, rulesFrom}
 use Rattle.policy.specs.Check.{rulesRefusal}
 use Rattle.policy.specs.declared.rules.Shape.{Shape}
-use Rattle.streams.specs.Answer.{first-refused, next-refused}
+use Rattle.streams.specs.AnswerLaws.{first-refused, next-refused}
 use Rattle.policy.proofs.RuleLaws.{rules-turn}
 use Rattle.policy.proofs.rules.rules_refusal.Statement.{statement}
 use Rattle.policy.proofs.rules.rules_refusal.Tie as tie

@@ -9,7 +9,7 @@ use borrow.Author.Needs.{needs}
 use Rattle.policy.specs.File.{locationsAt, locationCount, locationBytes}
 use Rattle.policy.specs.Check.{all, locationGood, sectionRefusal, locationsRefusal}
 use Rattle.policy.specs.Checked.{section-fits}
-use Rattle.streams.specs.Answer.{first-refused}
+use Rattle.streams.specs.AnswerLaws.{first-refused}
 use Rattle.policy.proofs.sections.locations_refusal.Statement.{statement}
 use Rattle.policy.proofs.sections.locations_refusal.Tie as tie
 

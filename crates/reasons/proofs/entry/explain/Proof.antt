@@ -4,7 +4,6 @@ use native.Mathlib.Omega.{arith}
 use lib.Seq.{length-take-le}
 use denote.Ref.{now}
 use Rattle.policy.specs.Number.{states}
-use Rattle.enforcer.specs.Code.{asPlace}
 use Rattle.enforcer.specs.Laid.{laid-well}
 use Rattle.enforcer.specs.States.{Granted, granted-laid}
 use Rattle.reasons.specs.Granted.{Allowed, allowed, answers-refused, answers-given, at-standing, at-prepared, at-live, at-x, at-y, at-told, at-counts}
@@ -13,7 +12,7 @@ use Rattle.reasons.proofs.entry.explain.Statement.{statement}
 use Rattle.reasons.proofs.entry.explain.Tie as tie
 
 -- Nothing is refused: the layout is the file's, and the halves may be asked.
-may : (c : tie.Else1) → let a = c .before .before .before .before .before .before .before .before .before .before .before .before .before .args in Allowed (a .reading) (now (a .file)) (now (a .marks)) (asPlace (a .state)) (a .x) (a .y)
+may : (c : tie.Else1) → let a = c .before .before .before .before .before .before .before .before .before .before .before .before .before .args in Allowed (a .reading) (now (a .file)) (now (a .marks)) (a .state) (a .x) (a .y)
 may c = allowed _ _ _ _ _ _ (sym (c .before .before .before .before .before .refusal .ensures .is) ∙ c .if1 .left)
 
 laid : (c : tie.Else1) → let a = c .before .before .before .before .before .before .before .before .before .before .before .before .before .args in Granted (a .reading) (now (a .file)) (now (a .marks)) (c .before .before .before .before .before .before .before .before .check-under .result .layout)

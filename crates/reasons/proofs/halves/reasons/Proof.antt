@@ -4,7 +4,7 @@ use Prim.Native.Nat.{ℕ}
 use denote.Ref.{now}
 use Rattle.streams.specs.Answer.{Answer}
 use Rattle.policy.specs.File.{policyOf}
-use Rattle.enforcer.specs.Code.{asPlace, place}
+use Rattle.enforcer.specs.State.{place}
 use Rattle.enforcer.specs.Laid.{laid-well}
 use Rattle.enforcer.specs.Entries.{OutputAnswer}
 use Rattle.reasons.specs.Edited.{input-answer, output-answer}
@@ -36,7 +36,7 @@ is-released c =
     c .value-or2 .ensures
     ∙ ap (λ (a : Answer ℕ). valueOr a (s .args .y))
     (ap (λ (o : OutputAnswer). o .answer) (rw (is-passed (c .before .before)) at (c .before .output-by .ensures))
-    ∙ output-answer _ _ _ _ (asPlace (s .args .state)) z (s .args .y) (passed-in _ (laid-well (h .laid)) _ (s .pre .0 .1) _ (h .inside) (s .pre .0 .2) (s .args .x) (s .args .y)) (s .pre .1 .2)
+    ∙ output-answer _ _ _ _ (s .args .state) z (s .args .y) (passed-in _ (laid-well (h .laid)) _ (s .pre .0 .1) _ (h .inside) (s .pre .0 .2) (s .args .x) (s .args .y)) (s .pre .1 .2)
     (released _ (laid-well (h .laid)) _ (s .pre .0 .1) _ (h .inside) (s .pre .0 .2) (s .args .x) (s .args .y) .1))
 
 own-of-requires : tie.Need-own-of-requires

@@ -8,7 +8,6 @@ use lib.Seq.{length-take-le}
 use denote.Ref.{now}
 use Rattle.policy.specs.Rules.{inputValues, outputValues}
 use Rattle.policy.specs.File.{policyOf}
-use Rattle.enforcer.specs.Code.{asPlace}
 use Rattle.enforcer.specs.Entries.{marksRefusal, stateRefusal}
 use Rattle.enforcer.specs.Laid.{laid-limits, laid-inputs, laid-outputs}
 use Rattle.enforcer.specs.States.{Granted, marks-by, granted-laid}
@@ -30,12 +29,12 @@ laid : (c : tie.Else1) → let a = c .before .before .before .before .before .be
 laid c = granted-laid _ (c .before .before .before .before .before .before .pre .0) (passed c)
 
 -- What it finds next is 16.
-stated : (c : tie.After-state-refusal) → let a = c .before .before .before .before .before .before .before .before .args in c .state-refusal .result ≡ stateRefusal (a .reading) (now (a .file)) (now (a .marks)) (asPlace (a .state))
+stated : (c : tie.After-state-refusal) → let a = c .before .before .before .before .before .before .before .before .args in c .state-refusal .result ≡ stateRefusal (a .reading) (now (a .file)) (now (a .marks)) (a .state)
 stated c =
     let a = c .before .before .before .before .before .before .before .before .args in
-    c .state-refusal .ensures ∙ ap (λ (n : ℕ). stateRefusal n (now (a .file)) (now (a .marks)) (asPlace (a .state))) (laid (c .before .before) .named)
+    c .state-refusal .ensures ∙ ap (λ (n : ℕ). stateRefusal n (now (a .file)) (now (a .marks)) (a .state)) (laid (c .before .before) .named)
 
-state-none : (c : tie.Else2) → let a = c .before .before .before .before .before .before .before .before .before .args in stateRefusal (a .reading) (now (a .file)) (now (a .marks)) (asPlace (a .state)) ≡ 0
+state-none : (c : tie.Else2) → let a = c .before .before .before .before .before .before .before .before .before .args in stateRefusal (a .reading) (now (a .file)) (now (a .marks)) (a .state) ≡ 0
 state-none c = sym (stated (c .before)) ∙ c .if2 .left
 
 -- Whether the marks are others than those of prepare, and what the tables begin with.

@@ -7,7 +7,7 @@ use lib.Pow.{pow-pos}
 use denote.Ref.{now}
 use Rattle.policy.specs.Rules.{outputValues}
 use Rattle.policy.specs.File.{policyOf}
-use Rattle.enforcer.specs.Code.{place}
+use Rattle.enforcer.specs.State.{place}
 use Rattle.enforcer.specs.Laid.{laid-limits, laid-outputs}
 use Rattle.reasons.specs.Said.{ToldIn, told-first, told-more}
 use Rattle.reasons.specs.Promise.{reasonSaid}

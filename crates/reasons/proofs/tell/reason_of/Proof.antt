@@ -10,9 +10,11 @@ use borrow.Author.Tests.{not-true, not-false}
 use Rattle.policy.specs.Rules.{stopped, looked, decides}
 use Rattle.policy.specs.File.{policyOf, ruleSize, ruleFrom}
 use Rattle.policy.specs.Own.{own}
-use Rattle.enforcer.specs.Code.{eventXY, place, decider, foundSaid}
+use Rattle.enforcer.specs.Code.{eventXY, decider, foundSaid}
+use Rattle.enforcer.specs.State.{place}
 use Rattle.enforcer.specs.Laid.{laid-well, laid-limits, own-fits}
-use Rattle.enforcer.specs.Pass.{Led, laid-short}
+use Rattle.enforcer.specs.Pass.{Led}
+use Rattle.enforcer.specs.RuleAhead.{laid-short}
 use Rattle.reasons.specs.Said.{told-none, told-rule, told-counted, led-dead, led-as}
 use Rattle.reasons.proofs.Laws.{found-rule, found-none, rule-there, rule-number, rule-few}
 use borrow.Author.Needs.{needs}

@@ -1,7 +1,7 @@
 -- `telling::lines::put_plain` meets its contract: the half, then the words.
 use native.Mathlib.Omega.{arith}
 use borrow.Author.Needs.{needs}
-use Rattle.texts.specs.Wrote.{wrote-then}
+use Rattle.texts.specs.WroteLaws.{wrote-then}
 use Rattle.telling.proofs.lines.put_plain.Statement.{statement}
 use Rattle.telling.proofs.lines.put_plain.Tie as tie
 

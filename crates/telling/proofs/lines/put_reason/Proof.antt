@@ -7,7 +7,7 @@ use lib.ListN.{length, length-append}
 use denote.Ref.{now}
 use borrow.Author.Needs.{needs}
 use Rattle.policy.specs.File.{ruleCount, policyOf}
-use Rattle.texts.specs.Wrote.{wrote-none}
+use Rattle.texts.specs.WroteLaws.{wrote-none}
 use Rattle.reasons.specs.Promise.{reasonSaid}
 use Rattle.reasons.specs.declared.reason.Reason.{Reason}
 use Rattle.telling.specs.Text.{ruleWords, ticksWords, restsWords, Named, reasonLine}

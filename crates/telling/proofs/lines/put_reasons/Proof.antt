@@ -2,7 +2,7 @@
 use native.Mathlib.Omega.{arith}
 use borrow.Author.Needs.{needs}
 use Rattle.texts.specs.Text.{ascii}
-use Rattle.texts.specs.Wrote.{wrote-then}
+use Rattle.texts.specs.WroteLaws.{wrote-then}
 use Rattle.reasons.specs.Promise.{reasonSaid}
 use Rattle.telling.specs.Text.{reasonLines}
 use Rattle.telling.specs.Named.{line-short}

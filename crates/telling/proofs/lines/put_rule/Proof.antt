@@ -4,7 +4,7 @@ use denote.Ref.{now}
 use borrow.Author.Needs.{needs}
 use Rattle.policy.specs.File.{policyOf}
 use Rattle.texts.specs.Text.{ascii, decimal}
-use Rattle.texts.specs.Wrote.{wrote-then}
+use Rattle.texts.specs.WroteLaws.{wrote-then}
 use Rattle.asks.specs.Turns.{three-length}
 use Rattle.telling.specs.Text.{ruleWords, rule-length}
 use Rattle.telling.proofs.lines.put_rule.Statement.{statement}

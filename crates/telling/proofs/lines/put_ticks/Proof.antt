@@ -4,7 +4,7 @@ use native.Mathlib.Omega.{arith}
 use lib.ListN.{length}
 use borrow.Author.Needs.{needs}
 use Rattle.texts.specs.Text.{ascii, decimal}
-use Rattle.texts.specs.Wrote.{wrote-then}
+use Rattle.texts.specs.WroteLaws.{wrote-then}
 use Rattle.asks.specs.Turns.{three-length}
 use Rattle.telling.specs.Text.{ticks-one, ticks-more}
 use Rattle.telling.proofs.lines.put_ticks.Statement.{statement}

@@ -11,10 +11,9 @@ use Rattle.policy.specs.File.{pairAt, policyOf}
 use Rattle.enforcer.specs.Code.{startState}
 use Rattle.enforcer.specs.Promises.{RunPromise}
 use Rattle.enforcer.specs.declared.state.State.{State}
-use Rattle.prepare.specs.Promise.{summarySaid}
 use Rattle.console.specs.Frame.{policyEnd, eventsStart, eventsEnd, eventsPart, eventsFrameRefusal}
 use Rattle.console.specs.Framed.{part-between, events-fit}
-use Rattle.texts.specs.Wrote.{wrote-then}
+use Rattle.texts.specs.WroteLaws.{wrote-then}
 use Rattle.console.specs.Reply.{replied}
 use Rattle.console.specs.Text.{refusedLine, verdictLine}
 use Rattle.telling.specs.Told.{Told}
@@ -39,7 +38,7 @@ returns c =
     let s = f .before .before .before .before .before .before .before .before in
     record {
       text = refusedLine (f .events-frame .result .refusal);
-      said = events-refused (now (s .args .input)) (summarySaid (s .args .summary)) (ap (λ (p : Part). p .refusal) (f .events-frame .ensures)) (i .if1 .taken);
+      said = events-refused (now (s .args .input)) (s .args .summary) (ap (λ (p : Part). p .refusal) (f .events-frame .ensures)) (i .if1 .taken);
       replied = replied (c .before .before .put-refused .ensures) (c .before .before .put-refused .kept .0);
     }
 
@@ -126,7 +125,7 @@ returns-2 c =
     let s = start (place r) in
     record {
       text = refusedLine (r .run .result .refusal);
-      said = run-refused (input (place r)) (summarySaid (s .args .summary)) (s .pre .0) (passed (place r)) _ (room r) (ran r) (i .if2 .taken);
+      said = run-refused (input (place r)) (s .args .summary) (s .pre .0) (passed (place r)) _ (room r) (ran r) (i .if2 .taken);
       replied = replied (c .before .before .put-refused2 .ensures) (c .before .before .put-refused2 .kept .0);
     }
 
@@ -167,7 +166,7 @@ returns-3 c =
     let told = subst (Ticks (place r) (w .bytes)) (events-are (place r)) (w .told) in
     record {
       text = verdictLine (s .args .summary .verdict) (s .args .summary .states) (s .args .summary .live) ++ w .bytes;
-      said = run-told (input (place r)) (summarySaid (s .args .summary)) (s .pre .0) (passed (place r)) _ (room r) (ran r) (i .if2 .left) told;
+      said = run-told (input (place r)) (s .args .summary) (s .pre .0) (passed (place r)) _ (room r) (ran r) (i .if2 .left) told;
       replied = replied (wrote-then zero-le (v .put-verdict .ensures .0) (w .wrote)) (t .tell-all .kept .1 .1 .1 .1 .1 .0 ∙ v .put-verdict .kept .0);
     }
 

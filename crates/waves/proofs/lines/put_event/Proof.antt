@@ -1,7 +1,7 @@
 -- `waves::lines::put_event` meets its contract.
 use native.Mathlib.Omega.{arith}
 use denote.Ref.{now}
-use Rattle.texts.specs.Wrote.{wrote-then}
+use Rattle.texts.specs.WroteLaws.{wrote-then}
 use Rattle.waves.specs.Wave.{eventLines}
 use Rattle.waves.specs.Under.{event-length}
 use borrow.Author.Needs.{needs}

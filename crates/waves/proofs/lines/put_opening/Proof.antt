@@ -1,7 +1,7 @@
 -- `waves::lines::put_opening` meets its contract: the header's parts, then time 0.
 use native.Mathlib.Omega.{arith}
 use denote.Ref.{now}
-use Rattle.texts.specs.Wrote.{wrote-then}
+use Rattle.texts.specs.WroteLaws.{wrote-then}
 use Rattle.waves.specs.Wave.{header}
 use Rattle.waves.specs.Under.{opening-length}
 use borrow.Author.Needs.{needs}

@@ -1,6 +1,6 @@
 -- `waves::lines::put_time` meets its contract.
 use native.Mathlib.Omega.{arith}
-use Rattle.texts.specs.Wrote.{wrote-then}
+use Rattle.texts.specs.WroteLaws.{wrote-then}
 use Rattle.waves.specs.Wave.{timeLine}
 use Rattle.waves.specs.Under.{time-length}
 use borrow.Author.Needs.{needs}

@@ -1,7 +1,7 @@
 use native.Mathlib.Omega.{arith}
 use borrow.Author.Needs.{needs}
 use borrow.Author.Tests.{eq-eqb, ne-eqb}
-use Rattle.texts.specs.Wrote.{wrote-none}
+use Rattle.texts.specs.WroteLaws.{wrote-none}
 use Rattle.waves.specs.Under.{shown-length}
 use Rattle.waves.proofs.lines.put_value.Statement.{statement}
 use Rattle.waves.proofs.lines.put_value.Tie as tie

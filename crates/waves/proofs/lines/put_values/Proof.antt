@@ -1,19 +1,18 @@
 -- `waves::lines::put_values` meets its contract. The invariant: the lines of the first i signals are written.
-use mathlib.Core.Path.{_≡_, refl}
 use Prim.Native.Nat.{_+_, _-_, _/_, _≤_}
 use native.Mathlib.Omega.{arith}
 use lib.ListN.{length, getD, drop}
 use denote.Ref.{now}
 use borrow.Author.Needs.{needs}
 use Rattle.waves.specs.Wave.{valueLine, valueLines}
-use Rattle.texts.specs.Under.{Under, under-start, under-room, under-more, under-all}
+use Rattle.texts.specs.Under.{LinesUnder, under-start, under-room, under-more, under-all}
 use Rattle.waves.specs.Under.{values-turn, values-end}
 use Rattle.waves.proofs.lines.put_values.Statement.{statement}
 use Rattle.waves.proofs.lines.put_values.Tie as tie
 
 abbrev Inv-loop : tie.InvT-loop
 Inv-loop text₀ at tags shown values next₀ shown-on₀ values-on₀ i₀ text next shown-on values-on i =
-    (i ≤ length tags) × Under text₀ at (valueLines tags shown values) next text (valueLines (drop i tags) shown-on values-on)
+    (i ≤ length tags) × LinesUnder text₀ at (valueLines tags shown values) next text (valueLines (drop i tags) shown-on values-on)
 
 abbrev μ-loop : tie.MeasureT-loop
 μ-loop text₀ at tags shown values next₀ shown-on₀ values-on₀ i₀ text next shown-on values-on i = length tags - i

@@ -1,19 +1,18 @@
 -- `waves::lines::put_vars` meets its contract. The invariant: the lines of the first i signals are written.
-use mathlib.Core.Path.{_≡_, refl}
 use Prim.Native.Nat.{_+_, _-_, _≤_}
 use native.Mathlib.Omega.{arith}
 use lib.ListN.{length, getD, drop}
 use denote.Ref.{now}
 use borrow.Author.Needs.{needs}
 use Rattle.waves.specs.Wave.{varLine, varLines}
-use Rattle.texts.specs.Under.{Under, under-start, under-room, under-more, under-all}
+use Rattle.texts.specs.Under.{LinesUnder, under-start, under-room, under-more, under-all}
 use Rattle.waves.specs.Under.{vars-turn, vars-end}
 use Rattle.waves.proofs.lines.put_vars.Statement.{statement}
 use Rattle.waves.proofs.lines.put_vars.Tie as tie
 
 abbrev Inv-loop : tie.InvT-loop
 Inv-loop text₀ at tags next₀ i₀ text next i =
-    (i ≤ length tags) × Under text₀ at (varLines tags) next text (varLines (drop i tags))
+    (i ≤ length tags) × LinesUnder text₀ at (varLines tags) next text (varLines (drop i tags))
 
 abbrev μ-loop : tie.MeasureT-loop
 μ-loop text₀ at tags next₀ i₀ text next i = length tags - i

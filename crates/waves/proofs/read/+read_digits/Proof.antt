@@ -1,12 +1,11 @@
 -- `waves::read::read_digits` meets its contract: one digit more, or the end of the number.
-use mathlib.Core.Path.{_≡_, refl, sym, ap, _∙_}
+use mathlib.Core.Path.{sym, ap, _∙_}
 use Prim.Native.Nat.{_-_}
 use native.Mathlib.Omega.{arith}
 use lib.ListN.{length, getD}
 use denote.Ref.{now}
-use borrow.Author.Needs.{needs}
 use Rattle.waves.specs.Read.{goes-true, digits-on, digits-stop, digits-end}
-use Rattle.waves.specs.Times.{Number}
+use Rattle.waves.specs.Times.{NumberThere}
 use Prim.Native.Nat.{ℕ, _<_}
 use borrow.Fn.Kinds.{In}
 use borrow.Fn.PlainCycle.{Measures, is, falls, and}
@@ -117,8 +116,8 @@ read-digits-returns t c =
     let r = c .read-digits .ensures in
     let e = digits-on (now (a .text)) (a .at) (a .v) (omega arith) (sym (i .before .goes-on .ensures) ∙ i .if2 .taken) in
     record {
-      value = r .value ∙ ap (λ (n : Number). n .value) (sym e);
-      rest = r .rest ∙ ap (λ (n : Number). n .rest) (sym e);
+      value = r .value ∙ ap (λ (n : NumberThere). n .value) (sym e);
+      rest = r .rest ∙ ap (λ (n : NumberThere). n .rest) (sym e);
       between = record { after = omega (arith, r .between .after); within = r .between .within };
     }
 
@@ -133,8 +132,8 @@ read-digits-returns-2 t c =
     let a = s .args in
     let e = digits-stop (now (a .text)) (a .at) (a .v) (omega arith) (sym (c .before .goes-on .ensures) ∙ c .if2 .left) in
     record {
-      value = ap (λ (n : Number). n .value) (sym e);
-      rest = ap (λ (n : Number). n .rest) (sym e);
+      value = ap (λ (n : NumberThere). n .value) (sym e);
+      rest = ap (λ (n : NumberThere). n .rest) (sym e);
       between = record { after = omega arith; within = omega arith };
     }
 
@@ -149,8 +148,8 @@ read-digits-returns-3 t c =
     let a = s .args in
     let e = digits-end (now (a .text)) (a .at) (a .v) (omega arith) in
     record {
-      value = ap (λ (n : Number). n .value) (sym e);
-      rest = ap (λ (n : Number). n .rest) (sym e);
+      value = ap (λ (n : NumberThere). n .value) (sym e);
+      rest = ap (λ (n : NumberThere). n .rest) (sym e);
       between = record { after = omega arith; within = omega arith };
     }
 

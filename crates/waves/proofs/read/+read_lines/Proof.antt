@@ -1,5 +1,5 @@
 -- `waves::read::read_lines` meets its contract: a line more, a signal without one, or the end of the signals.
-use mathlib.Core.Path.{_≡_, refl, sym, _∙_}
+use mathlib.Core.Path.{refl, sym, _∙_}
 use Prim.Native.Nat.{_+_, _-_}
 use native.Mathlib.Omega.{arith}
 use lib.ListN.{length, getD}

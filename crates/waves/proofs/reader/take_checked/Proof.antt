@@ -1,11 +1,11 @@
 -- `waves::reader::take_checked` meets its contract: no stream, no room, or the events.
-use mathlib.Core.Path.{_≡_, subst}
-use mathlib.Core.List.{List, [], _∷_}
+use mathlib.Core.Path.{subst}
+use mathlib.Core.List.{[], _∷_}
 use native.Mathlib.Omega.{arith}
 use denote.Ref.{now}
-use Rattle.waves.specs.Found.{Found}
-use Rattle.waves.specs.Promise.{taken-none, taken-short, taken-all}
-use Rattle.waves.specs.declared.stream.Stream.{Stream}
+use Rattle.waves.specs.Found.{FoundStream}
+use Rattle.waves.specs.BySignals.{taken-none, taken-short, taken-all}
+use Rattle.waves.specs.declared.stream.StreamRead.{StreamRead}
 use borrow.Author.Needs.{needs}
 use Rattle.waves.proofs.reader.take_checked.Statement.{statement}
 use Rattle.waves.proofs.reader.take_checked.Tie as tie
@@ -31,7 +31,7 @@ returns c =
     let t = now (s .args .text) in
     let z = now (s .args .events) in
     let last = r .read-stream .last .1 .1 .1 .0 in
-    let f = subst (λ (q : Stream). Found x y t (0 ∷ []) q last) (c .before .before .found .given .1) (r .read-stream .ensures) in
+    let f = subst (λ (q : StreamRead). FoundStream x y t (0 ∷ []) q last) (c .before .before .found .given .1) (r .read-stream .ensures) in
     taken-short x y (s .pre) t z (0 ∷ []) last (c .before .before .found .given .0 .0) f (omega arith)
 
 read-stream-requires-2 : tie.Need-read-stream-requires-2
@@ -46,7 +46,7 @@ returns-2 c =
     let t = now (s .args .text) in
     let z = now (s .args .events) in
     let last = r .read-stream .last .1 .1 .1 .0 in
-    let f = subst (λ (q : Stream). Found x y t (0 ∷ []) q last) (c .enum-told .given .1) (r .read-stream .ensures) in
+    let f = subst (λ (q : StreamRead). FoundStream x y t (0 ∷ []) q last) (c .enum-told .given .1) (r .read-stream .ensures) in
     taken-none x y (s .pre) t z (0 ∷ []) last f
 
 same-length : tie.Need-same-length
@@ -61,7 +61,7 @@ returns-3 c =
     let t = now (s .args .text) in
     let z = now (s .args .events) in
     let last = r .read-stream .last .1 .1 .1 .0 in
-    let f = subst (λ (q : Stream). Found x y t (0 ∷ []) q last) (c .before .before .before .before .before .before .found .given .1) (r .read-stream .ensures) in
+    let f = subst (λ (q : StreamRead). FoundStream x y t (0 ∷ []) q last) (c .before .before .before .before .before .before .found .given .1) (r .read-stream .ensures) in
     let k = c .before .before .read-stream2 in
     taken-all x y (s .pre) t z (0 ∷ []) last (k .last .1 .1 .1 .0) (c .before .before .before .before .before .before .found .given .0 .0) (k .result) f (omega arith) (k .ensures)
 

@@ -1,11 +1,11 @@
 -- `waves::stream::read_body` meets its contract: the values at time 0, then the later lines.
-use mathlib.Core.Path.{_≡_, sym, subst, _∙_}
+use mathlib.Core.Path.{_≡_, sym, subst}
 use mathlib.Core.List.{List, []}
 use Prim.Native.Nat.{ℕ}
 use native.Mathlib.Omega.{arith}
 use lib.ListN.{drop, set}
 use denote.Ref.{now}
-use Rattle.waves.specs.Events.{Fits, everySignal, readEvent, event-bound}
+use Rattle.waves.specs.Events.{EventFits, everySignal, readEvent, event-bound}
 use Rattle.waves.specs.Found.{LaterFound, body-none, body-on}
 use borrow.Author.Needs.{needs}
 use Rattle.waves.proofs.stream.read_body.Statement.{statement}
@@ -49,7 +49,7 @@ read-later-requires c κs =
     let w = drop (s .args .at) (now (s .args .text)) in
     let g = s .pre .1 in
     let v = e .read-event .ensures in
-    (v .between .within, (g, subst (Fits x y) (sym (v .values)) (event-bound x y g w .1)))
+    (v .between .within, (g, subst (EventFits x y) (sym (v .values)) (event-bound x y g w .1)))
 
 same-length : tie.Need-same-length
 same-length c = search needs

@@ -1,25 +1,22 @@
 -- `waves::stream::read_later` meets its contract. The invariant: the lines before `next` are read, and their events are stored.
-use mathlib.Core.Path.{_≡_, refl, sym, ap, subst, _∙_}
+use mathlib.Core.Path.{_≡_, refl, sym, subst, _∙_}
 use mathlib.Core.List.{List, []}
-use Prim.Native.Nat.{ℕ, _+_, _-_, _≤_}
+use Prim.Native.Nat.{ℕ, _-_, _≤_}
 use native.Mathlib.Omega.{arith}
 use lib.ListN.{length, drop}
 use lib.Seq.{sets}
 use denote.Ref.{now}
 use borrow.Author.Needs.{needs}
-use Rattle.waves.specs.Steps.{bad, closes, changes, stepIn}
-use Rattle.waves.specs.Reached.{Reached, reached-start, reached-bad, reached-closes, reached-changes}
+use Rattle.waves.specs.Reached.{ReadSoFar, reached-start, reached-bad, reached-closes, reached-changes}
 use Rattle.waves.specs.Next.{NextRead}
 use Rattle.waves.specs.Found.{stored-closes, stored-changes}
-use Rattle.waves.specs.declared.next.Next.{Next}
-use Rattle.waves.specs.declared.next.Next.the-variants.{Nothing, Closes, Changes}
 use Rattle.waves.proofs.stream.read_later.Statement.{statement}
 use Rattle.waves.proofs.stream.read_later.Tie as tie
 
 abbrev Inv-loop : tie.InvT-loop
 Inv-loop text at inputs outputs first events₀ next₀ count₀ event₀ events next count event =
     (next ≤ length text) × (length events ≡ length events₀)
-    × ((s : List ℕ) × Reached inputs outputs (drop at text) first (drop next text) count event s × (events ≡ sets events₀ 1 s))
+    × ((s : List ℕ) × ReadSoFar inputs outputs (drop at text) first (drop next text) count event s × (events ≡ sets events₀ 1 s))
 
 abbrev μ-loop : tie.MeasureT-loop
 μ-loop text at inputs outputs first events₀ next₀ count₀ event₀ events next count event = length text - next

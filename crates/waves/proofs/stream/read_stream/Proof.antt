@@ -8,7 +8,7 @@ use lib.Seq.{length-take-le}
 use denote.Ref.{now}
 use borrow.Author.Needs.{needs}
 use borrow.Author.Tests.{not-true, not-false}
-use Rattle.texts.specs.Wrote.{wrote-front, wrote-within}
+use Rattle.texts.specs.WroteLaws.{wrote-front, wrote-within}
 use Rattle.waves.specs.Streams.{opening}
 use Rattle.waves.specs.Lengths.{opening-long}
 use Rattle.waves.specs.Found.{found-none, found-empty, found-body, opening-only}

@@ -2,7 +2,7 @@
 use native.Mathlib.Omega.{arith}
 use denote.Ref.{now}
 use borrow.Author.Tests.{eq-eqb, ne-eqb}
-use Rattle.texts.specs.Wrote.{wrote-none, wrote-then}
+use Rattle.texts.specs.WroteLaws.{wrote-none, wrote-then}
 use Rattle.waves.specs.Lengths.{change-long}
 use borrow.Author.Needs.{needs}
 use Rattle.waves.proofs.text.put_change.Statement.{statement}

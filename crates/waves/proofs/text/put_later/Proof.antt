@@ -1,5 +1,5 @@
 -- `waves::text::put_later` meets its contract. The invariant: the lines of the events before i are written.
-use mathlib.Core.Path.{_≡_, refl, sym, _∙_}
+use mathlib.Core.Path.{refl, sym, _∙_}
 use mathlib.Core.List.{[], append-nil}
 use Prim.Native.Nat.{_+_, _-_, _≤_}
 use native.Mathlib.Omega.{arith}
@@ -8,7 +8,7 @@ use lib.ListN.{length, getD, drop}
 use denote.Ref.{now}
 use borrow.Author.Needs.{needs}
 use Rattle.waves.specs.Wave.{timeLine, changeLines, laterLines}
-use Rattle.texts.specs.Under.{Under, under-start, under-room, under-more, under-all}
+use Rattle.texts.specs.Under.{LinesUnder, under-start, under-room, under-more, under-all}
 use Rattle.waves.specs.Lengths.{later-turn, later-end}
 use Rattle.waves.proofs.text.put_later.Statement.{statement}
 use Rattle.waves.proofs.text.put_later.Tie as tie
@@ -16,7 +16,7 @@ use Rattle.waves.proofs.text.put_later.Tie as tie
 abbrev Inv-loop : tie.InvT-loop
 Inv-loop text₀ at inputs outputs events next₀ before₀ i₀ text next before i =
     (i ≤ length events)
-    × Under text₀ at (laterLines inputs outputs 1 (getD events 0 0) (drop 1 events)) next text (laterLines inputs outputs i before (drop i events))
+    × LinesUnder text₀ at (laterLines inputs outputs 1 (getD events 0 0) (drop 1 events)) next text (laterLines inputs outputs i before (drop i events))
 
 abbrev μ-loop : tie.MeasureT-loop
 μ-loop text₀ at inputs outputs events next₀ before₀ i₀ text next before i = length events - i

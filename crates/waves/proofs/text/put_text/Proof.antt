@@ -2,7 +2,7 @@
 use native.Mathlib.Omega.{arith}
 use lib.ListN.{getD}
 use denote.Ref.{now}
-use Rattle.texts.specs.Wrote.{wrote-then}
+use Rattle.texts.specs.WroteLaws.{wrote-then}
 use Rattle.waves.specs.Lengths.{event-same, text-long, text-parts, text-empty, text-least}
 use borrow.Author.Needs.{needs}
 use Rattle.waves.proofs.text.put_text.Statement.{statement}

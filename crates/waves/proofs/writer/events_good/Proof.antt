@@ -1,14 +1,13 @@
 -- `waves::writer::events_good` meets its contract. The invariant: the events are good exactly if those from i on are.
 use mathlib.Core.Path.{_≡_, sym, _∙_}
 use Prim.Native.Nat.{_-_, _/_, _%_, _^_, _≤_}
-use native.Mathlib.Omega.{arith}
 use lib.ListN.{length, getD, drop}
 use denote.Ref.{now}
 use borrow.Author.Needs.{needs}
 use borrow.Author.Tests.{lt-ltb, le-ltb}
 use Rattle.policy.specs.Check.{all}
 use Rattle.policy.proofs.Laws.{all-turn, all-end}
-use Rattle.waves.specs.Promise.{goodFor, past-ones, within-ones}
+use Rattle.waves.specs.BySignals.{goodFor, past-ones, within-ones}
 use Rattle.waves.proofs.writer.events_good.Statement.{statement}
 use Rattle.waves.proofs.writer.events_good.Tie as tie
 

@@ -1,14 +1,14 @@
 -- `waves::writer::write` meets its contract: the policy is refused, or its tags are handed on.
-use mathlib.Core.Path.{_≡_, refl, sym, subst, _∙_}
+use mathlib.Core.Path.{refl, sym, subst}
 use mathlib.Core.List.{List}
 use Prim.Native.Nat.{ℕ, _+_, _-_}
 use native.Mathlib.Omega.{arith}
 use lib.ListN.{take, drop}
 use denote.Ref.{now}
 use Rattle.policy.specs.File.{inputCount, outputCount, outputsAt, inputTags, outputTags}
-use Rattle.waves.specs.Events.{Signals}
+use Rattle.waves.specs.Events.{SignalsGood}
 use Rattle.waves.specs.Checked.{signals}
-use Rattle.waves.specs.Promise.{WrittenBy, tagged, refused-as, part-is, write-refused, write-by}
+use Rattle.waves.specs.BySignals.{WrittenBy, tagged, refused-as, part-is, write-refused, write-by}
 use borrow.Author.Needs.{needs}
 use Rattle.waves.proofs.writer.write.Statement.{statement}
 use Rattle.waves.proofs.writer.write.Tie as tie
@@ -53,8 +53,8 @@ write-checked-requires c κs =
     let l = c .before .before .before .before .before .before .before .before .check .result .layout in
     let px = part-is f 1 (inputCount f) 1 (1 + l .inputs) refl (omega arith) in
     let py = part-is f (outputsAt f + 1) (outputCount f) (1 + l .inputs + 1) (1 + l .inputs + 1 + l .outputs) (omega arith) (omega arith) in
-    subst (λ (x : List ℕ). Signals x (take (1 + l .inputs + 1 + l .outputs - (1 + l .inputs + 1)) (drop (1 + l .inputs + 1) f))) (sym px)
-    (subst (Signals (inputTags f)) (sym py) (signals f (t .passes)))
+    subst (λ (x : List ℕ). SignalsGood x (take (1 + l .inputs + 1 + l .outputs - (1 + l .inputs + 1)) (drop (1 + l .inputs + 1) f))) (sym px)
+    (subst (SignalsGood (inputTags f)) (sym py) (signals f (t .passes)))
 
 same-length : tie.Need-same-length
 same-length c = search needs

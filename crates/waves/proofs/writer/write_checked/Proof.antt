@@ -3,7 +3,7 @@ use mathlib.Core.Path.{sym, _∙_}
 use native.Mathlib.Omega.{arith}
 use denote.Ref.{now}
 use borrow.Author.Tests.{not-true, not-false}
-use Rattle.waves.specs.Promise.{by-long, by-bad, by-short, by-text}
+use Rattle.waves.specs.BySignals.{by-long, by-bad, by-short, by-text}
 use borrow.Author.Needs.{needs}
 use Rattle.waves.proofs.writer.write_checked.Statement.{statement}
 use Rattle.waves.proofs.writer.write_checked.Tie as tie

@@ -9,7 +9,7 @@ use borrow.Author.Tests.{ne-eqb}
 use Rattle.policy.specs.Rules.{taken}
 use Rattle.policy.specs.File.{ruleFrom}
 use Rattle.enforcer.specs.Code.{stepFrom}
-use Rattle.enforcer.specs.Pass.{RuleAt}
+use Rattle.enforcer.specs.RuleAhead.{RuleAt}
 use Rattle.enforcer.specs.Laid.{laid-limits, laid-ceilings, laid-four}
 use Rattle.enforcer.proofs.Laws.{advance-four}
 use Rattle.enforcer.proofs.DecidedLaws.{taken-violation}

@@ -1,0 +1,164 @@
+-- The wave entries by the signals alone, step by step.
+use mathlib.Core.Path.{_≡_, refl, sym, ap, subst, _∙_}
+use mathlib.Core.Bool.{Bool, true, false, _&&_}
+use mathlib.Core.List.{List, _++_}
+use Prim.Native.Nat.{ℕ, zero, suc, _+_, _-_, _^_, _/_, _%_, _≤_, _<_}
+use native.Mathlib.Nat.{pow-le-pow-right, zero-add}
+use native.Mathlib.Omega.{arith}
+use lib.Dec.{leb, ltb}
+use lib.ListN.{length, take, drop}
+use lib.Seq.{sets-eq}
+use borrow.Author.Tests.{le-leb, lt-leb}
+use Rattle.streams.specs.Answer.{gives, _orElse_, unless, answer}
+use Rattle.policy.specs.File.{part, inputCount, outputCount, outputsAt, inputTags, outputTags}
+use Rattle.policy.specs.Check.{refusalOf, all}
+use Rattle.policy.specs.Checked.{frame, in-order}
+use Rattle.policy.specs.Layout.{CheckPromise}
+use Rattle.policy.specs.LayoutLaws.{checked-says}
+use Rattle.policy.specs.declared.Checked.{Checked}
+use Rattle.policy.specs.declared.Layout.{Layout}
+use Rattle.texts.specs.Wrote.{Wrote}
+use Rattle.waves.specs.Checked.{all-fit, fit-all}
+use Rattle.waves.specs.Wave.{waveText}
+use Rattle.waves.specs.Events.{SignalsGood}
+use Rattle.waves.specs.Steps.{AllFit}
+use Rattle.waves.specs.Streams.{text-one}
+use Rattle.waves.specs.Entry.{Makes, writtenOver, writeRefusal, writeOf, writtenOut, Reads, policyRefused, noStream, noRoom, taken}
+use Rattle.waves.specs.Found.{FoundStream}
+use Rattle.waves.specs.declared.writer.Written.{Written}
+use Rattle.waves.specs.declared.writer.Written.the-variants as Written
+use Rattle.waves.specs.declared.reader.Taken.{Taken}
+use Rattle.waves.specs.declared.reader.Taken.the-variants as Taken
+use Rattle.waves.specs.declared.stream.StreamRead.{StreamRead}
+use Rattle.waves.specs.declared.stream.StreamRead.the-variants.{Nothing, Events}
+use Rattle.waves.specs.Promise.{TakePromise, WritePromise, writtenSaid}
+
+abbrev pub goodFor : (inputs outputs : ℕ) → ℕ → Bool
+goodFor inputs outputs e = ltb (e % 16) (2 ^ inputs) && ltb (e / 16) (2 ^ outputs)
+
+-- The same, by the signals of a policy that passes its checks.
+module _ (inputs outputs : List ℕ) where
+  abbrev pub refusalBy : (events out : List ℕ) → ℕ
+  refusalBy events out =
+      unless (leb (length events) 16384) 29 orElse unless (all (goodFor (length inputs) (length outputs)) events) 15
+      orElse unless (leb (length (waveText inputs outputs events)) (length out)) 14
+
+  pub record WrittenBy (events before : List ℕ) (r : Written) (after : List ℕ) : Type 0 where
+    pub answers : writtenSaid r ≡ answer (refusalBy events before) (length (waveText inputs outputs events))
+    pub writes : after ≡ writtenOver (waveText inputs outputs events) before (refusalBy events before)
+
+  pub data TakenBy (text out : List ℕ) : Taken → List ℕ → Type 0 where
+    none : ((z : List ℕ) → AllFit inputs outputs z → length z ≤ 16384 → text ≡ waveText inputs outputs z → ⊥) → TakenBy text out (Taken.Refused 21) out
+    short : (z : List ℕ) → text ≡ waveText inputs outputs z → AllFit inputs outputs z → length z ≤ 16384 → length out < length z →
+        TakenBy text out (Taken.Refused 14) out
+    given : (z : List ℕ) {n : ℕ} → text ≡ waveText inputs outputs z → AllFit inputs outputs z → length z ≤ 16384 → length z ≤ length out → n ≡ length z →
+        TakenBy text out (Taken.Count n) (z ++ drop (length z) out)
+
+-- Past the ones, and within them.
+pub past-ones : (n v r : ℕ) → r ≡ 2 ^ n - 1 → r < v → 2 ^ n ≤ v
+past-ones n v r e h = omega arith
+
+pub within-ones : (n v r : ℕ) → r ≡ 2 ^ n - 1 → v ≤ r → v < 2 ^ n
+within-ones n v r e h = let p = pow-le-pow-right {n = 2} (omega arith) {i = 0} {j = n} (omega arith) in omega arith
+
+-- What the two readings find, with no room and with room, is the reader's answer.
+module _ (inputs outputs : List ℕ) (g : SignalsGood inputs outputs) (text : List ℕ) where
+  pub taken-none : (out part after : List ℕ) → FoundStream inputs outputs text part Nothing after → TakenBy inputs outputs text out (Taken.Refused 21) out
+  taken-none out part after f = none f
+
+  pub taken-short : (out part after : List ℕ) (n : ℕ) → FoundStream inputs outputs text part (Events n) after → length out < n →
+      TakenBy inputs outputs text out (Taken.Refused 14) out
+  taken-short out part after n f h = short (f .0) (f .1) (f .2) (omega (arith, f .3, f .4)) (omega (arith, f .3))
+
+  pub taken-all : (out part after given-out : List ℕ) (n : ℕ) (r : StreamRead) → FoundStream inputs outputs text part (Events n) after → n ≤ length out →
+      FoundStream inputs outputs text out r given-out → TakenBy inputs outputs text out (Taken.Count n) given-out
+  taken-all out part after given-out n Nothing f h k = absurd (k (f .0) (f .2) (omega (arith, f .3, f .4)) (f .1))
+  taken-all out part after given-out n (Events m) f h k =
+      let z = f .0 in
+      let same : k .0 ≡ z =
+      text-one inputs outputs g (k .0) z (omega (arith, k .3, k .4)) (omega (arith, f .3, f .4)) (k .2) (f .2) (sym (k .1) ∙ f .1) in
+      subst (TakenBy inputs outputs text out (Taken.Count n)) (sym (k .5 ∙ rw same (sets-eq z out 0 (omega (arith, f .3)) ∙ rw zero-add)))
+      (given z (f .1) (f .2) (omega (arith, f .3, f .4)) (omega (arith, f .3)) (f .3))
+
+-- What a policy that passes its checks says of its tags, as the code has it.
+pub record Tagged (file : List ℕ) (r : Checked) : Type 0 where
+  pub passes : refusalOf file ≡ 0
+  pub inputs : r .layout .inputs ≡ inputCount file
+  pub outputs : r .layout .outputs ≡ outputCount file
+  pub fewIn : inputCount file ≤ 4
+  pub fewOut : outputCount file ≤ 4
+  pub start : outputsAt file ≡ 1 + inputCount file
+  pub within : outputsAt file + 1 + outputCount file ≤ length file
+
+pub tagged : {file : List ℕ} {r : Checked} → CheckPromise file r → r .refusal ≡ 0 → Tagged file r
+tagged {file} {r} k z =
+    let s = checked-says file in
+    let n = ap (λ (c : Checked). c .refusal) (k .said) in
+    let p : refusalOf file ≡ 0 = sym (s .0) ∙ sym n ∙ z in
+    let l = ap (λ (c : Checked). c .layout) (k .said) ∙ s .1 p in
+    let f = frame file p in
+    let o = in-order file f in
+    record {
+      passes = p;
+      inputs = ap (λ (y : Layout). y .inputs) l;
+      outputs = ap (λ (y : Layout). y .outputs) l;
+      fewIn = f .inputs;
+      fewOut = f .outputs;
+      start = sym (f .inputsEnd);
+      within = omega (arith, f .outputsEnd);
+    }
+
+pub refused-as : {file : List ℕ} {r : Checked} → CheckPromise file r → r .refusal ≡ refusalOf file
+refused-as {file} k = ap (λ (c : Checked). c .refusal) (k .said) ∙ checked-says file .0
+
+pub part-is : (f : List ℕ) (at n start end : ℕ) → start ≡ at → end ≡ at + n → take (end - start) (drop start f) ≡ part f at n
+part-is f at n start end s e = let k : end - start ≡ n = omega arith in rw (k, s)
+
+-- The writer, by what it finds.
+module _ (inputs outputs events before : List ℕ) where
+  pub by-long : 16384 < length events → WrittenBy inputs outputs events before (Written.Refused 29) before
+  by-long h = let e = lt-leb (length events) 16384 h in record { answers = rw e; writes = rw e }
+
+  module _ (few : length events ≤ 16384) where
+    pub by-bad : all (goodFor (length inputs) (length outputs)) events ≡ false → WrittenBy inputs outputs events before (Written.Refused 15) before
+    by-bad g = let e = le-leb (length events) 16384 few in record { answers = rw (e, g); writes = rw (e, g) }
+
+    module _ (good : all (goodFor (length inputs) (length outputs)) events ≡ true) where
+      pub by-short : length before < length (waveText inputs outputs events) → WrittenBy inputs outputs events before (Written.Refused 14) before
+      by-short h =
+          let e = le-leb (length events) 16384 few in
+          let l = lt-leb (length (waveText inputs outputs events)) (length before) h in
+          record { answers = rw (e, good, l); writes = rw (e, good, l) }
+
+      pub by-text : {r : ℕ} {after : List ℕ} → length (waveText inputs outputs events) ≤ length before → Wrote before 0 (waveText inputs outputs events) r after →
+          WrittenBy inputs outputs events before (Written.Length r) after
+      by-text h w =
+          let e = le-leb (length events) 16384 few in
+          let l = le-leb (length (waveText inputs outputs events)) (length before) h in
+          record {
+            answers = rw (e, good, l, w .next, zero-add);
+            writes = w .text ∙ rw (e, good, l, zero-add);
+          }
+
+module _ {file : List ℕ} where
+  pub write-refused : {events before : List ℕ} (n : ℕ) → n ≡ refusalOf file → (n ≡ 0 → ⊥) → WritePromise file events before (Written.Refused n) before
+  unfolding writeOf writtenOut writeRefusal
+  write-refused zero e h = absurd (h refl)
+  write-refused (suc n) e h = record { answers = rw (← e); writes = rw (← e) }
+
+  pub write-by : {events before after : List ℕ} {r : Written} → refusalOf file ≡ 0 → WrittenBy (inputTags file) (outputTags file) events before r after →
+      WritePromise file events before r after
+  unfolding writeOf writtenOut writeRefusal
+  write-by e w = record { answers = rw e (w .answers); writes = rw e (w .writes) }
+
+  pub take-refused : {text before : List ℕ} (n : ℕ) → n ≡ refusalOf file → (n ≡ 0 → ⊥) → TakePromise file text before (Taken.Refused n) before
+  take-refused zero e h = absurd (h refl)
+  take-refused (suc n) e h = record { reads = policyRefused (sym e) }
+
+  pub take-by : {text before after : List ℕ} {r : Taken} → refusalOf file ≡ 0 → TakenBy (inputTags file) (outputTags file) text before r after →
+      TakePromise file text before r after
+  take-by e (none f) = record { reads = noStream e (λ events m. f events (all-fit file events (m .good)) (m .few) (m .made)) }
+  take-by e (short z q a h l) = record { reads = noRoom e (record { few = h; good = fit-all file z a; made = q }) l }
+  take-by {text} {before} e (given z {n} q a h l c) =
+      let k : Makes file z text = record { few = h; good = fit-all file z a; made = q } in
+      record { reads = subst (λ (m : ℕ). Reads file text before (gives m) (z ++ drop (length z) before)) (sym c) (taken e k l) }
