@@ -2,6 +2,7 @@ pub mod Reasons
 pub mod Exact
 pub mod Loops
 pub mod Tables
+pub mod Peaks
 pub mod Better
 pub mod Deciding
 pub mod Shown

@@ -5,6 +5,7 @@ mod group;
 mod halves;
 mod marks;
 mod most;
+mod peaks;
 mod reason;
 mod refusals;
 mod table;
