@@ -1,9 +1,14 @@
 // Puts the stored cases to the entries for a controller in C, and counts what comes out different. It writes how many there were of each kind.
 // Then the same for a file of wrong expectations, all of which must come out different.
+mod bodies;
 mod calls;
+mod differs;
+mod indexes;
+mod marked;
 mod numbers;
 mod records;
 mod states;
+mod stations;
 mod strings;
 mod tally;
 mod totals;

@@ -1,5 +1,5 @@
 // What has been found so far.
-use crate::calls::Differs;
+use crate::differs::Differs;
 use crate::numbers::Cursor;
 use libc::STDOUT_FILENO;
 
