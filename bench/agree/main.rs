@@ -2,61 +2,37 @@
 //! on the laws of joins and runs.
 
 // The model and its random cases, as they stand. Not all of it is used here.
-#[path = "../../independent/src/bays.rs"]
-mod bays;
-#[path = "../../independent/src/call.rs"]
-#[allow(dead_code)]
-mod call;
-#[path = "../../independent/src/cases.rs"]
-mod cases;
-#[path = "../../independent/src/clean.rs"]
-mod clean;
-#[path = "../../independent/src/compare.rs"]
-mod compare;
-#[path = "../../independent/src/damage.rs"]
-mod damage;
-#[path = "../../independent/src/enforce.rs"]
-mod enforce;
-#[path = "../../independent/src/engine.rs"]
-mod engine;
-#[path = "../../independent/src/events.rs"]
-mod events;
-#[path = "../../independent/src/graph.rs"]
-mod graph;
-#[path = "../../independent/src/index.rs"]
-mod index;
-#[path = "../../independent/src/join.rs"]
-mod join;
-#[path = "../../independent/src/laws.rs"]
-mod laws;
-#[path = "../../independent/src/meter.rs"]
-mod meter;
-#[path = "../../independent/src/moment.rs"]
-mod moment;
-#[path = "../../independent/src/parse.rs"]
-mod parse;
-#[path = "../../independent/src/policies.rs"]
-mod policies;
-#[path = "../../independent/src/policy.rs"]
-mod policy;
-#[path = "../../independent/src/random.rs"]
-mod random;
-#[path = "../../independent/src/reading.rs"]
-mod reading;
-#[path = "../../independent/src/refusal.rs"]
-mod refusal;
-#[path = "../../independent/src/rules.rs"]
-mod rules;
-#[path = "../../independent/src/spoil.rs"]
-mod spoil;
-#[path = "../../independent/src/subject.rs"]
-mod subject;
-#[path = "../../independent/src/ticks.rs"]
-mod ticks;
-#[path = "../../independent/src/waves.rs"]
-mod waves;
-#[path = "../../independent/src/why.rs"]
-mod why;
+#[path = "../../independent/src"]
+mod model {
+    pub mod bays;
+    #[allow(dead_code)]
+    pub mod call;
+    pub mod cases;
+    pub mod clean;
+    pub mod compare;
+    pub mod damage;
+    pub mod enforce;
+    pub mod engine;
+    pub mod events;
+    pub mod graph;
+    pub mod index;
+    pub mod join;
+    pub mod laws;
+    pub mod meter;
+    pub mod moment;
+    pub mod parse;
+    pub mod policies;
+    pub mod policy;
+    pub mod random;
+    pub mod reading;
+    pub mod refusal;
+    pub mod rules;
+    pub mod spoil;
+    pub mod subject;
+    pub mod ticks;
+    pub mod waves;
+    pub mod why;
+}
 
 use basis::Basis;
 // One type for both sides.
@@ -66,6 +42,8 @@ use call::Work;
 use compare::Tally;
 use engine::{Engine, Model};
 use meter::Lent;
+// The modules of the model name each other from the root.
+use model::*;
 use std::process::ExitCode;
 
 const USAGE: &str = "usage: agree GROUPS SEED";

@@ -1,30 +1,16 @@
-//! What the programs `enforce`, `wave` and `why` print for an input, by the paper, and
-//! a comparison of a program with that on random inputs.
+//! What the programs `enforce`, `wave` and `why` print for an input, by the
+//! paper, and a comparison of a program with that on random inputs.
 
-use crate::basis::Basis;
+mod inputs;
+mod ran;
+mod run;
+mod words;
+
 use crate::call::hex;
-use crate::damage;
-use crate::enforce::{self, Prepared};
-use crate::moment::STATE_LENGTH;
-use crate::parse;
-use crate::policies::{self, Size};
-use crate::policy::{Bound, Policy, Rule, MAX_STATES, NO_UPPER_BOUND};
 use crate::random::Random;
-use crate::reading::Reading;
-use crate::refusal::Refusal;
-use crate::subject::some_events;
-use crate::waves::{self, MOST_EVENTS};
-use crate::why::{self, Reason};
-use std::collections::HashMap;
-use std::fmt::Write as _;
-use std::io::{self, Write as _};
-use std::process::{Command, Stdio};
-use std::thread;
-use std::time::Duration;
-
-const LONGEST_POLICY: usize = 5_974;
-/// The programs use reading 1.
-const READING: Reading = Reading::AtStart;
+use inputs::some_input;
+use ran::Ran;
+use run::run;
 
 #[derive(Clone, Copy, Debug, PartialEq, Eq)]
 pub enum Program {
@@ -57,258 +43,6 @@ impl Program {
             (Err(refusal), _) => format!("refused {}\n", refusal.number()),
         }
     }
-}
-
-/// An input that is not refused, and what is released for it.
-struct Ran<'a> {
-    file: &'a [u8],
-    marks: Vec<u8>,
-    prepared: Prepared,
-    events: &'a [u8],
-    released: Vec<u8>,
-}
-
-impl Ran<'_> {
-    fn of(input: &[u8]) -> Result<Ran<'_>, Refusal> {
-        let (file, rest) = counted(input, LONGEST_POLICY)?;
-        let mut marks = vec![0; MAX_STATES as usize];
-        let prepared = enforce::prepare(READING.number(), file, &mut marks)?;
-        let (events, rest) = counted(rest, MOST_EVENTS)?;
-        if !rest.is_empty() {
-            return Err(Refusal::LeftOver);
-        }
-        let mut released = vec![0; events.len()];
-        let mut state = [0; STATE_LENGTH];
-        let basis = Basis::new(READING.number(), file, &marks);
-        let end = enforce::run(basis, &mut state, events, &mut released);
-        match end.refusal {
-            Some(refusal) => Err(refusal),
-            None => Ok(Ran {
-                file,
-                marks,
-                prepared,
-                events,
-                released,
-            }),
-        }
-    }
-
-    fn basis(&self) -> Basis<'_> {
-        Basis::new(READING.number(), self.file, &self.marks)
-    }
-
-    fn lines(&self) -> String {
-        let prepared = &self.prepared;
-        let mut lines = format!(
-            "verdict {} states {} live {}\n",
-            prepared.verdict, prepared.states, prepared.live
-        );
-        for (place, (&event, &out)) in self.events.iter().zip(&self.released).enumerate() {
-            let letter = |same| if same { 'F' } else { 'E' };
-            let (x, y) = (event % 16, event / 16);
-            let (x_out, y_out) = (out % 16, out / 16);
-            let (input, output) = (letter(x == x_out), letter(y == y_out));
-            writeln!(
-                lines,
-                "{} {x} {y} {x_out} {y_out} {input}{output}",
-                place + 1
-            )
-            .expect("a string takes all");
-        }
-        lines
-    }
-
-    fn told(&self) -> String {
-        let policy = parse::check(self.file).expect("it was prepared");
-        let lines = self.lines();
-        let mut lines = lines.lines();
-        let mut text = format!("{}\n", lines.next().expect("the verdict comes first"));
-        let mut state = [0; STATE_LENGTH];
-        // Streams go in circles: a reason is worked out once.
-        let mut known = HashMap::new();
-        for ((&event, &out), line) in self.events.iter().zip(&self.released).zip(lines) {
-            writeln!(text, "{line}").expect("a string takes all");
-            if event != out {
-                let reasons = known
-                    .entry((state, event))
-                    .or_insert_with(|| self.reasons(&state, event));
-                for (half, reason) in ["input", "output"].iter().zip(reasons) {
-                    if let Some(words) = words(&policy, *reason) {
-                        writeln!(text, "{half}: {words}").expect("a string takes all");
-                    }
-                }
-            }
-            // What is released is kept as it is, and moves the state.
-            enforce::output_half(self.basis(), &mut state, out % 16, out / 16)
-                .expect("it was released");
-        }
-        text
-    }
-
-    fn reasons(&self, state: &[u16], event: u8) -> [Reason; 2] {
-        why::why(self.basis(), state, event % 16, event / 16).expect("a run goes on from it")
-    }
-
-    fn wave(&self) -> String {
-        let policy = parse::check(self.file).expect("it was prepared");
-        waves::text_of(&policy, &self.released)
-    }
-}
-
-/// The words of a reason, if there is one.
-fn words(policy: &Policy, reason: Reason) -> Option<String> {
-    let counted = |most: usize, what: &str, end: &str| {
-        let s = if most == 1 { "" } else { "s" };
-        Some(format!("after it at most {most} more {what}{s}{end}"))
-    };
-    match reason {
-        Reason::NotEdited => None,
-        Reason::Rule(number) => Some(format!(
-            "rule {number} forbids it: {}",
-            asks(policy, &policy.rules[number])
-        )),
-        Reason::NoRule => Some("no rule allows it".to_string()),
-        Reason::Ticks(most) => counted(most, "tick", ""),
-        Reason::Rests(0) => Some("after it never at rest again".to_string()),
-        Reason::Rests(most) => counted(most, "time", " at rest"),
-    }
-}
-
-/// What a rule asks: where, which signals on, which off, and which clocks.
-fn asks(policy: &Policy, rule: &Rule) -> String {
-    let mut parts = vec![format!("at location {}", rule.source)];
-    for (on, word) in [(true, "on"), (false, "off")] {
-        let halves = [(&policy.inputs, rule.input), (&policy.outputs, rule.output)];
-        let named: Vec<String> = halves
-            .iter()
-            .flat_map(|(tags, condition)| {
-                let asked = |bit: usize| {
-                    condition.care >> bit & 1 == 1 && (condition.value >> bit & 1 == 1) == on
-                };
-                let tag = |bit: usize| char::from(tags[bit]).to_string();
-                (0..tags.len()).filter(move |&bit| asked(bit)).map(tag)
-            })
-            .collect();
-        if !named.is_empty() {
-            parts.push(format!("{} {word}", named.join(" ")));
-        }
-    }
-    for (clock, bound) in rule.bounds[..policy.ceilings.len()].iter().enumerate() {
-        match bound {
-            &Bound::OPEN => {}
-            Bound { low, high } if *high == NO_UPPER_BOUND => {
-                parts.push(format!("clock {clock} from {low} on"))
-            }
-            Bound { low, high } => parts.push(format!("clock {clock} from {low} to {high}")),
-        }
-    }
-    parts.join(", ")
-}
-
-/// The bytes after their two-byte count, and the rest.
-fn counted(input: &[u8], most: usize) -> Result<(&[u8], &[u8]), Refusal> {
-    let (count, rest) = input.split_at_checked(2).ok_or(Refusal::CutShort)?;
-    let count = usize::from(count[0]) * 256 + usize::from(count[1]);
-    if count > most {
-        return Err(Refusal::CountOutsideLimits);
-    }
-    rest.split_at_checked(count).ok_or(Refusal::CutShort)
-}
-
-/// Input `number` of `seed`; always the same.
-fn some_input(seed: u64, number: u64) -> Vec<u8> {
-    let mut random = Random::for_group(seed, number);
-    let random = &mut random;
-    let policy = some_policy(random);
-    let file = match random.below(10) {
-        0 => damage::damaged(random, &policy),
-        _ => policy.encode(),
-    };
-    let events = events_of(random, &policy);
-    let mut input = Vec::new();
-    put_counted(random, &mut input, &file);
-    put_counted(random, &mut input, &events);
-    match random.below(20) {
-        0 => input.truncate(random.between(0, input.len())),
-        1 => input.push(random.byte()),
-        _ => {}
-    }
-    input
-}
-
-fn some_policy(random: &mut Random) -> Policy {
-    match random.below(100) {
-        0 => policies::overfull(random),
-        1 => policies::of_size(random, Size::Medium),
-        2..=21 => policies::trap(random),
-        _ => {
-            let size = random.pick(&[Size::Tiny, Size::Small]);
-            policies::of_size(random, size)
-        }
-    }
-}
-
-/// Now and then as many as there can be, or one more.
-fn events_of(random: &mut Random, policy: &Policy) -> Vec<u8> {
-    let few = some_events(random, policy);
-    match random.below(60) {
-        0 if !few.is_empty() => {
-            let many = MOST_EVENTS + usize::from(random.percent(20));
-            few.iter().cycle().copied().take(many).collect()
-        }
-        _ => few,
-    }
-}
-
-/// The count is now and then wrong.
-fn put_counted(random: &mut Random, input: &mut Vec<u8>, bytes: &[u8]) {
-    let count = match random.below(30) {
-        0 => random.next() as u16,
-        1 => bytes.len() as u16 + 1,
-        _ => bytes.len() as u16,
-    };
-    input.extend(count.to_be_bytes());
-    input.extend(bytes);
-}
-
-/// What the program prints when the input reaches it in pieces.
-fn run(words: &[&str], input: &[u8], random: &mut Random) -> io::Result<String> {
-    let [program, arguments @ ..] = words else {
-        return Err(io::Error::other("no program is named"));
-    };
-    let mut child = Command::new(program)
-        .args(arguments)
-        .stdin(Stdio::piped())
-        .stdout(Stdio::piped())
-        .spawn()?;
-    let mut pipe = child.stdin.take().expect("the input is a pipe");
-    let longest = random.pick(&[1, 7, 400, 5_000, 30_000]);
-    // A pause between pieces makes the program read less than it asked for.
-    let pauses = random.percent(10);
-    let mut rest = input;
-    let mut pieces = Vec::new();
-    while !rest.is_empty() {
-        let (piece, after) = rest.split_at(random.between(1, longest.min(rest.len())));
-        pieces.push(piece.to_vec());
-        rest = after;
-    }
-    let writer = thread::spawn(move || {
-        for (place, piece) in pieces.iter().enumerate() {
-            // A program that has seen enough may have closed its end.
-            if pipe.write_all(piece).is_err() {
-                return;
-            }
-            if pauses && place < 20 {
-                thread::sleep(Duration::from_millis(1));
-            }
-        }
-    });
-    let output = child.wait_with_output()?;
-    writer.join().expect("the writer ends");
-    if !output.status.success() {
-        return Err(io::Error::other(format!("{}", output.status)));
-    }
-    String::from_utf8(output.stdout).map_err(io::Error::other)
 }
 
 /// Runs a program, which the words name, on random inputs while `goes_on`, and
@@ -360,6 +94,7 @@ mod tests {
     use super::*;
     use crate::call::from_hex as bytes;
     use crate::samples;
+    use crate::waves::MOST_EVENTS;
 
     fn input(policy: &str, rest: &str) -> Vec<u8> {
         let file = bytes(policy);
@@ -400,7 +135,8 @@ mod tests {
     #[test]
     fn the_words_of_the_example() {
         let input = include_bytes!("../../crates/why/stdin");
-        let lines = "output: rule 4 forbids it: at location 0, R on, A B off, clock 0 from 0 to 1\n\
+        let lines =
+            "output: rule 4 forbids it: at location 0, R on, A B off, clock 0 from 0 to 1\n\
             input: rule 0 forbids it: at location 0, A B on, clock 0 from 1 on\n\
             output: no rule allows it\n\
             output: after it at most 2 more ticks\n\
