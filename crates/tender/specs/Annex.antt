@@ -47,7 +47,7 @@ use Rattle.tender.specs.Demand2.{Released}
 use Rattle.tender.specs.Demand2Shown.{released-length, released-bytes, prepared-otherwise}
 use Rattle.tender.specs.Demand3.{JoinMade, tags, JoinOf, alone, joined}
 use Rattle.tender.specs.Demand3Shown.{joined-reads, made, to-first, to-second}
-use Rattle.tender.specs.Halves.{TickByTick, ticks-release}
+use Rattle.tender.specs.TickByTick.{TickByTick, ticks-release}
 use Rattle.tender.specs.Code.{code-releases, cStart, runRead, prepare-read, c-releases, CTicks, c-ticks-release, code-joined, c-joined}
 
 -- "any number of policies joined one after another": a went into f, as a part or as a join made on the way, first or second in each join that followed.
@@ -82,7 +82,7 @@ pub record CodeKeeps (reading : ℕ) (f a : List ℕ) : Type 0 where
       all (eventGood reading f) events ≡ true → length events ≤ length out → length events ≤ length again →
       RunPromise reading f m startState events out r after → RunPromise reading a n startState (take (length events) after) again q also →
       Unedited (policyOf reading a) (take (length events) after) again (ranSaid q also)
-  -- And so by the two halves, tick after tick. They never stop: `ticks-go-on` in specs/Halves.antt.
+  -- And so by the two halves, tick after tick. They never stop: `ticks-go-on` in specs/TickByTick.antt.
   pub ticks :
       {x m y n : List ℕ} {s t : Summary} {u v : State} {es rs qs : Stream} →
       PreparePromise reading f x (Prepared.Gives s) m → PreparePromise reading a y (Prepared.Gives t) n →

@@ -31,7 +31,7 @@ use Rattle.groovepawn.specs.Calls.{PrepareCall}
 use Rattle.groovepawn.specs.Fields.{answerIn}
 use Rattle.groovepawn.specs.Bays.{NewCall, BayInputCall, BayOutputCall}
 use Rattle.groovepawn.specs.BaysLaws.{bay-input-fields, bay-output-fields}
-use Rattle.tender.specs.Halves.{TickByTick, ticks-none, ticks-more, TicksReleased, ticks-release, ticks-go-on}
+use Rattle.tender.specs.TickByTick.{TickByTick, ticks-none, ticks-more, TicksReleased, ticks-release, ticks-go-on}
 use Rattle.tender.specs.Code.{prepare-read}
 
 -- A bay's half and its answer.

@@ -1,5 +1,5 @@
 -- Demands 2 and 3 over the promises of the code, those that stand in the `ensures` of the entries, and for each reading: nobody has to join a promise
--- and a theorem over the definitions himself. The two halves are in specs/Halves.antt, and the program is in specs/Program.antt.
+-- and a theorem over the definitions himself. The two halves are in specs/TickByTick.antt, and the program is in specs/Program.antt.
 use mathlib.Core.Path.{_≡_, refl, sym, ap, ap₂, subst, _∙_}
 use mathlib.Core.Bool.{Bool, true, false, cond}
 use mathlib.Core.List.{List, [], _∷_, _++_, map}
@@ -36,7 +36,7 @@ use Rattle.groovepawn.specs.Fields.{summaryIn, answerIn, answer-fields, prepare
 use Rattle.tender.specs.Granted.{well-formed, given-passed}
 use Rattle.tender.specs.Demand2.{ReleasedFor, Released, fromStart}
 use Rattle.tender.specs.Demand2Shown.{releases, hopeless-exactly}
-use Rattle.tender.specs.Halves.{TickByTick, ticks-none, ticks-more, TicksReleased, ticks-release}
+use Rattle.tender.specs.TickByTick.{TickByTick, ticks-none, ticks-more, TicksReleased, ticks-release}
 use Rattle.tender.specs.Demand3.{JoinMade, Alike, permitsAll}
 use Rattle.tender.specs.Demand3Shown.{permits-exactly, order, grouping, repetition, unit-law}
 
@@ -145,7 +145,7 @@ value-said : (v : ℕ) (t : Bool) (a : Answer ℕ) (n : ℕ) → answerIn (v * 2
 value-said v true a n e = let f = answer-fields v in (refl, rw (f .0, f .1) at e)
 value-said v false a n e = let f = answer-fields v in let h : gives v ≡ refused n = rw (f .0, f .1) at e in let z : _≡_ {A = ℕ} 0 1 = cc in absurd (omega arith)
 
--- They are the halves of the code, and so all that specs/Halves.antt says of those holds of them.
+-- They are the halves of the code, and so all that specs/TickByTick.antt says of those holds of them.
 pub c-ticks : {reading : ℕ} {file marks state last : List ℕ} {es rs : Stream} → CTicks reading file marks state es rs last →
     TickByTick reading file marks (cState state) es rs (cState last)
 unfolding outputState

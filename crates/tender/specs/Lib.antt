@@ -8,6 +8,7 @@ pub mod Demand2Shown
 pub mod Demand3
 pub mod Demand3Shown
 pub mod Halves
+pub mod TickByTick
 pub mod Code
 pub mod Worthless
 pub mod Incident
@@ -21,6 +22,7 @@ pub mod Annex
 pub mod InARow
 pub mod Bays
 pub mod Metered
+pub mod Transfer
 pub mod Story
 pub mod Clean
 pub mod Why

@@ -23,7 +23,7 @@ use Rattle.groovepawn.specs.Calls.{PrepareCall}
 use Rattle.groovepawn.specs.Fields.{answerIn, answer-fields}
 use Rattle.groovepawn.specs.Meter.{MeterNewCall, MeterInputCall, MeterOutputCall, meter-input-fields, meter-output-fields}
 use Rattle.tender.specs.Code.{prepare-read}
-use Rattle.tender.specs.Halves.{TickByTick, ticks-none, ticks-more, TicksReleased, ticks-release}
+use Rattle.tender.specs.TickByTick.{TickByTick, ticks-none, ticks-more, TicksReleased, ticks-release}
 use Rattle.tender.specs.Bays.{}
 use Rattle.enforcer.specs.declared.state.State.{State}
 
