@@ -1,13 +1,13 @@
 //! The two engines of prepare side by side: the looks of each by its method,
 //! and with the library the time of each.
 
-use crate::falling::{self, Falling};
+use crate::falling::{self, row_of, Falling};
 use crate::plain::looks::{self, Looked};
 
 pub fn heading() -> String {
     row_of(
         "policy",
-        [
+        &[
             "states",
             "live",
             "sweeps' looks",
@@ -41,7 +41,7 @@ fn row(falling: &Falling) -> Result<String, String> {
     let live = walked.marks.iter().filter(|&&mark| mark == 1).count();
     Ok(row_of(
         falling.name,
-        [
+        &[
             &walked.marks.len().to_string(),
             &live.to_string(),
             &swept.looks.to_string(),
@@ -51,11 +51,6 @@ fn row(falling: &Falling) -> Result<String, String> {
             &fast,
         ],
     ))
-}
-
-fn row_of(name: &str, numbers: [&str; 7]) -> String {
-    let numbers = numbers.map(|number| format!("{number:>15}"));
-    format!("{name:<34}{}", numbers.concat())
 }
 
 /// Without the library there is nothing to time.

@@ -10,11 +10,18 @@ pub struct Falling {
     pub file: Vec<u8>,
 }
 
+fn of(name: &'static str, policy: Policy) -> Falling {
+    let file = policy.encode();
+    Falling { name, file }
+}
+
+/// A name and its numbers, in columns.
+pub fn row_of(name: &str, numbers: &[&str]) -> String {
+    let columns = numbers.iter().map(|number| format!("{number:>15}"));
+    format!("{name:<40}{}", columns.collect::<String>())
+}
+
 pub fn all() -> Vec<Falling> {
-    let of = |name, policy: Policy| Falling {
-        name,
-        file: policy.encode(),
-    };
     vec![
         of("none falls", policies::lasting()),
         of("none falls, violations first", barred()),
@@ -33,10 +40,6 @@ pub fn all() -> Vec<Falling> {
 /// The same, with a start that lives where none did: `why` asks about a live
 /// state.
 pub fn living() -> Vec<Falling> {
-    let of = |name, policy: Policy| Falling {
-        name,
-        file: policy.encode(),
-    };
     vec![
         of("none falls", policies::lasting()),
         of("none falls, violations first", barred()),

@@ -1,13 +1,13 @@
 //! `why` against the second engine of prepare, on policies with a live start to
 //! ask about: what the exact counts of all states cost beside the marks.
 
-use crate::falling::{self, Falling};
+use crate::falling::{self, row_of, Falling};
 use crate::plain::looks::{self, Looked};
 
 pub fn heading() -> String {
     row_of(
         "policy",
-        ["states", "live", "fast ms", "why ms", "why to fast"],
+        &["states", "live", "fast ms", "why ms", "why to fast"],
     )
 }
 
@@ -28,7 +28,7 @@ fn row(falling: &Falling) -> Result<String, String> {
     let live = walked.marks.iter().filter(|&&mark| mark == 1).count();
     Ok(row_of(
         falling.name,
-        [
+        &[
             &walked.marks.len().to_string(),
             &live.to_string(),
             &fast,
@@ -36,11 +36,6 @@ fn row(falling: &Falling) -> Result<String, String> {
             &ratio,
         ],
     ))
-}
-
-fn row_of(name: &str, numbers: [&str; 5]) -> String {
-    let numbers = numbers.map(|number| format!("{number:>15}"));
-    format!("{name:<40}{}", numbers.concat())
 }
 
 /// Without the library there is nothing to time.
