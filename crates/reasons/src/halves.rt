@@ -30,7 +30,7 @@ ghost use Rattle.reasons.specs.Halves.{valueOr, GivenIn, GivenOut, BothT
 ghost use Rattle.reasons.specs.Promise.{reasonSaid, bothSaid};
 
 // The value of an answer, or another one.
-fn value_or(answer: HalfAnswer, other: u8) -> u8
+pub fn value_or(answer: HalfAnswer, other: u8) -> u8
     ensures { λ r. ⌜ r ≡ valueOr (answerSaid answer) other ⌝ }
 {
     match answer {

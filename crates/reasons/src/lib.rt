@@ -16,6 +16,7 @@ pub use counts::count;
 pub use entry::WhyAnswer;
 pub use entry::why;
 pub use halves::reasons;
+pub use halves::value_or;
 pub use reason::Reason;
 pub use reason::Reasons;
 pub use words::word;

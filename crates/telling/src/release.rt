@@ -1,16 +1,13 @@
 // What a tick releases, by its two halves.
-use enforcer::HalfAnswer;
 use enforcer::State;
 use enforcer::input_by;
 use enforcer::output_by;
 use enforcer::own_of;
 use policy::Layout;
-ghost use mathlib.Core.Path.{_≡_};
+use reasons::value_or;
 ghost use Prim.Native.Nat.{_<_};
 ghost use Rattle.policy.specs.Rules.{inputValues, outputValues};
 ghost use Rattle.policy.specs.File.{policyOf};
-ghost use Rattle.enforcer.specs.Promises.{answerSaid};
-ghost use Rattle.reasons.specs.Halves.{valueOr};
 ghost use Rattle.telling.specs.Asked.{Asked, ReleasedBy};
 
 // The halves that are released, and the state after them.
@@ -18,16 +15,6 @@ pub struct ReleasedHalves {
     pub x: u8,
     pub y: u8,
     pub state: State,
-}
-
-// The value of an answer, or another one.
-fn value_or(answer: HalfAnswer, other: u8) -> u8
-    ensures { λ r. ⌜ r ≡ valueOr (answerSaid answer) other ⌝ }
-{
-    match answer {
-        HalfAnswer::Value(z) => z,
-        HalfAnswer::Refused(_) => other,
-    }
 }
 
 // From a live state neither half refuses.
