@@ -22,11 +22,7 @@ pub fn heading() -> String {
 /// The rows of the policies whose names begin so. An error says that the engines
 /// differ.
 pub fn rows(policy: &str) -> Result<Vec<String>, String> {
-    let all = falling::all();
-    let named = all
-        .iter()
-        .filter(|falling| falling.name.starts_with(policy));
-    named.map(row).collect()
+    falling::rows(falling::all(), policy, row)
 }
 
 fn row(falling: &Falling) -> Result<String, String> {

@@ -15,6 +15,18 @@ fn of(name: &'static str, policy: Policy) -> Falling {
     Falling { name, file }
 }
 
+/// What `row` says of those whose names begin so.
+pub fn rows(
+    all: Vec<Falling>,
+    begins: &str,
+    row: impl Fn(&Falling) -> Result<String, String>,
+) -> Result<Vec<String>, String> {
+    let named = all
+        .iter()
+        .filter(|falling| falling.name.starts_with(begins));
+    named.map(row).collect()
+}
+
 /// A name and its numbers, in columns.
 pub fn row_of(name: &str, numbers: &[&str]) -> String {
     let columns = numbers.iter().map(|number| format!("{number:>15}"));

@@ -14,11 +14,7 @@ pub fn heading() -> String {
 /// The rows of the policies whose names begin so. An error says that a call is
 /// refused.
 pub fn rows(policy: &str) -> Result<Vec<String>, String> {
-    let all = falling::living();
-    let named = all
-        .iter()
-        .filter(|falling| falling.name.starts_with(policy));
-    named.map(row).collect()
+    falling::rows(falling::living(), policy, row)
 }
 
 fn row(falling: &Falling) -> Result<String, String> {
