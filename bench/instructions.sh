@@ -1,7 +1,7 @@
 #!/usr/bin/env bash
 # Counts the instructions of one tick on both sides, of one call of each half
-# at the worst ticks, of waves written and read, and of prepare with its verdict
-# and without it, with callgrind.
+# at the worst ticks, of waves written and read, of prepare with its verdict and
+# without it, and of clean beside prepare, with callgrind.
 set -euo pipefail
 shopt -s inherit_errexit
 cd "$(dirname "$0")"
@@ -44,6 +44,21 @@ policies=(
     "65,536 states, reading 2"
     "most must be left, reading 2"
     "most die, reading 2"
+)
+
+cleaned=(
+    "all entered, all used"
+    "every second location entered"
+    "a rule in four decides nothing"
+    "a default after a split deadline"
+    "entered in falling order"
+    "a chain while a clock goes up"
+    "a tenth not live"
+    "a late rule"
+    "16 rules, some late, some shadowed"
+    "256 rules, an event each"
+    "256 rules, the last decides nothing"
+    "256 rules, random bounds"
 )
 
 sides=(plain)
@@ -135,5 +150,16 @@ if [[ ${sides[-1]} == library ]]; then
         options=()
         awk -v policy="$policy" -v whole="$whole" -v verdict="$verdict" \
             'BEGIN { printf "%-44s %12d %12d %8.2f\n", policy, whole - verdict, whole, whole / (whole - verdict) }'
+    done
+
+    # What is counted is the right work: the model strikes out the same.
+    target/release/agree cleanings >/dev/null
+    echo "instructions a call of clean, beside prepare"
+    printf '%-44s %12s %12s %8s\n' policy prepare clean ratio
+    for policy in "${cleaned[@]}"; do
+        prepare=$(per_time library 1 2 "$policy" prepare)
+        clean=$(per_time library 1 2 "$policy" clean)
+        awk -v policy="$policy" -v prepare="$prepare" -v clean="$clean" \
+            'BEGIN { printf "%-44s %12.0f %12.0f %8.2f\n", policy, prepare, clean, clean / prepare }'
     done
 fi

@@ -1,5 +1,8 @@
 //! Sets the plain program against the reference model, on random calls and
-//! on the laws of joins and runs.
+//! on the laws of joins and runs, and the library's clean on the policies that it
+//! is counted on.
+
+mod cleanings;
 
 // The model and its random cases, as they stand. Not all of it is used here.
 #[path = "../../independent/src"]
@@ -46,13 +49,13 @@ use meter::Lent;
 use model::*;
 use std::process::ExitCode;
 
-const USAGE: &str = "usage: agree GROUPS SEED";
+const USAGE: &str = "usage: agree GROUPS SEED\n       agree cleanings";
 
 fn main() -> ExitCode {
     let words: Vec<String> = std::env::args().skip(1).collect();
     match agree(&words) {
-        Ok(tally) => {
-            println!("{tally}no difference");
+        Ok(found) => {
+            println!("{found}no difference");
             ExitCode::SUCCESS
         }
         Err(complaint) => {
@@ -62,15 +65,19 @@ fn main() -> ExitCode {
     }
 }
 
-fn agree(words: &[String]) -> Result<Tally, String> {
-    let [groups, seed] = words else {
-        return Err(USAGE.to_string());
-    };
-    let (groups, seed) = (number(groups)?, number(seed)?);
+fn agree(words: &[String]) -> Result<String, String> {
+    match words {
+        [cleanings] if cleanings == "cleanings" => cleanings::table(),
+        [groups, seed] => at_random(number(groups)?, number(seed)?),
+        _ => Err(USAGE.to_string()),
+    }
+}
+
+fn at_random(groups: u64, seed: u64) -> Result<String, String> {
     let mut tally = Tally::default();
     let goes_on = |group| group < groups;
     compare::compare(&mut PlainSide, seed, goes_on, false, &mut tally)?;
-    Ok(tally)
+    Ok(tally.to_string())
 }
 
 fn number(word: &str) -> Result<u64, String> {

@@ -1,9 +1,10 @@
 //! All that is measured, in the order of the table.
 
+use crate::cleanings::CLEANED;
 use crate::file::Policy;
 use crate::policies;
 use crate::streams::{Edits, Stream, Wave, STREAMS, WAVES};
-use crate::work::{HalfWork, JoinWork, PrepareWork, WaveReadWork, WaveWriteWork, Work};
+use crate::work::{CleanWork, HalfWork, JoinWork, PrepareWork, WaveReadWork, WaveWriteWork, Work};
 
 /// Long enough that the one check of the file is a small part of a run, and
 /// that no branch predictor learns the stream.
@@ -20,21 +21,30 @@ pub struct Case {
 /// A policy that is prepared, under a reading.
 pub struct Preparation {
     pub name: &'static str,
-    reading: u8,
+    pub reading: u8,
     policy: fn() -> Policy,
 }
 
 impl Preparation {
     pub fn named(name: &str) -> Option<&'static Preparation> {
-        PREPARED.iter().find(|preparation| preparation.name == name)
+        let mut all = PREPARED.iter().chain(&CLEANED);
+        all.find(|preparation| preparation.name == name)
+    }
+
+    pub fn file(&self) -> Vec<u8> {
+        (self.policy)().encode()
     }
 
     pub fn work(&self) -> PrepareWork {
-        PrepareWork::new(self.reading, &(self.policy)())
+        PrepareWork::new(self.reading, self.file())
+    }
+
+    pub fn clean_work(&self) -> CleanWork {
+        CleanWork::new(self.reading, self.file())
     }
 }
 
-const fn prepared(name: &'static str, reading: u8, policy: fn() -> Policy) -> Preparation {
+pub const fn prepared(name: &'static str, reading: u8, policy: fn() -> Policy) -> Preparation {
     Preparation {
         name,
         reading,

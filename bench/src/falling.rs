@@ -88,12 +88,8 @@ fn started(mut policy: Policy) -> Policy {
     }
     let clocks = policy.ceilings.len();
     let stay = Rule {
-        source: 0,
-        input: Condition::ANY,
-        output: Condition::ANY,
         reset: (1 << clocks) - 1,
-        target: 0,
-        bounds: vec![OPEN; clocks],
+        ..Rule::open(0, 0, clocks)
     };
     policy.rules.insert(0, stay);
     policy.locations.insert(0, 0);
@@ -104,7 +100,7 @@ fn started(mut policy: Policy) -> Policy {
 /// at the ceiling: each for the input given, or for any if there is none such.
 fn crowd(input: impl Fn(u8) -> u8) -> Policy {
     let value = |value| match value < 16 {
-        true => Condition { care: 15, value },
+        true => Condition::value(value),
         false => Condition::ANY,
     };
     let rules = (0..255).map(|event| Rule {
@@ -139,12 +135,10 @@ fn longest_chain() -> Policy {
 
 fn rule(source: u8, input: Condition, reset: u8, target: u8, bound: Bound) -> Rule {
     Rule {
-        source,
         input,
-        output: Condition::ANY,
         reset,
-        target,
         bounds: vec![bound],
+        ..Rule::open(source, target, 1)
     }
 }
 
@@ -165,11 +159,10 @@ const AT_THE_LAST: Bound = (1000, NO_UPPER_BOUND);
 /// 64,064 states, none of which dies; the first rules of each location forbid
 /// some inputs.
 fn barred() -> Policy {
-    let value = |value| Condition { care: 15, value };
     let mut rules = Vec::new();
     for source in 0..64 {
         for input in 13..16 {
-            rules.push(rule(source, value(input), 0, VIOLATION, OPEN));
+            rules.push(rule(source, Condition::value(input), 0, VIOLATION, OPEN));
         }
         rules.push(rule(source, Condition::ANY, 1, (source + 1) % 64, OPEN));
     }

@@ -4,6 +4,9 @@
 pub const MOST_STATES: usize = 65_536;
 pub const LONGEST_FILE: usize = 5_974;
 
+/// As many bytes as the list has of what is struck out of a policy.
+pub const LONGEST_LIST: usize = 957;
+
 /// The target that stands for the violation.
 pub const VIOLATION: u8 = 255;
 
@@ -17,8 +20,21 @@ pub struct Condition {
 impl Condition {
     pub const ANY: Condition = Condition { care: 0, value: 0 };
 
+    /// All four bits must be as given.
+    pub const fn value(value: u8) -> Condition {
+        Condition {
+            care: 0b1111,
+            value,
+        }
+    }
+
+    /// No other of the four bits may be set.
+    pub const fn within(bits: u8) -> Condition {
+        Condition::clear(!bits & 0b1111)
+    }
+
     /// The given bits must all be set.
-    pub fn set(bits: u8) -> Condition {
+    pub const fn set(bits: u8) -> Condition {
         Condition {
             care: bits,
             value: bits,
@@ -26,7 +42,7 @@ impl Condition {
     }
 
     /// The given bits must all be clear.
-    pub fn clear(bits: u8) -> Condition {
+    pub const fn clear(bits: u8) -> Condition {
         Condition {
             care: bits,
             value: 0,
@@ -52,6 +68,20 @@ pub struct Rule {
     pub target: u8,
     /// One for each clock.
     pub bounds: Vec<Bound>,
+}
+
+impl Rule {
+    /// Takes every event at any values of so many clocks, and resets none.
+    pub fn open(source: u8, target: u8, clocks: usize) -> Rule {
+        Rule {
+            source,
+            input: Condition::ANY,
+            output: Condition::ANY,
+            reset: 0,
+            target,
+            bounds: vec![OPEN; clocks],
+        }
+    }
 }
 
 pub struct Policy {

@@ -2,6 +2,7 @@
 //! instructions.
 
 use crate::cases::Preparation;
+use crate::cleanings::Clean;
 use crate::engine::{found_in, refusal_in, Engine};
 use crate::policies;
 use crate::ready::Ready;
@@ -68,6 +69,12 @@ pub fn prepare(engine: &dyn Engine, preparation: &Preparation, calls: usize) -> 
     let mut work = preparation.work();
     (0..calls).for_each(|_| work.pass(engine));
     Ok(())
+}
+
+/// So many calls of the library's clean.
+pub fn clean(clean: Clean, preparation: &Preparation, calls: usize) -> Result<(), String> {
+    let mut work = preparation.clean_work();
+    (0..calls).try_for_each(|_| not_refused(work.clean(clean)))
 }
 
 fn not_refused(answer: u64) -> Result<(), String> {

@@ -4,11 +4,12 @@
 #[path = "../../independent/src/basis.rs"]
 pub mod basis;
 pub mod cases;
+pub mod cleanings;
 mod clock;
 pub mod engine;
 pub mod engines;
 mod falling;
-mod file;
+pub mod file;
 mod generated;
 #[cfg(feature = "library")]
 #[path = "../../include/groovepawn.rs"]

@@ -93,19 +93,11 @@ pub fn prepare_fast(reading: u8, file: &[u8], marks: &mut [u8], work: &mut [Vec<
     ask!(groovepawn_prepare_fast[reading][file, marks, stack, from, ways, bound, place][])
 }
 
+pub fn clean(reading: u8, file: &[u8], cleaned: &mut [u8], struck: &mut [u8]) -> u64 {
+    ask!(groovepawn_clean[reading][file, cleaned, struck][])
+}
+
 /// Why the halves of an event are edited.
 pub fn why(reading: u8, file: &[u8], marks: &[u8], state: &[u16], x: u8, y: u8) -> u64 {
-    unsafe {
-        groovepawn_why(
-            reading,
-            file.as_ptr(),
-            file.len(),
-            marks.as_ptr(),
-            marks.len(),
-            state.as_ptr(),
-            state.len(),
-            x,
-            y,
-        )
-    }
+    ask!(groovepawn_why[reading][file, marks, state][x, y])
 }

@@ -2,6 +2,7 @@
 //! one side.
 
 use bench::cases::{Preparation, PREPARED};
+use bench::cleanings::{self, CLEANED};
 use bench::engine::{Engine, Plain};
 use bench::streams::{Stream, Wave, STREAMS, WAVES};
 use bench::{cases, engines, instructions, measure, report, whys, work};
@@ -41,6 +42,7 @@ fn perform(words: &[&str]) -> Result<(), String> {
             count_wave(side, calls, wave, instructions::read)
         }
         ["instructions", side, calls, policy, "prepare"] => count_prepare(side, calls, policy),
+        ["instructions", "library", calls, policy, "clean"] => count_clean(calls, policy),
         _ => Err(usage()),
     }
 }
@@ -48,12 +50,14 @@ fn perform(words: &[&str]) -> Result<(), String> {
 fn usage() -> String {
     let streams: Vec<&str> = STREAMS.iter().map(|stream| stream.name).collect();
     let waves: Vec<&str> = WAVES.iter().map(|wave| wave.name).collect();
-    let policies: Vec<&str> = PREPARED.iter().map(|policy| policy.name).collect();
+    let policies = PREPARED.iter().chain(&CLEANED);
+    let policies: Vec<&str> = policies.map(|policy| policy.name).collect();
     format!(
         "usage:\n  bench\n  bench engines [POLICY]\n  bench why [POLICY]\n  bench instructions plain|library TICKS [STREAM]\n  \
          bench instructions plain|library CALLS STREAM input|output\n  \
          bench instructions plain|library CALLS WAVE write|read\n  \
-         bench instructions plain|library CALLS POLICY prepare\n\
+         bench instructions plain|library CALLS POLICY prepare\n  \
+         bench instructions library CALLS POLICY clean\n\
          streams: {}\nwaves: {}\npolicies: {}",
         streams.join("; "),
         waves.join("; "),
@@ -131,11 +135,20 @@ fn count_prepare(side: &str, calls: &str, policy: &str) -> Result<(), String> {
     instructions::prepare(engine(side)?, preparation, calls)
 }
 
+fn count_clean(calls: &str, policy: &str) -> Result<(), String> {
+    let calls = calls.parse().map_err(|_| usage())?;
+    let preparation = Preparation::named(policy).ok_or_else(usage)?;
+    let clean = cleanings::LIBRARY.ok_or(NO_LIBRARY)?;
+    instructions::clean(clean, preparation, calls)
+}
+
+const NO_LIBRARY: &str = "build with `--features library`";
+
 fn engine(side: &str) -> Result<&'static dyn Engine, String> {
     match (side, second_side()) {
         ("plain", _) => Ok(&Plain),
         ("library", ("library", library)) => Ok(library),
-        ("library", _) => Err("build with `--features library`".to_string()),
+        ("library", _) => Err(NO_LIBRARY.to_string()),
         _ => Err(usage()),
     }
 }

@@ -75,22 +75,12 @@ pub fn crowded() -> Policy {
             rule.target = VIOLATION;
         }
     }
-    policy.rules.push(Rule {
-        source: 0,
-        input: Condition::ANY,
-        output: Condition::ANY,
-        reset: 0,
-        target: 0,
-        bounds: vec![OPEN; policy.ceilings.len()],
-    });
+    policy.rules.push(Rule::open(0, 0, policy.ceilings.len()));
     policy
 }
 
 fn one_value(random: &mut Random) -> Condition {
-    Condition {
-        care: 0b1111,
-        value: random.byte() & 0b1111,
-    }
+    Condition::value(random.byte() & 0b1111)
 }
 
 /// Where every rule costs a tick the most while it takes nothing: 255 rules
@@ -113,11 +103,15 @@ pub fn barred() -> Policy {
 /// has no rules; of the inputs nearest to 0 the first is 8.
 pub fn nested() -> Policy {
     let bound = (0, 2);
-    let within = |value: u8| Condition::clear(!value & 0b1111);
     let rule = |event: u8| {
         let (x, y) = (event >> 4, event & 15);
         let target = u8::from(x == 0 || (x, y) == (8, 0));
-        one_location(within(x), within(y), target, [bound; 4])
+        one_location(
+            Condition::within(x),
+            Condition::within(y),
+            target,
+            [bound; 4],
+        )
     };
     from_one_location((0..=255).map(rule).collect())
 }

@@ -1,6 +1,7 @@
 //! Pieces of work: inputs made once, and buffers that both sides write to in
 //! turn.
 
+mod clean;
 mod halves;
 mod join;
 mod prepare;
@@ -9,6 +10,7 @@ mod wave;
 
 use crate::engine::{Engine, State};
 
+pub use clean::CleanWork;
 pub use halves::HalfWork;
 pub use join::JoinWork;
 pub use prepare::PrepareWork;

@@ -2,7 +2,7 @@
 
 use super::{Outcome, Work, FILLER};
 use crate::engine::Engine;
-use crate::file::{Policy, MOST_STATES};
+use crate::file::MOST_STATES;
 
 /// One call of prepare.
 pub struct PrepareWork {
@@ -13,10 +13,10 @@ pub struct PrepareWork {
 }
 
 impl PrepareWork {
-    pub fn new(reading: u8, policy: &Policy) -> PrepareWork {
+    pub fn new(reading: u8, file: Vec<u8>) -> PrepareWork {
         PrepareWork {
             reading,
-            file: policy.encode(),
+            file,
             marks: vec![FILLER; MOST_STATES],
             answer: 0,
         }
