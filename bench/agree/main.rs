@@ -44,6 +44,7 @@ use bench::engine::{Engine as _, Plain};
 use call::Work;
 use compare::Tally;
 use engine::{Engine, Model};
+use index::Indexed;
 use meter::Lent;
 // The modules of the model name each other from the root.
 use model::*;
@@ -112,8 +113,8 @@ impl Engine for PlainSide {
     asks! {
         Model.ticks(milliseconds: u32, tick_length: u32, up: u8);
         Model.index(file: &[u8], index: &mut [u16]);
-        Model.input_indexed(basis: Basis, index: &[u16], state: &[u16], x: u8);
-        Model.output_indexed(basis: Basis, index: &[u16], state: &mut [u16], x: u8, y: u8);
+        Model.input_indexed(indexed: Indexed, state: &[u16], x: u8);
+        Model.output_indexed(indexed: Indexed, state: &mut [u16], x: u8, y: u8);
         Model.bays_new(states: &mut [u16]);
         Model.bay_input(basis: Basis, states: &[u16], bay: u32, x: u8);
         Model.bay_output(basis: Basis, states: &mut [u16], bay: u32, x: u8, y: u8);

@@ -216,9 +216,9 @@ impl Call {
             Call::Index { .. } => engine.index(file, &mut numbers),
             Call::InputIndexed {
                 state, index, x, ..
-            } => engine.input_indexed(basis, index, state, *x),
+            } => engine.input_indexed((basis, index), state, *x),
             Call::OutputIndexed { index, x, y, .. } => {
-                engine.output_indexed(basis, index, &mut numbers, *x, *y)
+                engine.output_indexed((basis, index), &mut numbers, *x, *y)
             }
             Call::BaysNew { .. } => engine.bays_new(&mut numbers),
             Call::BayInput { states, bay, x, .. } => engine.bay_input(basis, states, *bay, *x),

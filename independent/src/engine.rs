@@ -6,7 +6,7 @@ use crate::bays;
 use crate::call::Work;
 use crate::clean;
 use crate::enforce;
-use crate::index;
+use crate::index::{self, Indexed};
 use crate::join;
 use crate::meter::{self, Lent};
 use crate::refusal::Refusal;
@@ -45,17 +45,10 @@ pub trait Engine {
     fn index(&mut self, file: &[u8], index: &mut [u16]) -> u64;
 
     /// refusal | x' << 8
-    fn input_indexed(&mut self, basis: Basis, index: &[u16], state: &[u16], x: u8) -> u64;
+    fn input_indexed(&mut self, indexed: Indexed, state: &[u16], x: u8) -> u64;
 
     /// refusal | y' << 8
-    fn output_indexed(
-        &mut self,
-        basis: Basis,
-        index: &[u16],
-        state: &mut [u16],
-        x: u8,
-        y: u8,
-    ) -> u64;
+    fn output_indexed(&mut self, indexed: Indexed, state: &mut [u16], x: u8, y: u8) -> u64;
 
     /// refusal
     fn bays_new(&mut self, states: &mut [u16]) -> u64;
@@ -156,19 +149,12 @@ impl Engine for Model {
         done(index::index(file, lent))
     }
 
-    fn input_indexed(&mut self, basis: Basis, lent: &[u16], state: &[u16], x: u8) -> u64 {
-        packed(index::input_half(basis, lent, state, x))
+    fn input_indexed(&mut self, indexed: Indexed, state: &[u16], x: u8) -> u64 {
+        packed(index::input_half(indexed, state, x))
     }
 
-    fn output_indexed(
-        &mut self,
-        basis: Basis,
-        lent: &[u16],
-        state: &mut [u16],
-        x: u8,
-        y: u8,
-    ) -> u64 {
-        packed(index::output_half(basis, lent, state, x, y))
+    fn output_indexed(&mut self, indexed: Indexed, state: &mut [u16], x: u8, y: u8) -> u64 {
+        packed(index::output_half(indexed, state, x, y))
     }
 
     fn bays_new(&mut self, states: &mut [u16]) -> u64 {

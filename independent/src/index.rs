@@ -10,6 +10,9 @@ use crate::refusal::Refusal;
 /// Two numbers for each location that there can be.
 pub const INDEX_LENGTH: usize = 2 * MAX_LOCATIONS;
 
+/// What a half goes by that is lent an index.
+pub type Indexed<'a> = (Basis<'a>, &'a [u16]);
+
 /// "The first is always the count of rules with a lower source, also for a
 /// location without rules, whose number is 0. An index has 64 entries, 0 and 0
 /// past the locations."
@@ -34,28 +37,20 @@ pub fn index(file: &[u8], index: &mut [u16]) -> Result<(), Refusal> {
 }
 
 /// The input half; an index that is not that of the file is refused.
-pub fn input_half(basis: Basis, index: &[u16], state: &[u16], x: u8) -> Result<u8, Refusal> {
-    check_index(basis, index)?;
-    enforce::input_half(basis, state, x)
+pub fn input_half(indexed: Indexed, state: &[u16], x: u8) -> Result<u8, Refusal> {
+    enforce::input_half(checked(indexed)?, state, x)
 }
 
 /// The output half likewise.
-pub fn output_half(
-    basis: Basis,
-    index: &[u16],
-    state: &mut [u16],
-    x: u8,
-    y: u8,
-) -> Result<u8, Refusal> {
-    check_index(basis, index)?;
-    enforce::output_half(basis, state, x, y)
+pub fn output_half(indexed: Indexed, state: &mut [u16], x: u8, y: u8) -> Result<u8, Refusal> {
+    enforce::output_half(checked(indexed)?, state, x, y)
 }
 
 /// 22 and 1 to 9 come before 28, and all others after it.
-fn check_index(basis: Basis, index: &[u16]) -> Result<(), Refusal> {
+fn checked((basis, index): Indexed) -> Result<Basis, Refusal> {
     let (_, policy) = enforce::read(basis)?;
     match *index == index_of(&policy) {
-        true => Ok(()),
+        true => Ok(basis),
         false => Err(Refusal::WrongIndex),
     }
 }

@@ -6,6 +6,7 @@ use crate::basis::Basis;
 use crate::call::Work;
 use crate::engine::Engine;
 use crate::groovepawn::*;
+use crate::index::Indexed;
 use crate::meter;
 
 const GUARD: usize = 16;
@@ -154,19 +155,13 @@ impl Engine for Library {
         ask!(self.groovepawn_index[][file, index][])
     }
 
-    fn input_indexed(&mut self, basis: Basis, index: &[u16], state: &[u16], x: u8) -> u64 {
+    fn input_indexed(&mut self, (basis, index): Indexed, state: &[u16], x: u8) -> u64 {
         let (reading, file, marks) = basis.parts();
         ask!(self.groovepawn_input_indexed[reading][file, index, marks, state][x])
     }
 
-    fn output_indexed(
-        &mut self,
-        basis: Basis,
-        index: &[u16],
-        state: &mut [u16],
-        x: u8,
-        y: u8,
-    ) -> u64 {
+    fn output_indexed(&mut self, indexed: Indexed, state: &mut [u16], x: u8, y: u8) -> u64 {
+        let (basis, index) = indexed;
         let (reading, file, marks) = basis.parts();
         ask!(self.groovepawn_output_indexed[reading][file, index, marks, state][x, y])
     }

@@ -1,6 +1,6 @@
 //! Lists of bays, and the halves of one bay.
 
-use super::halves::half_call;
+use super::halves::{call, Asked, Half};
 use super::some_numbers;
 use crate::bays::MOST_BAYS;
 use crate::call::Call;
@@ -21,62 +21,24 @@ pub fn bays_new_call(random: &mut Random) -> Call {
 
 /// A half of one bay. The states of the others are anything at all.
 pub fn bay_call(random: &mut Random, subject: &Subject) -> Call {
-    let half = half_call(random, subject, 50);
+    let Half { asked, state, y } = Half::some(random, subject, 50);
     let bays = random.between(1, MOST_BAYS);
     let own = random.between(0, bays - 1);
-    let mut list = |state: Vec<u16>| {
-        let mut states = some_numbers(random, bays * STATE_LENGTH);
-        // A state of another length makes a list of another length.
-        states.splice(own * STATE_LENGTH..(own + 1) * STATE_LENGTH, state);
-        let bay = match random.below(20) {
-            0 => bays,
-            1 => bays + random.between(1, 300),
-            2 => own + (1 << random.between(8, 31)),
-            3 => random.between(0, bays - 1),
-            _ => own,
-        };
-        if random.percent(4) {
-            states.truncate(random.between(0, states.len()));
-        }
-        (states, bay as u32)
-    };
-    match half {
-        Call::Input {
-            reading,
-            file,
-            marks,
-            state,
-            x,
-        } => {
-            let (states, bay) = list(state);
-            Call::BayInput {
-                reading,
-                file,
-                marks,
-                states,
-                bay,
-                x,
-            }
-        }
-        Call::Output {
-            reading,
-            file,
-            marks,
-            state,
-            x,
-            y,
-        } => {
-            let (states, bay) = list(state);
-            Call::BayOutput {
-                reading,
-                file,
-                marks,
-                states,
-                bay,
-                x,
-                y,
-            }
-        }
-        other => other,
+    let mut states = some_numbers(random, bays * STATE_LENGTH);
+    // A state of another length makes a list of another length.
+    states.splice(own * STATE_LENGTH..(own + 1) * STATE_LENGTH, state);
+    let bay = match random.below(20) {
+        0 => bays,
+        1 => bays + random.between(1, 300),
+        2 => own + (1 << random.between(8, 31)),
+        3 => random.between(0, bays - 1),
+        _ => own,
+    } as u32;
+    if random.percent(4) {
+        states.truncate(random.between(0, states.len()));
+    }
+    match y {
+        None => call!(BayInput, asked, states, bay),
+        Some(y) => call!(BayOutput, asked, states, bay, y),
     }
 }

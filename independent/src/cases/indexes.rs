@@ -1,6 +1,6 @@
 //! Calls that make a rule index or go by one.
 
-use super::halves::half_call;
+use super::halves::{call, Asked, Half};
 use super::some_numbers;
 use crate::call::Call;
 use crate::index::{self, INDEX_LENGTH};
@@ -24,39 +24,10 @@ pub fn index_call(random: &mut Random, subject: &Subject) -> Call {
 /// A half with an index, which is mostly that of the file.
 pub fn indexed_call(random: &mut Random, subject: &Subject) -> Call {
     let index = some_index(random, &subject.policy);
-    let half = half_call(random, subject, 50);
-    match half {
-        Call::Input {
-            reading,
-            file,
-            marks,
-            state,
-            x,
-        } => Call::InputIndexed {
-            reading,
-            file,
-            marks,
-            state,
-            index,
-            x,
-        },
-        Call::Output {
-            reading,
-            file,
-            marks,
-            state,
-            x,
-            y,
-        } => Call::OutputIndexed {
-            reading,
-            file,
-            marks,
-            state,
-            index,
-            x,
-            y,
-        },
-        other => other,
+    let Half { asked, state, y } = Half::some(random, subject, 50);
+    match y {
+        None => call!(InputIndexed, asked, state, index),
+        Some(y) => call!(OutputIndexed, asked, state, index, y),
     }
 }
 

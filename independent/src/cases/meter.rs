@@ -1,6 +1,6 @@
 //! Calls of a station with a meter.
 
-use super::halves::half_call;
+use super::halves::{call, Asked, Half};
 use super::some_numbers;
 use crate::call::Call;
 use crate::damage;
@@ -75,7 +75,11 @@ fn some_totals(random: &mut Random, length: usize) -> Vec<u32> {
 }
 
 fn meter_call(random: &mut Random, subject: &Subject) -> Call {
-    let half = half_call(random, subject, 40);
+    let Half {
+        mut asked,
+        state: mut station,
+        y,
+    } = Half::some(random, subject, 40);
     let last = random.next() as u16;
     let register = match random.below(4) {
         0 => last,
@@ -91,53 +95,13 @@ fn meter_call(random: &mut Random, subject: &Subject) -> Call {
     let tags = (&subject.policy.inputs, &subject.policy.outputs);
     let metered = tags.0.contains(&b'P') && tags.1.contains(&b'D');
     // Where 26 is due, marks that are too short as well.
-    let most_marks = match !metered && random.percent(40) {
-        true => subject.states() - 1,
-        false => usize::MAX,
-    };
-    let station = |mut state: Vec<u16>| {
-        state.truncate(7);
-        state.push(last);
-        state
-    };
-    match half {
-        Call::Input {
-            reading,
-            file,
-            mut marks,
-            state,
-            x,
-        } => Call::MeterInput {
-            reading,
-            file,
-            marks: {
-                marks.truncate(most_marks);
-                marks
-            },
-            station: station(state),
-            register,
-            x,
-        },
-        Call::Output {
-            reading,
-            file,
-            mut marks,
-            state,
-            x,
-            y,
-        } => Call::MeterOutput {
-            reading,
-            file,
-            marks: {
-                marks.truncate(most_marks);
-                marks
-            },
-            station: station(state),
-            totals,
-            register,
-            x,
-            y,
-        },
-        other => other,
+    if !metered && random.percent(40) {
+        asked.marks.truncate(subject.states() - 1);
+    }
+    station.truncate(7);
+    station.push(last);
+    match y {
+        None => call!(MeterInput, asked, station, register),
+        Some(y) => call!(MeterOutput, asked, station, totals, register, y),
     }
 }

@@ -1,10 +1,11 @@
 //! Questions why something was edited.
 
+use super::halves::{call, some_output, Asked};
 use crate::call::Call;
 use crate::policies;
 use crate::random::Random;
 use crate::reading::READINGS;
-use crate::subject::{some_reading, some_state, some_value, Subject};
+use crate::subject::{some_state, Subject};
 
 /// Questions about edits, of policies in which much is edited for what comes
 /// later.
@@ -31,12 +32,7 @@ pub fn why_call(random: &mut Random, subject: &Subject) -> Call {
         6 => marks.truncate(marks.len() - 1),
         _ => {}
     }
-    Call::Why {
-        reading: some_reading(random, subject),
-        file: subject.file.clone(),
-        marks,
-        state,
-        x: some_value(random, subject.policy.input_mask()),
-        y: some_value(random, subject.policy.output_mask()),
-    }
+    let asked = Asked::some(random, subject, marks);
+    let y = some_output(random, subject);
+    call!(Why, asked, state, y)
 }

@@ -16,6 +16,7 @@ mod why;
 use crate::basis::Basis;
 use crate::call::Work;
 use crate::engine::{Engine, Model};
+use crate::index::Indexed;
 use crate::meter::Lent;
 pub use faults::{Fault, FAULTS};
 
@@ -49,8 +50,8 @@ impl Engine for Spoilt {
         waves::wave_write(file: &[u8], events: &[u8], text: &mut [u8]);
         waves::wave_read(file: &[u8], text: &[u8], events: &mut [u8]);
         indexes::index(file: &[u8], index: &mut [u16]);
-        indexes::input_indexed(basis: Basis, index: &[u16], state: &[u16], x: u8);
-        indexes::output_indexed(basis: Basis, index: &[u16], state: &mut [u16], x: u8, y: u8);
+        indexes::input_indexed(indexed: Indexed, state: &[u16], x: u8);
+        indexes::output_indexed(indexed: Indexed, state: &mut [u16], x: u8, y: u8);
         bays::bays_new(states: &mut [u16]);
         bays::bay_input(basis: Basis, states: &[u16], bay: u32, x: u8);
         bays::bay_output(basis: Basis, states: &mut [u16], bay: u32, x: u8, y: u8);

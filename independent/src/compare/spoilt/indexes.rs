@@ -1,9 +1,8 @@
 //! The rule index and the halves that go by it, spoilt.
 
 use super::{Fault, Spoilt};
-use crate::basis::Basis;
 use crate::engine::{Engine, Model};
-use crate::index;
+use crate::index::{self, Indexed};
 use crate::parse;
 
 pub fn index(spoilt: &Spoilt, file: &[u8], index: &mut [u16]) -> u64 {
@@ -16,26 +15,19 @@ pub fn index(spoilt: &Spoilt, file: &[u8], index: &mut [u16]) -> u64 {
     answer
 }
 
-pub fn input_indexed(spoilt: &Spoilt, basis: Basis, index: &[u16], state: &[u16], x: u8) -> u64 {
-    let index = seen_index(spoilt, basis, index, state);
-    Model.input_indexed(basis, &index, state, x)
+pub fn input_indexed(spoilt: &Spoilt, indexed: Indexed, state: &[u16], x: u8) -> u64 {
+    let index = seen_index(spoilt, indexed, state);
+    Model.input_indexed((indexed.0, &index), state, x)
 }
 
-pub fn output_indexed(
-    spoilt: &Spoilt,
-    basis: Basis,
-    index: &[u16],
-    state: &mut [u16],
-    x: u8,
-    y: u8,
-) -> u64 {
-    let index = seen_index(spoilt, basis, index, state);
-    Model.output_indexed(basis, &index, state, x, y)
+pub fn output_indexed(spoilt: &Spoilt, indexed: Indexed, state: &mut [u16], x: u8, y: u8) -> u64 {
+    let index = seen_index(spoilt, indexed, state);
+    Model.output_indexed((indexed.0, &index), state, x, y)
 }
 
 /// The index as a spoilt reader sees it: where it would take a wrong
 /// one, it sees the right one.
-fn seen_index(spoilt: &Spoilt, basis: Basis, lent: &[u16], state: &[u16]) -> Vec<u16> {
+fn seen_index(spoilt: &Spoilt, (basis, lent): Indexed, state: &[u16]) -> Vec<u16> {
     let Ok(policy) = parse::check(basis.file) else {
         return lent.to_vec();
     };
