@@ -18,6 +18,8 @@ mod model {
     pub mod engine;
     pub mod events;
     pub mod graph;
+    #[allow(dead_code)]
+    pub mod hex;
     pub mod index;
     pub mod join;
     pub mod laws;

@@ -6,9 +6,9 @@
 //! same way; the bytes of a join carry no reading.
 
 use crate::basis::Basis;
-use crate::call::hex;
 use crate::engine::{found_in, refusal_in, Engine};
 use crate::events::RuleBook;
+use crate::hex::hex;
 use crate::moment::STATE_LENGTH;
 use crate::parse;
 use crate::policies::{self, Family};

@@ -14,6 +14,7 @@ mod graph;
 #[cfg(feature = "library")]
 #[path = "../../include/groovepawn.rs"]
 mod groovepawn;
+mod hex;
 mod index;
 mod join;
 mod laws;

@@ -2,9 +2,9 @@
 
 use crate::basis::Basis;
 use crate::bays::passed;
-use crate::call::hex;
 use crate::enforce;
 use crate::engine::{found_in, refusal_in, Engine};
+use crate::hex::hex;
 use crate::moment::STATE_LENGTH;
 use crate::policies::{self, Size};
 use crate::policy::Policy;

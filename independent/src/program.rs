@@ -6,7 +6,7 @@ mod ran;
 mod run;
 mod words;
 
-use crate::call::hex;
+use crate::hex::hex;
 use crate::random::Random;
 use inputs::some_input;
 use ran::Ran;
@@ -92,7 +92,7 @@ fn described(input: &[u8], expected: &str, found: &str) -> String {
 #[cfg(test)]
 mod tests {
     use super::*;
-    use crate::call::from_hex as bytes;
+    use crate::hex::from_hex as bytes;
     use crate::samples;
     use crate::waves::MOST_EVENTS;
 

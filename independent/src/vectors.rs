@@ -1,11 +1,18 @@
 //! Calls and their outcomes as a file that a program without a heap can read
 //! from beginning to end. The README describes the format.
 
-use crate::call::{Call, Given, Outcome, Place, FUNCTIONS};
+mod parts;
+mod reader;
+mod writer;
+
+use crate::call::{Call, Given, Outcome, FUNCTIONS};
 use crate::cases;
 use crate::engine::{refusal_in, Engine, Model};
 use crate::refusal::LAST_REFUSAL;
 use crate::written;
+pub use parts::{writes_bytes, writes_list, writes_state, writes_totals};
+pub use reader::read;
+pub use writer::{file_of, record};
 
 pub const MAGIC: [u8; 4] = *b"GPV2";
 
@@ -38,14 +45,6 @@ pub fn vectors(count: usize, seed: u64) -> Vec<u8> {
         records.push(record);
     }
     file_of(records)
-}
-
-/// The records as a file.
-pub fn file_of(records: Vec<Vec<u8>>) -> Vec<u8> {
-    let mut file = MAGIC.to_vec();
-    put_number(&mut file, records.len());
-    file.extend(records.into_iter().flatten());
-    file
 }
 
 /// Random calls without end, short ones only, and no answer much more often
@@ -85,245 +84,6 @@ fn strings_fit(call: &Call) -> bool {
     })
 }
 
-/// One record: the kind, the length of the body, the body.
-pub fn record(call: &Call, outcome: &Outcome) -> Vec<u8> {
-    let body = body(call, outcome);
-    let mut record = vec![call.kind() as u8 + 1];
-    put_number(&mut record, body.len());
-    record.extend(body);
-    record
-}
-
-fn body(call: &Call, outcome: &Outcome) -> Vec<u8> {
-    let mut body = Vec::new();
-    for (_, given) in call.given() {
-        match given {
-            Given::Byte(byte) => body.push(*byte),
-            Given::Pair(pair) => body.extend(pair.to_be_bytes()),
-            Given::Word(word) => put_number(&mut body, *word as usize),
-            Given::Policy(bytes) | Given::Bytes(bytes) => put_string(&mut body, bytes),
-            Given::Numbers(numbers) => put_numbers(&mut body, numbers),
-            Given::Totals(totals) => put_totals(&mut body, totals),
-            Given::Work(work) => work.iter().for_each(|slice| put_numbers(&mut body, slice)),
-        }
-    }
-    body.extend(outcome.answer.to_be_bytes());
-    if writes_bytes(call.kind()) {
-        put_string(&mut body, &outcome.bytes);
-    }
-    if writes_state(call.kind()) {
-        put_numbers(&mut body, &outcome.state);
-    }
-    if writes_totals(call.kind()) {
-        put_totals(&mut body, &outcome.totals);
-    }
-    if writes_list(call.kind()) {
-        put_string(&mut body, &outcome.struck);
-    }
-    body
-}
-
-/// Both prepares, run, join, both functions of waves and clean.
-pub fn writes_bytes(kind: usize) -> bool {
-    [0, 3, 4, 6, 7, 17, 18].contains(&kind)
-}
-
-/// Clean.
-pub fn writes_list(kind: usize) -> bool {
-    kind == 18
-}
-
-/// Output, run, index, the output half with an index, of the bays the list and
-/// the output half, and of the meter the station and the output half.
-pub fn writes_state(kind: usize) -> bool {
-    [2, 3, 8, 10, 11, 13, 14, 16].contains(&kind)
-}
-
-/// Those of the meter that are lent them.
-pub fn writes_totals(kind: usize) -> bool {
-    [14, 16].contains(&kind)
-}
-
-fn put_number(out: &mut Vec<u8>, number: usize) {
-    out.extend((number as u32).to_be_bytes());
-}
-
-fn put_numbers(out: &mut Vec<u8>, numbers: &[u16]) {
-    out.push(numbers.len() as u8);
-    for number in numbers {
-        out.extend(number.to_be_bytes());
-    }
-}
-
-fn put_totals(out: &mut Vec<u8>, totals: &[u32]) {
-    out.push(totals.len() as u8);
-    for &total in totals {
-        put_number(out, total as usize);
-    }
-}
-
-/// The most that one piece of a packed string stands for.
-const LONGEST_PIECE: usize = 128;
-
-/// The length, then pieces: a byte below 128 is followed by so many bytes and
-/// one more; any other, less 127, is how often the next byte is repeated.
-fn put_string(out: &mut Vec<u8>, string: &[u8]) {
-    put_number(out, string.len());
-    let mut plain = Vec::new();
-    for same in string.chunk_by(|a, b| a == b) {
-        if same.len() < 3 {
-            plain.extend(same);
-            continue;
-        }
-        put_plain(out, &mut plain);
-        for piece in same.chunks(LONGEST_PIECE) {
-            out.extend([127 + piece.len() as u8, piece[0]]);
-        }
-    }
-    put_plain(out, &mut plain);
-}
-
-fn put_plain(out: &mut Vec<u8>, plain: &mut Vec<u8>) {
-    for piece in plain.chunks(LONGEST_PIECE) {
-        out.push(piece.len() as u8 - 1);
-        out.extend(piece);
-    }
-    plain.clear();
-}
-
-/// Reads a file of vectors from the front.
-struct Reader<'a> {
-    rest: &'a [u8],
-}
-
-/// Why a file of vectors cannot be read.
-const BROKEN: &str = "the file of vectors is cut short or not one";
-
-impl<'a> Reader<'a> {
-    fn take(&mut self, length: usize) -> Result<&'a [u8], String> {
-        if length > self.rest.len() {
-            return Err(BROKEN.to_string());
-        }
-        let (taken, rest) = self.rest.split_at(length);
-        self.rest = rest;
-        Ok(taken)
-    }
-
-    fn byte(&mut self) -> Result<u8, String> {
-        Ok(self.take(1)?[0])
-    }
-
-    /// A number of `length` bytes, the high byte first.
-    fn number(&mut self, length: usize) -> Result<u64, String> {
-        let bytes = self.take(length)?;
-        Ok(bytes
-            .iter()
-            .fold(0, |number, &byte| number << 8 | u64::from(byte)))
-    }
-
-    fn string(&mut self) -> Result<Vec<u8>, String> {
-        let length = self.number(4)? as usize;
-        let mut string = Vec::new();
-        while string.len() < length {
-            let piece = usize::from(self.byte()?);
-            match piece {
-                0..=127 => string.extend(self.take(piece + 1)?),
-                _ => string.extend(vec![self.byte()?; piece - 127]),
-            }
-        }
-        match string.len() == length {
-            true => Ok(string),
-            false => Err(BROKEN.to_string()),
-        }
-    }
-
-    fn numbers(&mut self) -> Result<Vec<u16>, String> {
-        let length = self.byte()?;
-        (0..length).map(|_| Ok(self.number(2)? as u16)).collect()
-    }
-
-    fn totals(&mut self) -> Result<Vec<u32>, String> {
-        let length = self.byte()?;
-        (0..length).map(|_| Ok(self.number(4)? as u32)).collect()
-    }
-
-    fn call(&mut self, kind: u8) -> Result<Call, String> {
-        let blank = usize::from(kind).checked_sub(1).and_then(Call::blank);
-        let mut call = blank.ok_or(BROKEN)?;
-        for place in call.places() {
-            match place {
-                Place::Byte(byte) => *byte = self.byte()?,
-                Place::Pair(pair) => *pair = self.number(2)? as u16,
-                Place::Word(word) => *word = self.number(4)? as u32,
-                Place::Policy(bytes) | Place::Bytes(bytes) => *bytes = self.string()?,
-                Place::Numbers(numbers) => *numbers = self.numbers()?,
-                Place::Totals(totals) => *totals = self.totals()?,
-                Place::Work(work) => {
-                    for numbers in work {
-                        *numbers = self.numbers()?;
-                    }
-                }
-            }
-        }
-        Ok(call)
-    }
-
-    fn outcome(&mut self, kind: usize) -> Result<Outcome, String> {
-        let answer = self.number(8)?;
-        let bytes = match writes_bytes(kind) {
-            true => self.string()?,
-            false => vec![],
-        };
-        let state = match writes_state(kind) {
-            true => self.numbers()?,
-            false => vec![],
-        };
-        let totals = match writes_totals(kind) {
-            true => self.totals()?,
-            false => vec![],
-        };
-        let struck = match writes_list(kind) {
-            true => self.string()?,
-            false => vec![],
-        };
-        Ok(Outcome {
-            answer,
-            bytes,
-            state,
-            totals,
-            struck,
-            ..Outcome::default()
-        })
-    }
-
-    fn record(&mut self) -> Result<(Call, Outcome), String> {
-        let kind = self.byte()?;
-        let length = self.number(4)? as usize;
-        let mut body = Reader {
-            rest: self.take(length)?,
-        };
-        let call = body.call(kind)?;
-        let outcome = body.outcome(call.kind())?;
-        match body.rest.is_empty() {
-            true => Ok((call, outcome)),
-            false => Err(BROKEN.to_string()),
-        }
-    }
-}
-
-pub fn read(file: &[u8]) -> Result<Vec<(Call, Outcome)>, String> {
-    let mut reader = Reader { rest: file };
-    if reader.take(MAGIC.len())? != MAGIC {
-        return Err(BROKEN.to_string());
-    }
-    let count = reader.number(4)?;
-    let records: Result<Vec<_>, String> = (0..count).map(|_| reader.record()).collect();
-    match reader.rest.is_empty() {
-        true => records,
-        false => Err(BROKEN.to_string()),
-    }
-}
-
 /// Puts every stored call to an engine; the error is the first that comes
 /// out otherwise.
 pub fn replay(file: &[u8], engine: &mut dyn Engine) -> Result<usize, String> {
@@ -342,29 +102,6 @@ pub fn replay(file: &[u8], engine: &mut dyn Engine) -> Result<usize, String> {
 #[cfg(test)]
 mod tests {
     use super::*;
-    use crate::random::Random;
-
-    #[test]
-    fn strings_come_back() {
-        let mut random = Random::new(91);
-        for length in (0..400).chain([65_600]) {
-            for spread in [1, 2, 3, 200] {
-                let string: Vec<u8> = (0..length).map(|_| random.below(spread) as u8).collect();
-                let mut packed = Vec::new();
-                put_string(&mut packed, &string);
-                let mut reader = Reader { rest: &packed };
-                assert_eq!(reader.string(), Ok(string));
-                assert!(reader.rest.is_empty());
-            }
-        }
-    }
-
-    #[test]
-    fn pieces_are_as_the_readme_says() {
-        let mut packed = Vec::new();
-        put_string(&mut packed, &[7, 8, 8, 9, 9, 9, 9, 1]);
-        assert_eq!(packed, [0, 0, 0, 8, 2, 7, 8, 8, 131, 9, 0, 1]);
-    }
 
     #[test]
     fn stored_calls_are_read_and_hold() {

@@ -18,7 +18,8 @@ mod waves;
 mod why;
 mod wrong_files;
 
-use crate::call::{from_hex, Call, Outcome};
+use crate::call::{Call, Outcome};
+use crate::hex::from_hex;
 use crate::moment::STATE_LENGTH;
 
 /// The reading of every call here that does not name another.
