@@ -55,25 +55,15 @@ use std::process::ExitCode;
 const USAGE: &str = "usage: agree GROUPS SEED\n       agree cleanings";
 
 fn main() -> ExitCode {
-    let words: Vec<String> = std::env::args().skip(1).collect();
-    match agree(&words) {
-        Ok(found) => {
-            println!("{found}no difference");
-            ExitCode::SUCCESS
-        }
-        Err(complaint) => {
-            eprintln!("{complaint}");
-            ExitCode::FAILURE
-        }
-    }
-}
-
-fn agree(words: &[String]) -> Result<String, String> {
-    match words {
-        [cleanings] if cleanings == "cleanings" => cleanings::table(),
-        [groups, seed] => at_random(number(groups)?, number(seed)?),
-        _ => Err(USAGE.to_string()),
-    }
+    bench::command::done(|words| {
+        let found = match *words {
+            ["cleanings"] => cleanings::table()?,
+            [groups, seed] => at_random(number(groups)?, number(seed)?)?,
+            _ => return Err(USAGE.to_string()),
+        };
+        println!("{found}no difference");
+        Ok(())
+    })
 }
 
 fn at_random(groups: u64, seed: u64) -> Result<String, String> {

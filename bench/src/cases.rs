@@ -4,7 +4,7 @@ use crate::cleanings::CLEANED;
 use crate::file::Policy;
 use crate::policies;
 use crate::streams::{Edits, Stream, Wave, STREAMS, WAVES};
-use crate::work::{CleanWork, HalfWork, JoinWork, PrepareWork, WaveReadWork, WaveWriteWork, Work};
+use crate::work::{CallWork, CleanWork, HalfWork, Work};
 
 /// Long enough that the one check of the file is a small part of a run, and
 /// that no branch predictor learns the stream.
@@ -35,8 +35,8 @@ impl Preparation {
         (self.policy)().encode()
     }
 
-    pub fn work(&self) -> PrepareWork {
-        PrepareWork::new(self.reading, self.file())
+    pub fn work(&self) -> CallWork {
+        CallWork::prepare(self.reading, self.file())
     }
 
     pub fn clean_work(&self) -> CleanWork {
@@ -106,16 +106,16 @@ fn prepare(preparation: &Preparation) -> Case {
 }
 
 fn join(size: &str, pair: (Policy, Policy)) -> Case {
-    case("join", size, JoinWork::new(pair))
+    case("join", size, CallWork::join(pair))
 }
 
 fn write(wave: &Wave) -> Case {
-    let work = WaveWriteWork::new(&policies::short(), wave.events(TICKS));
+    let work = CallWork::wave_write(&policies::short(), wave.events(TICKS));
     case("wave writer, an event", wave.name, work)
 }
 
 fn read(wave: &Wave) -> Case {
-    let work = WaveReadWork::new(&policies::short(), wave.events(TICKS));
+    let work = CallWork::wave_read(&policies::short(), wave.events(TICKS));
     case("wave reader, an event", wave.name, work)
 }
 

@@ -58,18 +58,15 @@ impl Engine for Plain {
     }
 
     fn input(&self, basis: Basis, state: &[u16], x: u8) -> u64 {
-        let (reading, file, marks) = basis.parts();
-        packed(plain::input(reading, file, marks, state, x))
+        packed(plain::input(basis, state, x))
     }
 
     fn output(&self, basis: Basis, state: &mut [u16], x: u8, y: u8) -> u64 {
-        let (reading, file, marks) = basis.parts();
-        packed(plain::output(reading, file, marks, state, x, y))
+        packed(plain::output(basis, state, x, y))
     }
 
     fn run(&self, basis: Basis, state: &mut [u16], events: &[u8], released: &mut [u8]) -> u64 {
-        let (reading, file, marks) = basis.parts();
-        let end = plain::run(reading, file, marks, state, events, released);
+        let end = plain::run(basis, state, events, released);
         let refusal = end.refusal.map_or(0, plain::Refusal::number);
         u64::from(refusal) | (end.released as u64) << 8
     }

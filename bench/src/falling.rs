@@ -34,47 +34,36 @@ pub fn row_of(name: &str, numbers: &[&str]) -> String {
 }
 
 pub fn all() -> Vec<Falling> {
-    vec![
-        of("none falls", policies::lasting()),
-        of("none falls, violations first", barred()),
-        of("a quarter cannot be left", policies::leaving()),
-        joined("joined", 0, 11),
-        joined("joined, another", 0, 12),
-        joined("joined, some must be left", 3, 13),
-        of("fall in rising order, 2 events", chain(1, 0, |_| 0)),
-        of("fall in rising order, 256 events", chain(4, 4, |_| 0)),
-        of("long ways to rest", long_ways()),
-        of("stuck loops", stuck()),
-        of("nested, in rising order", nested()),
-    ]
+    let mut all = from(|policy| policy);
+    all.push(joined("joined, another", 0, 12));
+    all
 }
 
-/// The same, with a start that lives where none did: `why` asks about a live
-/// state.
+/// With a start that lives where none did: `why` asks about a live state.
 pub fn living() -> Vec<Falling> {
+    let mut living = from(started);
+    let each = crowd(|event| event & 15);
+    living.extend([
+        of("fall in rising order, 65,536 states", longest_chain()),
+        of("255 rules, an event each", started(each)),
+        of("255 rules, all inputs each", started(crowd(|_| 16))),
+    ]);
+    living
+}
+
+/// What is done to those whose start does not live is given.
+fn from(start: impl Fn(Policy) -> Policy) -> Vec<Falling> {
     vec![
         of("none falls", policies::lasting()),
         of("none falls, violations first", barred()),
         of("a quarter cannot be left", policies::leaving()),
         joined("joined", 0, 11),
         joined("joined, some must be left", 3, 13),
-        of("fall in rising order, 65,536 states", longest_chain()),
-        of(
-            "fall in rising order, 2 events",
-            started(chain(1, 0, |_| 0)),
-        ),
-        of(
-            "fall in rising order, 256 events",
-            started(chain(4, 4, |_| 0)),
-        ),
+        of("fall in rising order, 2 events", start(chain(1, 0))),
+        of("fall in rising order, 256 events", start(chain(4, 4))),
         of("long ways to rest", long_ways()),
-        of("stuck loops", started(stuck())),
-        of("nested, in rising order", started(nested())),
-        of(
-            "255 rules, an event each",
-            started(crowd(|event| event & 15)),
-        ),
-        of("255 rules, all inputs each", started(crowd(|_| 16))),
+        of("stuck loops", start(stuck())),
+        of("nested, in rising order", start(nested())),
     ]
 }
 
@@ -177,9 +166,9 @@ fn barred() -> Policy {
 
 /// A state goes on to the location below with the next clock value, and there
 /// is no way on at the ceiling: each sweep takes few.
-fn chain(inputs: u8, outputs: u8, must_leave: impl Fn(u8) -> u8) -> Policy {
+fn chain(inputs: u8, outputs: u8) -> Policy {
     let rules = (0..50).map(|l| rule(l, Condition::ANY, 0, (l + 49) % 50, BEFORE_THE_LAST));
-    fifty(inputs, outputs, must_leave, rules.collect())
+    fifty(inputs, outputs, |_| 0, rules.collect())
 }
 
 /// All must be left but the last, a thousand ticks from each location.

@@ -7,7 +7,7 @@ use crate::engine::{found_in, refusal_in, Engine};
 use crate::policies;
 use crate::ready::Ready;
 use crate::streams::{Stream, Wave};
-use crate::work::{HalfWork, WaveReadWork, WaveWriteWork, Work};
+use crate::work::{CallWork, HalfWork};
 
 /// This many events are always made, however many are run, so that all that
 /// is done before the first tick is the same for every number of ticks.
@@ -54,20 +54,22 @@ const EVENTS: usize = 16_384;
 
 /// So many calls of the wave writer.
 pub fn write(engine: &dyn Engine, wave: &Wave, calls: usize) -> Result<(), String> {
-    let mut work = WaveWriteWork::new(&policies::short(), wave.events(EVENTS));
-    (0..calls).try_for_each(|_| not_refused(work.write(engine)))
+    let mut work = CallWork::wave_write(&policies::short(), wave.events(EVENTS));
+    (0..calls).try_for_each(|_| not_refused(work.call(engine)))
 }
 
 /// So many calls of the reader, of the text of the same stream.
 pub fn read(engine: &dyn Engine, wave: &Wave, calls: usize) -> Result<(), String> {
-    let mut work = WaveReadWork::new(&policies::short(), wave.events(EVENTS));
-    (0..calls).try_for_each(|_| not_refused(work.read(engine)))
+    let mut work = CallWork::wave_read(&policies::short(), wave.events(EVENTS));
+    (0..calls).try_for_each(|_| not_refused(work.call(engine)))
 }
 
 /// So many calls of prepare. That a policy is hopeless is an answer too.
 pub fn prepare(engine: &dyn Engine, preparation: &Preparation, calls: usize) -> Result<(), String> {
     let mut work = preparation.work();
-    (0..calls).for_each(|_| work.pass(engine));
+    for _ in 0..calls {
+        work.call(engine);
+    }
     Ok(())
 }
 

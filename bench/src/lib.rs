@@ -6,6 +6,8 @@ pub mod basis;
 pub mod cases;
 pub mod cleanings;
 mod clock;
+#[path = "../../independent/src/command.rs"]
+pub mod command;
 pub mod engine;
 pub mod engines;
 mod falling;

@@ -5,19 +5,11 @@ use bench::cases::{Preparation, PREPARED};
 use bench::cleanings::{self, CLEANED};
 use bench::engine::{Engine, Plain};
 use bench::streams::{Stream, Wave, STREAMS, WAVES};
-use bench::{cases, engines, instructions, measure, report, whys, work};
+use bench::{cases, command, engines, instructions, measure, report, whys, work};
 use std::process::ExitCode;
 
 fn main() -> ExitCode {
-    let words: Vec<String> = std::env::args().skip(1).collect();
-    let words: Vec<&str> = words.iter().map(String::as_str).collect();
-    match perform(&words) {
-        Ok(()) => ExitCode::SUCCESS,
-        Err(complaint) => {
-            eprintln!("{complaint}");
-            ExitCode::FAILURE
-        }
-    }
+    command::done(perform)
 }
 
 fn perform(words: &[&str]) -> Result<(), String> {

@@ -1,21 +1,17 @@
 //! Pieces of work: inputs made once, and buffers that both sides write to in
 //! turn.
 
+mod call;
 mod clean;
 mod halves;
-mod join;
-mod prepare;
 mod run;
-mod wave;
 
 use crate::engine::{Engine, State};
 
+pub use call::CallWork;
 pub use clean::CleanWork;
 pub use halves::HalfWork;
-pub use join::JoinWork;
-pub use prepare::PrepareWork;
 pub use run::RunWork;
-pub use wave::{WaveReadWork, WaveWriteWork};
 
 /// What no successful call leaves behind, so that a byte not written shows.
 pub const FILLER: u8 = 0xEE;

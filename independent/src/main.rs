@@ -5,6 +5,7 @@ mod bays;
 mod call;
 mod cases;
 mod clean;
+mod command;
 mod compare;
 mod damage;
 mod enforce;
@@ -60,15 +61,7 @@ const USAGE: &str = "usage:
   independent replay < FILE";
 
 fn main() -> ExitCode {
-    let words: Vec<String> = std::env::args().skip(1).collect();
-    let words: Vec<&str> = words.iter().map(String::as_str).collect();
-    match perform(&words) {
-        Ok(()) => ExitCode::SUCCESS,
-        Err(complaint) => {
-            eprintln!("{complaint}");
-            ExitCode::FAILURE
-        }
-    }
+    command::done(perform)
 }
 
 fn perform(words: &[&str]) -> Result<(), String> {

@@ -5,6 +5,7 @@ use super::refusal::Refusal;
 use super::rule::Rule;
 use super::sets::{all_below, is_in, Sets};
 use super::state::{Clocks, State};
+use crate::basis::Basis;
 
 /// How a run ended.
 #[derive(Clone, Copy, Debug, PartialEq, Eq)]
@@ -13,27 +14,18 @@ pub struct RunEnd {
     pub released: usize,
 }
 
-pub fn input(reading: u8, file: &[u8], marks: &[u8], state: &[u16], x: u8) -> Result<u8, Refusal> {
-    let policy = Policy::read(reading, file)?;
-    check_marks(&policy, marks)?;
-    let enforcer = Enforcer::new(&policy, marks);
+pub fn input(basis: Basis, state: &[u16], x: u8) -> Result<u8, Refusal> {
+    let policy = Policy::read(basis.reading, basis.file)?;
+    let enforcer = Enforcer::checked(&policy, basis.marks)?;
     let moment = enforcer.moment(state)?;
     check_value(x, policy.input_values())?;
     moment.choose_input(x).ok_or(Refusal::NothingReachesLive)
 }
 
 /// Changes the state in place; a refusal leaves it as it was.
-pub fn output(
-    reading: u8,
-    file: &[u8],
-    marks: &[u8],
-    state: &mut [u16],
-    x: u8,
-    y: u8,
-) -> Result<u8, Refusal> {
-    let policy = Policy::read(reading, file)?;
-    check_marks(&policy, marks)?;
-    let enforcer = Enforcer::new(&policy, marks);
+pub fn output(basis: Basis, state: &mut [u16], x: u8, y: u8) -> Result<u8, Refusal> {
+    let policy = Policy::read(basis.reading, basis.file)?;
+    let enforcer = Enforcer::checked(&policy, basis.marks)?;
     let moment = enforcer.moment(state)?;
     check_value(x, policy.input_values())?;
     check_value(y, policy.output_values())?;
@@ -43,15 +35,8 @@ pub fn output(
 }
 
 /// Refusal 17 leaves what was released before it and the state there.
-pub fn run(
-    reading: u8,
-    file: &[u8],
-    marks: &[u8],
-    state: &mut [u16],
-    events: &[u8],
-    released: &mut [u8],
-) -> RunEnd {
-    run_checked(reading, file, marks, state, events, released).unwrap_or_else(|refusal| RunEnd {
+pub fn run(basis: Basis, state: &mut [u16], events: &[u8], released: &mut [u8]) -> RunEnd {
+    run_checked(basis, state, events, released).unwrap_or_else(|refusal| RunEnd {
         refusal: Some(refusal),
         released: 0,
     })
@@ -59,16 +44,13 @@ pub fn run(
 
 /// The error is a refusal before the first event; a 17 is in the end.
 fn run_checked(
-    reading: u8,
-    file: &[u8],
-    marks: &[u8],
+    basis: Basis,
     state: &mut [u16],
     events: &[u8],
     released: &mut [u8],
 ) -> Result<RunEnd, Refusal> {
-    let policy = Policy::read(reading, file)?;
-    check_marks(&policy, marks)?;
-    let enforcer = Enforcer::new(&policy, marks);
+    let policy = Policy::read(basis.reading, basis.file)?;
+    let enforcer = Enforcer::checked(&policy, basis.marks)?;
     if released.len() < events.len() {
         return Err(Refusal::SliceTooShort);
     }
@@ -80,13 +62,6 @@ fn run_checked(
     let (end, after) = enforcer.release(start, events, released);
     after.write(state);
     Ok(end)
-}
-
-fn check_marks(policy: &Policy, marks: &[u8]) -> Result<(), Refusal> {
-    match marks.len() < policy.states {
-        true => Err(Refusal::MarksTooShort),
-        false => Ok(()),
-    }
 }
 
 fn check_value(value: u8, values: u8) -> Result<(), Refusal> {
@@ -107,6 +82,13 @@ impl<'a> Enforcer<'a> {
     /// There are as many marks as states, or more.
     pub fn new(policy: &'a Policy<'a>, marks: &'a [u8]) -> Enforcer<'a> {
         Enforcer { policy, marks }
+    }
+
+    fn checked(policy: &'a Policy<'a>, marks: &'a [u8]) -> Result<Enforcer<'a>, Refusal> {
+        match marks.len() < policy.states {
+            true => Err(Refusal::MarksTooShort),
+            false => Ok(Enforcer::new(policy, marks)),
+        }
     }
 
     fn is_marked(&self, state: State) -> bool {

@@ -1,18 +1,12 @@
 //! The samples and the marked cases of the policy paper.
 
+#[path = "../../../independent/src/samples.rs"]
+mod samples;
+
 use super::state::STATE_LENGTH;
 use super::*;
-
-const S: &str = "02 41 42 01 52 00 01 00 00 03
-    00 03 03 00 00 00 FF  00 02 02 01 01 00 FF  00 00 00 00 00 00 00";
-const D: &str = "01 52 01 43 01 00 03 02 00 00 00 04
-    00 01 01 00 00 01 01 00 00 FF FF  00 00 00 00 00 01 00 00 00 FF FF
-    01 00 00 01 01 01 00 00 00 FF FF  01 00 00 01 00 00 01 00 00 00 02";
-const T: &str = "01 41 01 42 00 02 00 00 00 02
-    00 01 01 00 00 00 01  00 00 00 00 00 00 00";
-const K: &str = "00 01 4B 01 00 03 01 00 00 02
-    00 00 00 01 01 00 FF 00 03 FF FF  00 00 00 00 00 00 00 00 00 FF FF";
-const N: &str = "00 00 00 01 00 00 00";
+use crate::basis::Basis;
+use samples::{D, K, N, S, T};
 
 fn bytes(hex: &str) -> Vec<u8> {
     let byte = |word: &str| u8::from_str_radix(word, 16).expect("two hex digits");
@@ -32,7 +26,8 @@ fn released(reading: u8, policy: &str, events: &[u8]) -> Result<Vec<u8>, Refusal
     prepare(reading, &file, &mut marks)?;
     let mut released = vec![9; events.len()];
     let mut state = [0; STATE_LENGTH];
-    let end = run(reading, &file, &marks, &mut state, events, &mut released);
+    let basis = Basis::new(reading, &file, &marks);
+    let end = run(basis, &mut state, events, &mut released);
     match end.refusal {
         Some(refusal) => Err(refusal),
         None => Ok(released),
@@ -80,6 +75,14 @@ fn refusal_11_leaves_the_marks() {
     assert_eq!((refused, marks), (Err(Refusal::StartNotLive), [0, 9]));
 }
 
+/// A policy, the events and what is released of them.
+fn release_so(reading: u8, cases: &[(&str, &str, &str)]) {
+    for (policy, events, expected) in cases {
+        let released = released(reading, policy, &bytes(events));
+        assert_eq!(released, Ok(bytes(expected)));
+    }
+}
+
 #[test]
 fn streams_of_the_samples() {
     let cases = [
@@ -93,9 +96,7 @@ fn streams_of_the_samples() {
         (K, "00 00 00 10", "00 00 00 00"),
         (S, "", ""),
     ];
-    for (policy, events, expected) in cases {
-        assert_eq!(released(1, policy, &bytes(events)), Ok(bytes(expected)));
-    }
+    release_so(1, &cases);
 }
 
 #[test]
@@ -106,9 +107,7 @@ fn reading_2_counts_the_tick_first() {
         (K, "00 00 10", "00 00 00"),
         (S, "03 12", "01 02"),
     ];
-    for (policy, events, expected) in cases {
-        assert_eq!(released(2, policy, &bytes(events)), Ok(bytes(expected)));
-    }
+    release_so(2, &cases);
 }
 
 #[test]
