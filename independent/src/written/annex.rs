@@ -1,7 +1,8 @@
 //! Adding a clause never loosens one, and why two enforcers in a row are not
 //! the join.
 
-use super::files::{found, prepare};
+use super::files::{hopeless, marked};
+use super::halves::EITHER;
 use super::joins;
 use super::leaving::TRANSFER;
 use super::runs::stream;
@@ -9,16 +10,11 @@ use super::*;
 use crate::samples::T;
 
 pub fn all() -> Vec<Written> {
-    [in_a_row(), together(), hopeless(), leaving()]
+    [in_a_row(), together(), nothing_left(), leaving()]
         .into_iter()
         .flatten()
         .collect()
 }
-
-/// Two inputs, of which just one must be set.
-const EITHER: &str = "02 41 42 00 00 01 00 00 02 \
-    00 03 01 00 00 00 00 \
-    00 03 02 00 00 00 00";
 
 /// The second input never.
 const NOT_SECOND: &str = "02 41 42 00 00 01 00 00 01 \
@@ -69,7 +65,7 @@ fn together() -> Vec<Written> {
             NOT_SECOND,
             BOTH,
         ),
-        prepare("the join", BOTH, 1, found(0, 1, 1), &[1]),
+        marked("the join", BOTH, 0, &[1]),
         each("the join", BOTH, "00 03 02 01", "01 01 01 01"),
         each(
             "the join's stream passes the one part",
@@ -95,14 +91,14 @@ const NOTHING: &str = "02 41 42 00 00 01 00 00 00";
 const NEITHER: &str = "02 41 42 00 00 01 00 00 01 \
     00 03 00 00 00 00 00";
 
-fn hopeless() -> Vec<Written> {
+fn nothing_left() -> Vec<Written> {
     vec![
-        prepare("one of the two", EITHER, 1, found(0, 1, 1), &[1]),
-        prepare("not the first", NOT_FIRST, 1, found(0, 1, 1), &[1]),
+        marked("one of the two", EITHER, 0, &[1]),
+        marked("not the first", NOT_FIRST, 0, &[1]),
         joins::gives("neither", NOT_SECOND, NOT_FIRST, NEITHER),
-        prepare("neither", NEITHER, 1, found(0, 1, 1), &[1]),
+        marked("neither", NEITHER, 0, &[1]),
         joins::gives("a third clause", BOTH, NOT_FIRST, NOTHING),
-        prepare("a third clause leaves nothing", NOTHING, 1, 11, &[0]),
+        hopeless("a third clause leaves nothing", NOTHING, &[0]),
     ]
 }
 
@@ -122,13 +118,7 @@ const T_TRANSFER: &str = "01 41 01 42 00 04 00 01 00 01 00 08 \
 fn leaving() -> Vec<Written> {
     vec![
         joins::gives("T with a transfer", T, TRANSFER, T_TRANSFER),
-        prepare(
-            "T with a transfer",
-            T_TRANSFER,
-            4,
-            found(1, 4, 2),
-            &[1, 1, 0, 0],
-        ),
+        marked("T with a transfer", T_TRANSFER, 1, &[1, 1, 0, 0]),
         stream(
             "the join",
             T_TRANSFER,

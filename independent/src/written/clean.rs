@@ -1,5 +1,6 @@
 //! Cleaning.
 
+use super::files::S_BESIDE;
 use super::halves::OVERFULL;
 use super::*;
 use crate::samples::*;
@@ -11,20 +12,30 @@ pub fn all() -> Vec<Written> {
         .collect()
 }
 
-/// Into slices with `more` bytes past what is needed.
-fn clean_with(name: &str, file: &str, cleaned: &str, list: &str, more: usize) -> Written {
-    let (bytes, list) = (from_hex(cleaned), from_hex(list));
-    let lengths = (bytes.len() + more, list.len() + more);
+/// What a call with slices of these lengths answers, and what it writes in both.
+fn call(
+    name: &str,
+    file: &str,
+    (length, listed): (usize, usize),
+    answer: u64,
+    (cleaned, list): (&[u8], &[u8]),
+) -> Written {
     let call = Call::Clean {
         reading: FIRST_READING,
         file: from_hex(file),
-        cleaned: filled(&[], lengths.0),
-        struck: filled(&[], lengths.1),
+        cleaned: filled(&[], length),
+        struck: filled(&[], listed),
     };
-    let answer = (bytes.len() as u64) << 8 | (list.len() as u64) << 32;
     let name = format!("clean: {name}");
-    written(&name, call, answer, filled(&bytes, lengths.0), vec![])
-        .with_list(&filled(&list, lengths.1))
+    written(&name, call, answer, filled(cleaned, length), vec![]).with_list(&filled(list, listed))
+}
+
+/// Into slices with `more` bytes past what is needed.
+fn clean_with(name: &str, file: &str, cleaned: &str, list: &str, more: usize) -> Written {
+    let (bytes, list) = (from_hex(cleaned), from_hex(list));
+    let answer = (bytes.len() as u64) << 8 | (list.len() as u64) << 32;
+    let lengths = (bytes.len() + more, list.len() + more);
+    call(name, file, lengths, answer, (&bytes, &list))
 }
 
 fn clean(name: &str, file: &str, cleaned: &str, list: &str) -> Written {
@@ -44,12 +55,6 @@ fn nothing() -> Vec<Written> {
         clean("D", D, D, "").under(2),
     ]
 }
-
-/// S with a second location that no rule enters and that has no rules.
-const S_BESIDE: &str = "02 41 42 01 52 00 02 00 00 00 03 \
-    00 03 03 00 00 00 FF \
-    00 02 02 01 01 00 FF \
-    00 00 00 00 00 00 00";
 
 /// Five locations. 1 is entered by a rule that never decides, since the rule
 /// before it takes all; 3 by 1 alone; 2 and 4 from the start. 4 must be left.
@@ -184,15 +189,8 @@ fn again() -> Vec<Written> {
     ]
 }
 
-fn refusal(name: &str, file: &str, (length, listed): (usize, usize), answer: u64) -> Written {
-    let call = Call::Clean {
-        reading: FIRST_READING,
-        file: from_hex(file),
-        cleaned: filled(&[], length),
-        struck: filled(&[], listed),
-    };
-    let name = format!("clean: {name}");
-    written(&name, call, answer, filled(&[], length), vec![]).with_list(&filled(&[], listed))
+fn refusal(name: &str, file: &str, lengths: (usize, usize), answer: u64) -> Written {
+    call(name, file, lengths, answer, (&[], &[]))
 }
 
 /// Nothing is written in both. HALF_CLEANED has 46 bytes and its list 15.

@@ -20,9 +20,11 @@ pub fn all() -> Vec<Written> {
     .collect()
 }
 
-/// The answer of prepare when nothing is refused.
-pub fn found(verdict: u64, states: u64, live: u64) -> u64 {
-    verdict << 8 | states << 16 | live << 40
+/// The answer of prepare when nothing is refused; there is a mark for each
+/// state.
+pub fn found(verdict: u64, marks: &[u8]) -> u64 {
+    let live = marks.iter().filter(|&&mark| mark == 1).count();
+    verdict << 8 | (marks.len() as u64) << 16 | (live as u64) << 40
 }
 
 pub fn prepare(name: &str, file: &str, lent: usize, answer: u64, marks: &[u8]) -> Written {
@@ -34,6 +36,16 @@ pub fn prepare(name: &str, file: &str, lent: usize, answer: u64, marks: &[u8]) -
     written(name, call, answer, filled(marks, lent), vec![])
 }
 
+/// With as many marks lent as there are states.
+pub fn marked(name: &str, file: &str, verdict: u64, marks: &[u8]) -> Written {
+    prepare(name, file, marks.len(), found(verdict, marks), marks)
+}
+
+/// The same where the start does not live.
+pub fn hopeless(name: &str, file: &str, marks: &[u8]) -> Written {
+    prepare(name, file, marks.len(), 11, marks)
+}
+
 /// A file refused before any mark is written. The mark slice is empty, so
 /// that each of these also shows that the number comes before 10.
 fn refused(number: u64, name: &str, file: &str) -> Written {
@@ -42,12 +54,18 @@ fn refused(number: u64, name: &str, file: &str) -> Written {
 
 fn samples() -> Vec<Written> {
     vec![
-        prepare("case 5: S", S, 1, found(0, 1, 1), &[1]),
-        prepare("case 6: D", D, 8, found(0, 8, 8), &[1; 8]),
-        prepare("case 8: T", T, 2, found(1, 2, 1), &[1, 0]),
-        prepare("case 10: N", N, 1, 11, &[0]),
-        prepare("K", K, 4, found(0, 4, 4), &[1; 4]),
-        prepare("bytes past the marks stay", T, 5, found(1, 2, 1), &[1, 0]),
+        marked("case 5: S", S, 0, &[1]),
+        marked("case 6: D", D, 0, &[1; 8]),
+        marked("case 8: T", T, 1, &[1, 0]),
+        hopeless("case 10: N", N, &[0]),
+        marked("K", K, 0, &[1; 4]),
+        prepare(
+            "bytes past the marks stay",
+            T,
+            5,
+            found(1, &[1, 0]),
+            &[1, 0],
+        ),
         prepare("bytes past the marks stay with 11", N, 3, 11, &[0]),
         prepare("10: one mark too few", D, 7, 10, &[]),
         prepare("10: no mark", S, 0, 10, &[]),
@@ -131,13 +149,7 @@ fn tags() -> Vec<Written> {
             "02 41 42 02 43 42 00 01 00 00 00",
         ),
         refused(3, "before the next count", "01 61 05"),
-        prepare(
-            "A and Z are allowed",
-            "01 41 01 5A 00 01 00 00 00",
-            1,
-            11,
-            &[0],
-        ),
+        hopeless("A and Z are allowed", "01 41 01 5A 00 01 00 00 00", &[0]),
     ]
 }
 
@@ -152,14 +164,14 @@ fn ceilings_and_locations() -> Vec<Written> {
             "00 00 02 00 01 FF FF 01 00 00 00",
         ),
         refused(4, "before the next count", "00 00 01 00 00 00"),
-        prepare("ceiling 1,001", highest, 1_002, 11, &[0; 1_002]),
+        hopeless("ceiling 1,001", highest, &[0; 1_002]),
         refused(5, "location byte 2", "00 00 00 01 02 00 00"),
         refused(
             5,
             "second location byte 2 after a 1",
             "00 00 00 02 01 02 00 00",
         ),
-        prepare("location byte 1", "00 00 00 01 01 00 00", 1, 11, &[0]),
+        hopeless("location byte 1", "00 00 00 01 01 00 00", &[0]),
         refused(5, "last location byte 255", "00 00 00 03 00 00 FF 00 00"),
         refused(5, "before the rule count", "00 00 00 01 07 01 01"),
     ]
@@ -178,7 +190,7 @@ fn rule_heads() -> Vec<Written> {
     let wrong = |name: &str, rule: &str| refused(6, name, &one_rule(rule));
     let good = one_rule("00 01 01 01 01 01 01 00 00 FF FF");
     vec![
-        prepare("the rule that the others spoil", &good, 8, 11, &[0; 8]),
+        hopeless("the rule that the others spoil", &good, &[0; 8]),
         wrong("source 2 of two", "02 01 01 01 01 01 01 00 00 FF FF"),
         wrong("source 255", "FF 01 01 01 01 01 01 00 00 FF FF"),
         wrong(
@@ -255,14 +267,8 @@ fn bounds() -> Vec<Written> {
     let at_ceiling = bounded("00 03 FF FF");
     let below = bounded("00 02 00 02");
     vec![
-        prepare(
-            "low at the ceiling",
-            &at_ceiling,
-            8,
-            11,
-            &[0, 0, 0, 1, 0, 0, 0, 0],
-        ),
-        prepare("high just below the ceiling", &below, 8, 11, &[0; 8]),
+        hopeless("low at the ceiling", &at_ceiling, &[0, 0, 0, 1, 0, 0, 0, 0]),
+        hopeless("high just below the ceiling", &below, &[0; 8]),
         wrong("low above high", "00 02 00 01"),
         wrong("low above the ceiling", "00 04 FF FF"),
         wrong("high at the ceiling", "00 00 00 03"),
@@ -301,13 +307,7 @@ fn whole_files() -> Vec<Written> {
         01 00 00 00 00 00 01 00 00 03 E8";
     let aged = [[1; 1_002], [0; 1_002]].concat();
     vec![
-        prepare(
-            "dying is passed back 1,001 times",
-            ageing,
-            2_004,
-            found(0, 2_004, 1_002),
-            &aged,
-        ),
+        marked("dying is passed back 1,001 times", ageing, 0, &aged),
         refused(8, "N and a byte", &left_over(N)),
         refused(8, "D and a byte", &left_over(D)),
         refused(8, "8 before 9", "00 00 02 00 FF 01 00 01 00 00 00 00"),
@@ -320,29 +320,17 @@ fn whole_files() -> Vec<Written> {
             "00 00 04 00 FF 00 FF 00 FF 00 FF 01 00 00 00",
         ),
         refused(9, "the most states", &most_of_all),
-        prepare("65,536 states", widest, 65_536, 11, &[0; 65_536]),
+        hopeless("65,536 states", widest, &[0; 65_536]),
         prepare("65,536 states, a mark missing", widest, 65_535, 10, &[]),
-        prepare("64 locations", &most_locations, 64, 11, &[0; 64]),
-        prepare(
-            "a dead start beside a live state",
-            dead_start,
-            2,
-            11,
-            &[0, 1],
-        ),
+        hopeless("64 locations", &most_locations, &[0; 64]),
+        hopeless("a dead start beside a live state", dead_start, &[0, 1]),
         // Location 2 has no rule, 1 leads only there, 0 only to itself.
-        prepare(
-            "dying is passed back",
-            no_way_back,
-            3,
-            found(0, 3, 1),
-            &[1, 0, 0],
-        ),
+        marked("dying is passed back", no_way_back, 0, &[1, 0, 0]),
     ]
 }
 
 /// S with a second location that no rule enters and that has no rules.
-const S_BESIDE: &str = "02 41 42 01 52 00 02 00 00 00 03 \
+pub const S_BESIDE: &str = "02 41 42 01 52 00 02 00 00 00 03 \
     00 03 03 00 00 00 FF \
     00 02 02 01 01 00 FF \
     00 00 00 00 00 00 00";
@@ -376,39 +364,19 @@ const SET_BACK: &str = "00 00 01 00 05 01 00 00 02 \
 fn verdicts() -> Vec<Written> {
     let location_0 = [1, 1, 1, 1, 0, 0, 0, 0];
     vec![
-        prepare(
-            "S with a location never entered",
-            S_BESIDE,
-            2,
-            found(0, 2, 1),
-            &[1, 0],
-        ),
-        prepare(
-            "two steps to the end",
-            TWO_STEPS,
-            3,
-            found(1, 3, 1),
-            &[1, 0, 0],
-        ),
-        prepare(
+        marked("S with a location never entered", S_BESIDE, 0, &[1, 0]),
+        marked("two steps to the end", TWO_STEPS, 1, &[1, 0, 0]),
+        marked(
             "a rule that decides no event leads nowhere",
             TAKEN_BEFORE,
-            2,
-            found(0, 2, 1),
+            0,
             &[1, 0],
         ),
-        prepare(
-            "a clock value that never comes",
-            NEVER_ONE,
-            8,
-            found(0, 8, 4),
-            &location_0,
-        ),
-        prepare(
+        marked("a clock value that never comes", NEVER_ONE, 0, &location_0),
+        marked(
             "clock values past the last",
             SET_BACK,
-            6,
-            found(0, 6, 4),
+            0,
             &[1, 1, 1, 1, 0, 0],
         ),
     ]

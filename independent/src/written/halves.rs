@@ -37,7 +37,7 @@ pub fn gives(value: u64) -> u64 {
 }
 
 /// Two inputs, of which just one must be set.
-const EITHER: &str = "02 41 42 00 00 01 00 00 02 \
+pub const EITHER: &str = "02 41 42 00 00 01 00 00 02 \
     00 03 01 00 00 00 00 \
     00 03 02 00 00 00 00";
 
@@ -215,6 +215,16 @@ pub struct Ask<'a> {
     pub y: u8,
 }
 
+pub fn ask<'a>(file: &'a str, marks: &'a [u8], state: &'a [u16], x: u8, y: u8) -> Ask<'a> {
+    Ask {
+        file,
+        marks,
+        state,
+        x,
+        y,
+    }
+}
+
 pub fn output(name: &str, ask: Ask, answer: u64, after: &[u16]) -> Written {
     let call = Call::Output {
         reading: FIRST_READING,
@@ -228,43 +238,19 @@ pub fn output(name: &str, ask: Ask, answer: u64, after: &[u16]) -> Written {
 }
 
 fn in_d(state: &[u16], x: u8, y: u8) -> Ask<'_> {
-    Ask {
-        file: D,
-        marks: &[1; 8],
-        state,
-        x,
-        y,
-    }
+    ask(D, &[1; 8], state, x, y)
 }
 
 fn in_s(x: u8, y: u8) -> Ask<'static> {
-    Ask {
-        file: S,
-        marks: &[1],
-        state: &START,
-        x,
-        y,
-    }
+    ask(S, &[1], &START, x, y)
 }
 
 fn in_k(state: &[u16], y: u8) -> Ask<'_> {
-    Ask {
-        file: K,
-        marks: &[1; 4],
-        state,
-        x: 0,
-        y,
-    }
+    ask(K, &[1; 4], state, 0, y)
 }
 
 fn in_either(y: u8) -> Ask<'static> {
-    Ask {
-        file: EITHER_OUT,
-        marks: &[1],
-        state: &START,
-        x: 0,
-        y,
-    }
+    ask(EITHER_OUT, &[1], &START, 0, y)
 }
 
 fn outputs() -> Vec<Written> {
@@ -319,13 +305,7 @@ fn outputs() -> Vec<Written> {
         output("2 may stand", in_either(2), gives(2), &START),
         output(
             "T: marks as given let it go",
-            Ask {
-                file: T,
-                marks: &[1, 1],
-                state: &START,
-                x: 1,
-                y: 1,
-            },
+            ask(T, &[1, 1], &START, 1, 1),
             gives(1),
             &[1, 0, 0, 0, 0],
         ),
@@ -346,64 +326,14 @@ fn refused_outputs() -> Vec<Written> {
         output("17: A with B has no output", in_s(3, 0), 17, &START),
         output(
             "17: the x' leads only to a state not marked",
-            Ask {
-                file: T,
-                marks: &[1, 0],
-                state: &START,
-                x: 1,
-                y: 0,
-            },
+            ask(T, &[1, 0], &START, 1, 0),
             17,
             &START,
         ),
-        output(
-            "16: mark 0",
-            Ask {
-                file: T,
-                marks: &[1, 0],
-                state: &dead,
-                x: 0,
-                y: 0,
-            },
-            16,
-            &dead,
-        ),
-        output(
-            "10 before 16",
-            Ask {
-                file: D,
-                marks: &[1; 7],
-                state: &far,
-                x: 9,
-                y: 9,
-            },
-            10,
-            &far,
-        ),
-        output(
-            "9 before 10",
-            Ask {
-                file: OVERFULL,
-                marks: &[],
-                state: &far,
-                x: 9,
-                y: 9,
-            },
-            9,
-            &far,
-        ),
-        output(
-            "1 before all",
-            Ask {
-                file: "00",
-                marks: &[],
-                state: &far,
-                x: 9,
-                y: 9,
-            },
-            1,
-            &far,
-        ),
+        output("16: mark 0", ask(T, &[1, 0], &dead, 0, 0), 16, &dead),
+        output("10 before 16", ask(D, &[1; 7], &far, 9, 9), 10, &far),
+        output("9 before 10", ask(OVERFULL, &[], &far, 9, 9), 9, &far),
+        output("1 before all", ask("00", &[], &far, 9, 9), 1, &far),
     ]);
     all
 }

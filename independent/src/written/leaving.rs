@@ -1,7 +1,7 @@
 //! Locations that must be left.
 
-use super::files::{found, prepare};
-use super::halves::{self, input, output, Ask};
+use super::files::{hopeless, marked};
+use super::halves::{self, ask, input, output};
 use super::joins;
 use super::runs::stream;
 use super::*;
@@ -35,16 +35,10 @@ pub const ENDLESS: &str = "01 41 01 42 00 02 00 00 00 03 \
 
 fn transfers() -> Vec<Written> {
     let under_way = [1, 0, 0, 0, 0];
-    let finishing = Ask {
-        file: TRANSFER,
-        marks: &[1, 1],
-        state: &under_way,
-        x: 0,
-        y: 1,
-    };
-    let waiting = Ask { y: 0, ..finishing };
+    let finishing = ask(TRANSFER, &[1, 1], &under_way, 0, 1);
+    let waiting = ask(TRANSFER, &[1, 1], &under_way, 0, 0);
     vec![
-        prepare("a transfer", TRANSFER, 2, found(0, 2, 2), &[1, 1]),
+        marked("a transfer", TRANSFER, 0, &[1, 1]),
         input(
             "a transfer that can be finished is let in",
             TRANSFER,
@@ -73,13 +67,7 @@ fn transfers() -> Vec<Written> {
             "01 00 01 11 00",
             START,
         ),
-        prepare(
-            "a transfer that cannot be finished",
-            UNFINISHED,
-            2,
-            found(1, 2, 1),
-            &[1, 0],
-        ),
+        marked("a transfer that cannot be finished", UNFINISHED, 1, &[1, 0]),
         input(
             "a transfer that cannot be finished does not begin",
             UNFINISHED,
@@ -96,13 +84,7 @@ fn transfers() -> Vec<Written> {
             "00 10 10",
             START,
         ),
-        prepare(
-            "the same where it may rest",
-            ENDLESS,
-            2,
-            found(0, 2, 2),
-            &[1, 1],
-        ),
+        marked("the same where it may rest", ENDLESS, 0, &[1, 1]),
     ]
 }
 
@@ -115,26 +97,16 @@ fn starts() -> Vec<Written> {
     // Location 0 leads to location 1, which has no rule.
     let one_rest = "00 00 00 02 01 00 00 01 00 00 00 00 00 00 01";
     vec![
-        prepare("a start that must be left and cannot", stays, 1, 11, &[0]),
-        prepare(
-            "a start that must be left and can",
-            left_once,
-            2,
-            found(0, 2, 2),
-            &[1, 1],
-        ),
-        prepare(
+        hopeless("a start that must be left and cannot", stays, &[0]),
+        marked("a start that must be left and can", left_once, 0, &[1, 1]),
+        hopeless(
             "a start that rests and leads to what cannot be left",
             into_rest_no_more,
-            2,
-            11,
             &[0, 0],
         ),
-        prepare(
+        hopeless(
             "a start that can be left, but only for one event",
             one_rest,
-            2,
-            11,
             &[0, 0],
         ),
     ]
@@ -166,41 +138,36 @@ fn to_and_fro(location_bytes: &str) -> String {
 
 fn for_ever() -> Vec<Written> {
     vec![
-        prepare(
+        marked(
             "for ever, but only one event ends at rest",
             &walk_away("00 01 00 01"),
-            4,
-            found(1, 4, 1),
+            1,
             &[1, 0, 0, 0],
         ),
-        prepare(
+        marked(
             "through two that must be left to one that rests",
             &walk_away("00 01 01 00"),
-            4,
-            found(0, 4, 4),
+            0,
             &[1; 4],
         ),
-        prepare(
+        marked(
             "to and fro, and one of the two rests",
             &to_and_fro("00 01 00"),
-            3,
-            found(0, 3, 3),
+            0,
             &[1; 3],
         ),
-        prepare(
+        marked(
             "to and fro, and neither rests",
             &to_and_fro("00 01 01"),
-            3,
-            found(1, 3, 1),
+            1,
             &[1, 0, 0],
         ),
         // A stream that leaves location 0 never comes back, and one that
         // stays there has no event that ends at rest.
-        prepare(
+        marked(
             "to and fro is the only rest",
             &to_and_fro("01 00 01"),
-            3,
-            found(0, 3, 3),
+            0,
             &[1; 3],
         ),
     ]
@@ -217,19 +184,12 @@ pub const MISSED: &str = "01 52 01 43 01 00 03 02 00 01 00 04 \
 pub const MISSED_MARKS: [u8; 8] = [1, 1, 1, 1, 1, 1, 1, 0];
 
 fn deadlines() -> Vec<Written> {
-    let last_chance = Ask {
-        file: MISSED,
-        marks: &MISSED_MARKS,
-        state: &[1, 2, 0, 0, 0],
-        x: 1,
-        y: 0,
-    };
+    let last_chance = ask(MISSED, &MISSED_MARKS, &[1, 2, 0, 0, 0], 1, 0);
     vec![
-        prepare(
+        marked(
             "a clock value too late to rest again",
             MISSED,
-            8,
-            found(1, 8, 7),
+            1,
             &MISSED_MARKS,
         ),
         output(
@@ -268,22 +228,19 @@ const UNIT: &str = "00 00 00 01 00 00 01 00 00 00 00 00 00 00";
 
 fn together() -> Vec<Written> {
     vec![
-        prepare("rests at even ticks", EVEN, 2, found(0, 2, 2), &[1, 1]),
-        prepare("rests at odd ticks", ODD, 2, found(0, 2, 2), &[1, 1]),
+        marked("rests at even ticks", EVEN, 0, &[1, 1]),
+        marked("rests at odd ticks", ODD, 0, &[1, 1]),
         joins::gives("a pair must be left if either must", EVEN, ODD, EVEN_ODD),
-        prepare(
+        hopeless(
             "live apart, and never at rest together",
             EVEN_ODD,
-            4,
-            11,
             &[0, 1, 1, 0],
         ),
         joins::gives("even ticks twice", EVEN, EVEN, EVEN_EVEN),
-        prepare(
+        marked(
             "at rest together at even ticks",
             EVEN_EVEN,
-            4,
-            found(0, 4, 2),
+            0,
             &[1, 0, 0, 1],
         ),
         joins::gives("the unit rests everywhere", EVEN, UNIT, EVEN),

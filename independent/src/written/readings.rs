@@ -1,7 +1,7 @@
 //! The two readings of a deadline.
 
-use super::files::{found, prepare};
-use super::halves::{self, input, output, Ask};
+use super::files::{hopeless, marked, prepare};
+use super::halves::{self, ask, input, output};
 use super::joins::D_D;
 use super::leaving::{MISSED, MISSED_MARKS};
 use super::runs::{late_credit, run, stream, Run};
@@ -49,7 +49,7 @@ fn in_d(events: &str, released: &str) -> Written {
 
 fn deadline() -> Vec<Written> {
     vec![
-        second(prepare("D", D, 8, found(0, 8, 8), &[1; 8])),
+        second(marked("D", D, 0, &[1; 8])),
         first(in_d("01 00 00 00 00", "01 00 00 00 10")),
         second(in_d("01 00 00 00 00", "01 00 00 10 00")),
         // An answer that comes in time is left alone, and a second R while C
@@ -65,13 +65,8 @@ fn waiting(clock: u16) -> [u16; 5] {
 }
 
 fn wait(clock: u16, answer: u64, after: &[u16]) -> Written {
-    let asked = Ask {
-        file: D,
-        marks: &[1; 8],
-        state: &waiting(clock),
-        x: 0,
-        y: 0,
-    };
+    let state = waiting(clock);
+    let asked = ask(D, &[1; 8], &state, 0, 0);
     let name = format!("D waits at {clock}");
     output(&name, asked, halves::gives(answer), after)
 }
@@ -102,7 +97,7 @@ fn in_k(events: &str, released: &str, after: u16) -> Written {
 
 fn credit() -> Vec<Written> {
     vec![
-        second(prepare("K", K, 4, found(0, 4, 4), &[1; 4])),
+        second(marked("K", K, 0, &[1; 4])),
         second(in_k("10", "10", 1)),
         second(in_k("00 10", "00 10", 2)),
         second(in_k("00 00 10", "00 00 00", 3)),
@@ -147,10 +142,10 @@ const FROM_ONE: &str = "00 00 01 00 01 01 00 00 01 00 00 00 00 00 01 00 00 01 FF
 /// A policy may have a future under one reading and none under the other.
 fn lives() -> Vec<Written> {
     vec![
-        first(prepare("at 0 only", AT_NONE, 2, found(0, 2, 1), &[1, 0])),
-        second(prepare("at 0 only", AT_NONE, 2, 11, &[0, 0])),
-        first(prepare("from 1 on", FROM_ONE, 2, 11, &[0, 0])),
-        second(prepare("from 1 on", FROM_ONE, 2, found(0, 2, 2), &[1, 1])),
+        first(marked("at 0 only", AT_NONE, 0, &[1, 0])),
+        second(hopeless("at 0 only", AT_NONE, &[0, 0])),
+        first(hopeless("from 1 on", FROM_ONE, &[0, 0])),
+        second(marked("from 1 on", FROM_ONE, 0, &[1, 1])),
         second(stream(
             "from 1 on",
             FROM_ONE,
@@ -167,11 +162,10 @@ const MISSED_SECOND: [u8; 8] = [1, 1, 1, 1, 1, 1, 0, 0];
 
 fn leaving() -> Vec<Written> {
     vec![
-        second(prepare(
+        second(marked(
             "a clock value too late to rest again",
             MISSED,
-            8,
-            found(1, 8, 6),
+            1,
             &MISSED_SECOND,
         )),
         second(stream(
@@ -192,7 +186,7 @@ fn together() -> Vec<Written> {
         let events = "01 00 00 00 00";
         stream("D with itself", D_D, &[1; 64], events, released, START)
     };
-    let all_live = || prepare("D with itself", D_D, 64, found(0, 64, 64), &[1; 64]);
+    let all_live = || marked("D with itself", D_D, 0, &[1; 64]);
     vec![
         first(all_live()),
         second(all_live()),
@@ -221,9 +215,9 @@ fn other_marks() -> Vec<Written> {
 /// Without clocks there is nothing to read.
 fn without_clocks() -> Vec<Written> {
     vec![
-        second(prepare("S", S, 1, found(0, 1, 1), &[1])),
-        second(prepare("T", T, 2, found(1, 2, 1), &[1, 0])),
-        second(prepare("N", N, 1, 11, &[0])),
+        second(marked("S", S, 0, &[1])),
+        second(marked("T", T, 1, &[1, 0])),
+        second(hopeless("N", N, &[0])),
         second(stream("S", S, &[1], "03 12 13 11", "01 02 11 11", START)),
         second(stream("T", T, &[1, 0], "01 11", "00 10", START)),
     ]
@@ -255,21 +249,9 @@ fn unknown() -> Vec<Written> {
 /// all is wrong that can be; and a prepare that 11 would let write. What they
 /// expect here is not looked at.
 fn good_and_bad() -> Vec<Written> {
-    let far = [9; 6];
-    let asked = Ask {
-        file: D,
-        marks: &[1; 8],
-        state: &waiting(3),
-        x: 0,
-        y: 0,
-    };
-    let wrong = Ask {
-        file: "05",
-        marks: &[],
-        state: &far,
-        x: 255,
-        y: 255,
-    };
+    let (late, far) = (waiting(3), [9; 6]);
+    let asked = ask(D, &[1; 8], &late, 0, 0);
+    let wrong = ask("05", &[], &far, 255, 255);
     let wrong_run = Run {
         file: "05",
         marks: &[],
