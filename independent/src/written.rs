@@ -31,6 +31,7 @@ const FILLER: u8 = 0xEE;
 pub type State = [u16; STATE_LENGTH];
 pub const START: State = [0; STATE_LENGTH];
 
+#[derive(Clone)]
 pub struct Written {
     pub name: String,
     pub call: Call,
@@ -79,9 +80,7 @@ pub fn all() -> Vec<Written> {
         times::all(),
         waves::all(),
     ]
-    .into_iter()
-    .flatten()
-    .collect()
+    .concat()
 }
 
 fn written(name: &str, call: Call, answer: u64, bytes: Vec<u8>, state: Vec<u16>) -> Written {

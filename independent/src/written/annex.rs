@@ -10,10 +10,7 @@ use super::*;
 use crate::samples::T;
 
 pub fn all() -> Vec<Written> {
-    [in_a_row(), together(), nothing_left(), leaving()]
-        .into_iter()
-        .flatten()
-        .collect()
+    [in_a_row(), together(), nothing_left(), leaving()].concat()
 }
 
 /// The second input never.

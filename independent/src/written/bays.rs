@@ -5,10 +5,7 @@ use super::*;
 use crate::samples::*;
 
 pub fn all() -> Vec<Written> {
-    [lists(), ticks(), refused(), in_order()]
-        .into_iter()
-        .flatten()
-        .collect()
+    [lists(), ticks(), refused(), in_order()].concat()
 }
 
 fn list(length: usize, answer: u64) -> Written {

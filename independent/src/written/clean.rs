@@ -6,10 +6,7 @@ use super::*;
 use crate::samples::*;
 
 pub fn all() -> Vec<Written> {
-    [nothing(), struck(), by_reading(), again(), refused()]
-        .into_iter()
-        .flatten()
-        .collect()
+    [nothing(), struck(), by_reading(), again(), refused()].concat()
 }
 
 /// What a call with slices of these lengths answers, and what it writes in both.

@@ -7,10 +7,7 @@ use super::*;
 use crate::samples::*;
 
 pub fn all() -> Vec<Written> {
-    [as_prepare(), chains(), too_short(), in_order()]
-        .into_iter()
-        .flatten()
-        .collect()
+    [as_prepare(), chains(), too_short(), in_order()].concat()
 }
 
 /// What the work slices hold before does not matter.

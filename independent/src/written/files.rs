@@ -15,9 +15,7 @@ pub fn all() -> Vec<Written> {
         whole_files(),
         verdicts(),
     ]
-    .into_iter()
-    .flatten()
-    .collect()
+    .concat()
 }
 
 /// The answer of prepare when nothing is refused; there is a mark for each

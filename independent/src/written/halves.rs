@@ -4,10 +4,7 @@ use super::*;
 use crate::samples::*;
 
 pub fn all() -> Vec<Written> {
-    [inputs(), refused_inputs(), outputs(), refused_outputs()]
-        .into_iter()
-        .flatten()
-        .collect()
+    [inputs(), refused_inputs(), outputs(), refused_outputs()].concat()
 }
 
 const BAD_STATES: [(&str, &[u16]); 8] = [

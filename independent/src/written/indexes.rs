@@ -5,10 +5,7 @@ use super::*;
 use crate::samples::*;
 
 pub fn all() -> Vec<Written> {
-    [built(), not_built(), used(), wrong(), in_order()]
-        .into_iter()
-        .flatten()
-        .collect()
+    [built(), not_built(), used(), wrong(), in_order()].concat()
 }
 
 const INDEX_LENGTH: usize = 128;

@@ -4,10 +4,7 @@ use super::*;
 use crate::samples::*;
 
 pub fn all() -> Vec<Written> {
-    [made(), at_limits(), refused()]
-        .into_iter()
-        .flatten()
-        .collect()
+    [made(), at_limits(), refused()].concat()
 }
 
 fn join(name: &str, a: &str, b: &str, lent: usize, answer: u64, out: &[u8]) -> Written {

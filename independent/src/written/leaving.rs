@@ -7,10 +7,7 @@ use super::runs::stream;
 use super::*;
 
 pub fn all() -> Vec<Written> {
-    [transfers(), starts(), for_ever(), deadlines(), together()]
-        .into_iter()
-        .flatten()
-        .collect()
+    [transfers(), starts(), for_ever(), deadlines(), together()].concat()
 }
 
 /// A begins a transfer, which location 1 is in the middle of, and B finishes

@@ -5,10 +5,7 @@ use super::*;
 use crate::samples::*;
 
 pub fn all() -> Vec<Written> {
-    [set_up(), pulses(), totals(), full(), refused(), in_order()]
-        .into_iter()
-        .flatten()
-        .collect()
+    [set_up(), pulses(), totals(), full(), refused(), in_order()].concat()
 }
 
 /// Inputs A and P, outputs C and D; D not without P.

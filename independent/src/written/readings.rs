@@ -21,9 +21,7 @@ pub fn all() -> Vec<Written> {
         without_clocks(),
         unknown(),
     ]
-    .into_iter()
-    .flatten()
-    .collect()
+    .concat()
 }
 
 /// The same call under another reading, with what is then expected.

@@ -5,10 +5,7 @@ use super::*;
 use crate::samples::*;
 
 pub fn all() -> Vec<Written> {
-    [marked(), beside_the_marked(), refused()]
-        .into_iter()
-        .flatten()
-        .collect()
+    [marked(), beside_the_marked(), refused()].concat()
 }
 
 pub struct Run<'a> {

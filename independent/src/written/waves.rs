@@ -12,9 +12,7 @@ pub fn all() -> Vec<Written> {
         refused_streams(),
         refused_texts(),
     ]
-    .into_iter()
-    .flatten()
-    .collect()
+    .concat()
 }
 
 const MOST_EVENTS: usize = 16_384;
@@ -198,9 +196,7 @@ fn there_and_back() -> Vec<Written> {
             ],
         ),
     ]
-    .into_iter()
-    .flatten()
-    .collect()
+    .concat()
 }
 
 /// Of T: two events, 01 10.

@@ -15,9 +15,7 @@ pub fn all() -> Vec<Written> {
         refused(),
         in_order(),
     ]
-    .into_iter()
-    .flatten()
-    .collect()
+    .concat()
 }
 
 /// A kind and a number.
