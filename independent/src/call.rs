@@ -1,11 +1,14 @@
 //! One call of one function with everything lent to it, and what came of it.
 
+mod asked;
 mod functions;
 mod lent;
 mod made;
 mod shown;
 
 use crate::basis::Basis;
+pub(crate) use asked::call;
+pub use asked::Asked;
 pub use functions::{Call, Given, Place, Work, FUNCTIONS};
 pub use made::Outcome;
 

@@ -40,22 +40,15 @@ pub fn compare(
             if trace {
                 eprintln!("laws {number}");
             }
+            let told = |what, breach| format!("seed {seed} {what} {number}\n{breach}");
             compare_laws(engine, seed, number, &mut tally.laws)
-                .map_err(|difference| format!("seed {seed} laws {number}\n{difference}"))?;
+                .map_err(|difference| told("laws", difference))?;
             let station = bays::station(seed, number);
-            bays::examine(engine, &station, &mut tally.bays).map_err(|breach| {
-                format!(
-                    "seed {seed} bays {number}\n{breach}\n{}",
-                    station.describe()
-                )
-            })?;
+            bays::examine(engine, &station, &mut tally.bays)
+                .map_err(|breach| told("bays", format!("{breach}\n{}", station.describe())))?;
             let transfer = meter::transfer(seed, number);
-            meter::examine(engine, &transfer, &mut tally.meter).map_err(|breach| {
-                format!(
-                    "seed {seed} meter {number}\n{breach}\n{}",
-                    transfer.describe()
-                )
-            })?;
+            meter::examine(engine, &transfer, &mut tally.meter)
+                .map_err(|breach| told("meter", format!("{breach}\n{}", transfer.describe())))?;
         }
         tally.groups += 1;
     }

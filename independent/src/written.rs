@@ -18,7 +18,7 @@ mod waves;
 mod why;
 mod wrong_files;
 
-use crate::call::{Call, Outcome};
+use crate::call::{call, Asked, Call, Outcome};
 use crate::hex::from_hex;
 use crate::moment::STATE_LENGTH;
 
@@ -93,6 +93,16 @@ fn written(name: &str, call: Call, answer: u64, bytes: Vec<u8>, state: Vec<u16>)
             state,
             ..Outcome::default()
         },
+    }
+}
+
+/// What a half is asked under the first reading.
+fn about(file: &str, marks: &[u8], x: u8) -> Asked {
+    Asked {
+        reading: FIRST_READING,
+        file: from_hex(file),
+        marks: marks.to_vec(),
+        x,
     }
 }
 

@@ -1,9 +1,9 @@
 //! Lists of bays, and the halves of one bay.
 
-use super::halves::{call, Asked, Half};
+use super::halves::Half;
 use super::some_numbers;
 use crate::bays::MOST_BAYS;
-use crate::call::Call;
+use crate::call::{call, Call};
 use crate::moment::STATE_LENGTH;
 use crate::random::Random;
 use crate::subject::Subject;

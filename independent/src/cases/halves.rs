@@ -1,6 +1,6 @@
 //! Calls of the two halves and of runs.
 
-use crate::call::Call;
+use crate::call::{call, Asked, Call};
 use crate::moment::STATE_LENGTH;
 use crate::policies;
 use crate::random::Random;
@@ -9,33 +9,15 @@ use crate::subject::{
     filler, lent_length, marks_and_state, some_events, some_reading, some_value, Subject,
 };
 
-/// What a half is asked, but for the state, which it is lent in some form.
-pub struct Asked {
-    pub reading: u8,
-    pub file: Vec<u8>,
-    pub marks: Vec<u8>,
-    pub x: u8,
-}
-
-impl Asked {
-    pub fn some(random: &mut Random, subject: &Subject, marks: Vec<u8>) -> Asked {
-        Asked {
-            reading: some_reading(random, subject),
-            file: subject.file.clone(),
-            marks,
-            x: some_value(random, subject.policy.input_mask()),
-        }
+/// About the subject's file, with these marks.
+pub fn some_asked(random: &mut Random, subject: &Subject, marks: Vec<u8>) -> Asked {
+    Asked {
+        reading: some_reading(random, subject),
+        file: subject.file.clone(),
+        marks,
+        x: some_value(random, subject.policy.input_mask()),
     }
 }
-
-/// A call with all that is asked, and what the function is given beside it.
-macro_rules! call {
-    ($call:ident, $asked:expr, $($field:ident $(: $value:expr)?),+) => {{
-        let Asked { reading, file, marks, x } = $asked;
-        Call::$call { reading, file, marks, x, $($field $(: $value)?),+ }
-    }};
-}
-pub(super) use call;
 
 /// A half in a state: that of the output if there is one.
 pub struct Half {
@@ -48,7 +30,7 @@ impl Half {
     fn input(random: &mut Random, subject: &Subject) -> Half {
         let (marks, state) = marks_and_state(random, subject);
         Half {
-            asked: Asked::some(random, subject, marks),
+            asked: some_asked(random, subject, marks),
             state,
             y: None,
         }

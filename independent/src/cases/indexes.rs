@@ -1,8 +1,8 @@
 //! Calls that make a rule index or go by one.
 
-use super::halves::{call, Asked, Half};
+use super::halves::Half;
 use super::some_numbers;
-use crate::call::Call;
+use crate::call::{call, Call};
 use crate::index::{self, INDEX_LENGTH};
 use crate::policy::Policy;
 use crate::random::Random;

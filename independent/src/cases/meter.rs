@@ -1,8 +1,8 @@
 //! Calls of a station with a meter.
 
-use super::halves::{call, Asked, Half};
+use super::halves::Half;
 use super::some_numbers;
-use crate::call::Call;
+use crate::call::{call, Call};
 use crate::damage;
 use crate::meter::{self, STATION_LENGTH, TOTALS};
 use crate::policies::{self, Size};

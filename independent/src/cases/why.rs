@@ -1,7 +1,7 @@
 //! Questions why something was edited.
 
-use super::halves::{call, some_output, Asked};
-use crate::call::Call;
+use super::halves::{some_asked, some_output};
+use crate::call::{call, Call};
 use crate::policies;
 use crate::random::Random;
 use crate::reading::READINGS;
@@ -32,7 +32,7 @@ pub fn why_call(random: &mut Random, subject: &Subject) -> Call {
         6 => marks.truncate(marks.len() - 1),
         _ => {}
     }
-    let asked = Asked::some(random, subject, marks);
+    let asked = some_asked(random, subject, marks);
     let y = some_output(random, subject);
     call!(Why, asked, state, y)
 }

@@ -31,27 +31,14 @@ struct Bays<'a> {
 }
 
 fn input(name: &str, bays: Bays, x: u8, answer: u64) -> Written {
-    let call = Call::BayInput {
-        reading: FIRST_READING,
-        file: from_hex(bays.file),
-        marks: bays.marks.to_vec(),
-        states: bays.states.concat(),
-        bay: bays.bay,
-        x,
-    };
+    let asked = about(bays.file, bays.marks, x);
+    let call = call!(BayInput, asked, states: bays.states.concat(), bay: bays.bay);
     written(&format!("bays: {name}"), call, answer, vec![], vec![])
 }
 
 fn output(name: &str, bays: Bays, (x, y): (u8, u8), answer: u64, after: &[&[u16]]) -> Written {
-    let call = Call::BayOutput {
-        reading: FIRST_READING,
-        file: from_hex(bays.file),
-        marks: bays.marks.to_vec(),
-        states: bays.states.concat(),
-        bay: bays.bay,
-        x,
-        y,
-    };
+    let asked = about(bays.file, bays.marks, x);
+    let call = call!(BayOutput, asked, states: bays.states.concat(), bay: bays.bay, y);
     let name = format!("bays: {name}");
     written(&name, call, answer, vec![], after.concat())
 }

@@ -19,13 +19,7 @@ const BAD_STATES: [(&str, &[u16]); 8] = [
 ];
 
 pub fn input(name: &str, file: &str, marks: &[u8], state: &[u16], x: u8, answer: u64) -> Written {
-    let call = Call::Input {
-        reading: FIRST_READING,
-        file: from_hex(file),
-        marks: marks.to_vec(),
-        state: state.to_vec(),
-        x,
-    };
+    let call = call!(Input, about(file, marks, x), state: state.to_vec());
     written(name, call, answer, vec![], vec![])
 }
 
@@ -223,14 +217,8 @@ pub fn ask<'a>(file: &'a str, marks: &'a [u8], state: &'a [u16], x: u8, y: u8) -
 }
 
 pub fn output(name: &str, ask: Ask, answer: u64, after: &[u16]) -> Written {
-    let call = Call::Output {
-        reading: FIRST_READING,
-        file: from_hex(ask.file),
-        marks: ask.marks.to_vec(),
-        state: ask.state.to_vec(),
-        x: ask.x,
-        y: ask.y,
-    };
+    let asked = about(ask.file, ask.marks, ask.x);
+    let call = call!(Output, asked, state: ask.state.to_vec(), y: ask.y);
     written(name, call, answer, vec![], after.to_vec())
 }
 

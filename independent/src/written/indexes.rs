@@ -80,14 +80,8 @@ fn not_built() -> Vec<Written> {
 }
 
 fn input(name: &str, file: &str, index: &[u16], marks: &[u8], x: u8, answer: u64) -> Written {
-    let call = Call::InputIndexed {
-        reading: FIRST_READING,
-        file: from_hex(file),
-        marks: marks.to_vec(),
-        state: START.to_vec(),
-        index: index.to_vec(),
-        x,
-    };
+    let asked = about(file, marks, x);
+    let call = call!(InputIndexed, asked, state: START.to_vec(), index: index.to_vec());
     written(&format!("indexed: {name}"), call, answer, vec![], vec![])
 }
 
@@ -100,15 +94,8 @@ fn output(
     answer: u64,
     after: &[u16],
 ) -> Written {
-    let call = Call::OutputIndexed {
-        reading: FIRST_READING,
-        file: from_hex(file),
-        marks: marks.to_vec(),
-        state: state.to_vec(),
-        index: index.to_vec(),
-        x,
-        y,
-    };
+    let asked = about(file, marks, x);
+    let call = call!(OutputIndexed, asked, state: state.to_vec(), index: index.to_vec(), y);
     let name = format!("indexed: {name}");
     written(&name, call, answer, vec![], after.to_vec())
 }

@@ -63,14 +63,8 @@ fn input(
     answer: u64,
 ) -> Written {
     let (register, x) = tick;
-    let call = Call::MeterInput {
-        reading: FIRST_READING,
-        file: from_hex(file),
-        marks: marks.to_vec(),
-        station: station.to_vec(),
-        register,
-        x,
-    };
+    let asked = about(file, marks, x);
+    let call = call!(MeterInput, asked, station: station.to_vec(), register);
     written(&format!("meter: {name}"), call, answer, vec![], vec![])
 }
 
@@ -114,16 +108,9 @@ struct Tick<'a> {
 }
 
 fn output(name: &str, tick: Tick, answer: u64, after: &[u16], sums: &[u32]) -> Written {
-    let call = Call::MeterOutput {
-        reading: FIRST_READING,
-        file: from_hex(tick.file),
-        marks: tick.marks.to_vec(),
-        station: tick.station.to_vec(),
-        totals: tick.totals.to_vec(),
-        register: tick.register,
-        x: tick.x,
-        y: tick.y,
-    };
+    let (station, totals) = (tick.station.to_vec(), tick.totals.to_vec());
+    let asked = about(tick.file, tick.marks, tick.x);
+    let call = call!(MeterOutput, asked, station, totals, register: tick.register, y: tick.y);
     let name = format!("meter: {name}");
     written(&name, call, answer, vec![], after.to_vec()).with_totals(sums)
 }

@@ -44,14 +44,7 @@ struct At<'a> {
 }
 
 fn asked(name: &str, at: At, (x, y): (u8, u8), answer: u64) -> Written {
-    let call = Call::Why {
-        reading: FIRST_READING,
-        file: from_hex(at.file),
-        marks: at.marks.to_vec(),
-        state: at.state.to_vec(),
-        x,
-        y,
-    };
+    let call = call!(Why, about(at.file, at.marks, x), state: at.state.to_vec(), y);
     written(&format!("why: {name}"), call, answer, vec![], vec![])
 }
 

@@ -42,119 +42,54 @@ const WRONG_FILES: [(u64, &str); 9] = [
 /// One call of each function that takes a file, which would not be refused
 /// about T, or about a policy that has the signals of a meter.
 fn calls() -> Vec<Call> {
-    let (reading, file, marks, state) = (FIRST_READING, from_hex(T), vec![1, 0], START.to_vec());
-    let mut index = vec![0, 2, 2];
-    index.resize(128, 0);
+    let (reading, file, state) = (FIRST_READING, || from_hex(T), || START.to_vec());
+    let asked = |x| about(T, &[1, 0], x);
+    let metered = |x| about(METERED, &[1], x);
+    let index = || [vec![0, 2, 2], vec![0; 125]].concat();
     vec![
         Call::Prepare {
             reading,
-            file: file.clone(),
+            file: file(),
             marks: vec![FILLER; 2],
         },
-        Call::Input {
-            reading,
-            file: file.clone(),
-            marks: marks.clone(),
-            state: state.clone(),
-            x: 1,
-        },
-        Call::Output {
-            reading,
-            file: file.clone(),
-            marks: marks.clone(),
-            state: state.clone(),
-            x: 0,
-            y: 1,
-        },
+        call!(Input, asked(1), state: state()),
+        call!(Output, asked(0), state: state(), y: 1),
         Call::Run {
             reading,
-            file: file.clone(),
-            marks: marks.clone(),
-            state: state.clone(),
+            file: file(),
+            marks: vec![1, 0],
+            state: state(),
             events: vec![1, 17],
             released: vec![FILLER; 2],
         },
         Call::Join {
-            a: file.clone(),
-            b: file.clone(),
+            a: file(),
+            b: file(),
             out: vec![FILLER; 60],
         },
         Call::Index {
-            file: file.clone(),
+            file: file(),
             index: vec![0xEEEE; 128],
         },
-        Call::InputIndexed {
-            reading,
-            file: file.clone(),
-            marks: marks.clone(),
-            state: state.clone(),
-            index: index.clone(),
-            x: 1,
-        },
-        Call::OutputIndexed {
-            reading,
-            file: file.clone(),
-            marks: marks.clone(),
-            state: state.clone(),
-            index: index.clone(),
-            x: 0,
-            y: 1,
-        },
-        Call::BayInput {
-            reading,
-            file: file.clone(),
-            marks: marks.clone(),
-            states: vec![0; 15],
-            bay: 2,
-            x: 1,
-        },
-        Call::BayOutput {
-            reading,
-            file: file.clone(),
-            marks: marks.clone(),
-            states: vec![0; 15],
-            bay: 2,
-            x: 0,
-            y: 1,
-        },
-        Call::MeterInput {
-            reading,
-            file: from_hex(METERED),
-            marks: vec![1],
-            station: vec![0; 6],
-            register: 9,
-            x: 1,
-        },
-        Call::MeterOutput {
-            reading,
-            file: from_hex(METERED),
-            marks: vec![1],
-            station: vec![0; 6],
-            totals: vec![3, 4],
-            register: 9,
-            x: 2,
-            y: 2,
-        },
+        call!(InputIndexed, asked(1), state: state(), index: index()),
+        call!(OutputIndexed, asked(0), state: state(), index: index(), y: 1),
+        call!(BayInput, asked(1), states: vec![0; 15], bay: 2),
+        call!(BayOutput, asked(0), states: vec![0; 15], bay: 2, y: 1),
+        call!(MeterInput, metered(1), station: vec![0; 6], register: 9),
+        call!(MeterOutput, metered(2), station: vec![0; 6], totals: vec![3, 4], register: 9, y: 2),
         Call::PrepareFast {
             reading,
-            file: file.clone(),
+            file: file(),
             marks: vec![FILLER; 2],
             work: [0, 1, 2, 3, 4].map(|_| vec![7; 2]),
         },
         Call::Clean {
             reading,
-            file: file.clone(),
+            file: file(),
             cleaned: vec![FILLER; 60],
             struck: vec![FILLER; 9],
         },
-        Call::Why {
-            reading,
-            file: file.clone(),
-            marks: marks.clone(),
-            state: state.clone(),
-            x: 1,
-            y: 1,
-        },
+        call!(Why, asked(1), state: state(), y: 1),
     ]
 }
 
