@@ -66,9 +66,13 @@ impl Engine for Plain {
     }
 
     fn run(&self, basis: Basis, state: &mut [u16], events: &[u8], released: &mut [u8]) -> u64 {
-        let end = plain::run(basis, state, events, released);
-        let refusal = end.refusal.map_or(0, plain::Refusal::number);
-        u64::from(refusal) | (end.released as u64) << 8
+        match plain::run(basis, state, events, released) {
+            Ok(end) => {
+                let refusal = end.refusal.map_or(0, plain::Refusal::number);
+                u64::from(refusal) | (end.released as u64) << 8
+            }
+            Err(refusal) => u64::from(refusal.number()),
+        }
     }
 
     fn join(&self, a: &[u8], b: &[u8], out: &mut [u8]) -> u64 {

@@ -34,16 +34,9 @@ pub fn output(basis: Basis, state: &mut [u16], x: u8, y: u8) -> Result<u8, Refus
     Ok(released)
 }
 
-/// Refusal 17 leaves what was released before it and the state there.
-pub fn run(basis: Basis, state: &mut [u16], events: &[u8], released: &mut [u8]) -> RunEnd {
-    run_checked(basis, state, events, released).unwrap_or_else(|refusal| RunEnd {
-        refusal: Some(refusal),
-        released: 0,
-    })
-}
-
-/// The error is a refusal before the first event; a 17 is in the end.
-fn run_checked(
+/// The error is a refusal before the first event. A 17 is in the end, and leaves
+/// what was released before it and the state there.
+pub fn run(
     basis: Basis,
     state: &mut [u16],
     events: &[u8],

@@ -27,7 +27,7 @@ fn released(reading: u8, policy: &str, events: &[u8]) -> Result<Vec<u8>, Refusal
     let mut released = vec![9; events.len()];
     let mut state = [0; STATE_LENGTH];
     let basis = Basis::new(reading, &file, &marks);
-    let end = run(basis, &mut state, events, &mut released);
+    let end = run(basis, &mut state, events, &mut released)?;
     match end.refusal {
         Some(refusal) => Err(refusal),
         None => Ok(released),
