@@ -27,6 +27,11 @@ pub fn gives(value: u64) -> u64 {
     value << 8
 }
 
+/// What x becomes at the start.
+fn becomes(name: &str, file: &str, marks: &[u8], x: u8, passed_on: u64) -> Written {
+    input(name, file, marks, &START, x, gives(passed_on))
+}
+
 /// Two inputs, of which just one must be set.
 pub const EITHER: &str = "02 41 42 00 00 01 00 00 02 \
     00 03 01 00 00 00 00 \
@@ -61,111 +66,63 @@ pub const OVERFULL: &str = "00 00 02 00 FF 01 00 01 00 00 00";
 
 fn inputs() -> Vec<Written> {
     vec![
-        input("S keeps 0", S, &[1], &START, 0, gives(0)),
-        input("S keeps 1", S, &[1], &START, 1, gives(1)),
-        input("S keeps 2", S, &[1], &START, 2, gives(2)),
-        input("S: 3 becomes 1", S, &[1], &START, 3, gives(1)),
-        input("T: 1 becomes 0", T, &[1, 0], &START, 1, gives(0)),
-        input("T: mark 2 is not live", T, &[1, 2], &START, 1, gives(0)),
-        input("T: mark 255 is not live", T, &[1, 255], &START, 1, gives(0)),
-        input(
-            "T: the marks are read as given",
-            T,
-            &[1, 1],
-            &START,
-            1,
-            gives(1),
-        ),
-        input(
-            "more marks than states",
-            T,
-            &[1, 0, 1, 1],
-            &START,
-            1,
-            gives(0),
-        ),
-        input(
+        becomes("S keeps 0", S, &[1], 0, 0),
+        becomes("S keeps 1", S, &[1], 1, 1),
+        becomes("S keeps 2", S, &[1], 2, 2),
+        becomes("S: 3 becomes 1", S, &[1], 3, 1),
+        becomes("T: 1 becomes 0", T, &[1, 0], 1, 0),
+        becomes("T: mark 2 is not live", T, &[1, 2], 1, 0),
+        becomes("T: mark 255 is not live", T, &[1, 255], 1, 0),
+        becomes("T: the marks are read as given", T, &[1, 1], 1, 1),
+        becomes("more marks than states", T, &[1, 0, 1, 1], 1, 0),
+        becomes(
             "0 between 1 and 2 keeps the first input",
             EITHER,
             &[1],
-            &START,
             0,
-            gives(2),
+            2,
         ),
-        input("3 between 1 and 2", EITHER, &[1], &START, 3, gives(1)),
-        input(
-            "7 is nearer to 6 than to 0",
-            NONE_OR_SIX,
-            &[1],
-            &START,
-            7,
-            gives(6),
-        ),
-        input(
-            "1 is nearer to 0 than to 6",
-            NONE_OR_SIX,
-            &[1],
-            &START,
-            1,
-            gives(0),
-        ),
-        input(
+        becomes("3 between 1 and 2", EITHER, &[1], 3, 1),
+        becomes("7 is nearer to 6 than to 0", NONE_OR_SIX, &[1], 7, 6),
+        becomes("1 is nearer to 0 than to 6", NONE_OR_SIX, &[1], 1, 0),
+        becomes(
             "2 is one bit from both, and 6 keeps the second input",
             NONE_OR_SIX,
             &[1],
-            &START,
             2,
-            gives(6),
+            6,
         ),
-        input(
+        becomes(
             "4 is one bit from both, and 0 keeps the second input",
             NONE_OR_SIX,
             &[1],
-            &START,
             4,
-            gives(0),
+            0,
         ),
-        input(
+        becomes(
             "0 is two bits from all, and 12 keeps the first two",
             PAIRS,
             &[1],
-            &START,
             0,
-            gives(12),
+            12,
         ),
-        input(
+        becomes(
             "15 is two bits from all, and 3 keeps the first two",
             PAIRS,
             &[1],
-            &START,
             15,
-            gives(3),
+            3,
         ),
-        input(
+        becomes(
             "7 is one bit from 3, 5 and 6, and 3 keeps the first two",
             PAIRS,
             &[1],
-            &START,
             7,
-            gives(3),
+            3,
         ),
-        input(
-            "15 is nearer to 8 than to 0",
-            NONE_OR_EIGHT,
-            &[1],
-            &START,
-            15,
-            gives(8),
-        ),
-        input(
-            "7 is nearer to 0 than to 8",
-            NONE_OR_EIGHT,
-            &[1],
-            &START,
-            7,
-            gives(0),
-        ),
-        input("K has only the input 0", K, &[1; 4], &START, 0, gives(0)),
+        becomes("15 is nearer to 8 than to 0", NONE_OR_EIGHT, &[1], 15, 8),
+        becomes("7 is nearer to 0 than to 8", NONE_OR_EIGHT, &[1], 7, 0),
+        becomes("K has only the input 0", K, &[1; 4], 0, 0),
     ]
 }
 

@@ -53,6 +53,21 @@ fn why(name: &str, at: At, event: (u8, u8), input: Reason, output: Reason) -> Wr
     asked(name, at, event, answer)
 }
 
+/// Neither half is edited.
+fn kept(name: &str, at: At, event: (u8, u8)) -> Written {
+    why(name, at, event, NOT_EDITED, NOT_EDITED)
+}
+
+/// The input alone is edited.
+fn input(name: &str, at: At, event: (u8, u8), reason: Reason) -> Written {
+    why(name, at, event, reason, NOT_EDITED)
+}
+
+/// The output alone is edited.
+fn output(name: &str, at: At, event: (u8, u8), reason: Reason) -> Written {
+    why(name, at, event, NOT_EDITED, reason)
+}
+
 fn start<'a>(file: &'a str, marks: &'a [u8]) -> At<'a> {
     At {
         file,
@@ -63,15 +78,13 @@ fn start<'a>(file: &'a str, marks: &'a [u8]) -> At<'a> {
 
 fn not_edited() -> Vec<Written> {
     vec![
-        why("S", start(S, &[1]), (1, 1), NOT_EDITED, NOT_EDITED),
-        why("T", start(T, &[1, 0]), (0, 1), NOT_EDITED, NOT_EDITED),
-        why("D", start(D, &[1; 8]), (1, 0), NOT_EDITED, NOT_EDITED),
-        why(
+        kept("S", start(S, &[1]), (1, 1)),
+        kept("T", start(T, &[1, 0]), (0, 1)),
+        kept("D", start(D, &[1; 8]), (1, 0)),
+        kept(
             "bytes past the marks are not looked at",
             start(T, &[1, 0, 0, 255, 1]),
             (0, 1),
-            NOT_EDITED,
-            NOT_EDITED,
         ),
     ]
 }
@@ -121,43 +134,23 @@ fn outputs() -> Vec<Written> {
     };
     let chain = start(CHAIN, &CHAIN_MARKS);
     vec![
-        why(
-            "S: R with B, rule 1",
-            start(S, &[1]),
-            (2, 1),
-            NOT_EDITED,
-            rule(1),
-        ),
-        why("K: credit at 3, rule 0", late, (0, 1), NOT_EDITED, rule(0)),
-        why(
-            "D: the fourth tick, no rule",
-            due,
-            (1, 0),
-            NOT_EDITED,
-            NO_RULE,
-        ),
-        why("two more ticks", chain, (0, 2), NOT_EDITED, ticks(2)),
-        why("rule 0", chain, (0, 3), NOT_EDITED, rule(0)),
-        why("location 4 stays", chain, (0, 1), NOT_EDITED, NOT_EDITED),
-        why(
-            "no rule at location 4",
-            in_four,
-            (0, 2),
-            NOT_EDITED,
-            NO_RULE,
-        ),
-        why(
+        output("S: R with B, rule 1", start(S, &[1]), (2, 1), rule(1)),
+        output("K: credit at 3, rule 0", late, (0, 1), rule(0)),
+        output("D: the fourth tick, no rule", due, (1, 0), NO_RULE),
+        output("two more ticks", chain, (0, 2), ticks(2)),
+        output("rule 0", chain, (0, 3), rule(0)),
+        kept("location 4 stays", chain, (0, 1)),
+        output("no rule at location 4", in_four, (0, 2), NO_RULE),
+        output(
             "for ever, with one rest",
             start(RESTS_ONCE, &[1, 0, 0, 0]),
             (0, 1),
-            NOT_EDITED,
             rests(1),
         ),
-        why(
+        output(
             "for ever, with one rest at last",
             start(RESTS_LATER, &[1, 0, 0, 0]),
             (0, 1),
-            NOT_EDITED,
             rests(1),
         ),
     ]
@@ -184,47 +177,31 @@ const BY_REST: &str = "01 41 02 42 43 00 04 00 00 00 01 00 07 \
 
 fn inputs() -> Vec<Written> {
     vec![
-        why(
-            "T: no tick more",
-            start(T, &[1, 0]),
-            (1, 0),
-            ticks(0),
-            NOT_EDITED,
-        ),
-        why(
-            "S: A with B, rule 0",
-            start(S, &[1]),
-            (3, 0),
-            rule(0),
-            NOT_EDITED,
-        ),
-        why(
+        input("T: no tick more", start(T, &[1, 0]), (1, 0), ticks(0)),
+        input("S: A with B, rule 0", start(S, &[1]), (3, 0), rule(0)),
+        input(
             "a transfer that never ends",
             start(UNFINISHED, &[1, 0]),
             (1, 0),
             rests(0),
-            NOT_EDITED,
         ),
-        why(
+        input(
             "the greatest over all outputs",
             start(BY_OUTPUT, &[1, 0, 0]),
             (1, 0),
             ticks(1),
-            NOT_EDITED,
         ),
-        why(
+        input(
             "rests go before ticks, though they are fewer",
             start(BY_REST, &[1, 0, 0, 0]),
             (1, 2),
             rests(0),
-            NOT_EDITED,
         ),
-        why(
+        input(
             "every output a violation: the lowest has no rule",
             start(NO_RULE_FIRST, &[1]),
             (1, 0),
             NO_RULE,
-            NOT_EDITED,
         ),
     ]
 }
@@ -243,20 +220,8 @@ const NEITHER: &str = "01 41 01 42 00 01 00 00 03 \
 fn both() -> Vec<Written> {
     vec![
         why("both", start(NEITHER, &[1]), (1, 1), rule(0), rule(1)),
-        why(
-            "the input only",
-            start(NEITHER, &[1]),
-            (1, 0),
-            rule(0),
-            NOT_EDITED,
-        ),
-        why(
-            "the output only",
-            start(NEITHER, &[1]),
-            (0, 1),
-            NOT_EDITED,
-            rule(1),
-        ),
+        input("the input only", start(NEITHER, &[1]), (1, 0), rule(0)),
+        output("the output only", start(NEITHER, &[1]), (0, 1), rule(1)),
     ]
 }
 
@@ -268,15 +233,9 @@ fn by_reading() -> Vec<Written> {
         ..start(D, &[1; 8])
     };
     vec![
-        why("D: the third tick", waiting, (0, 0), NOT_EDITED, NOT_EDITED),
-        why("D: the third tick", waiting, (0, 0), NOT_EDITED, NO_RULE).under(2),
-        why(
-            "at 0 only",
-            start(at_none, &[1, 0]),
-            (0, 0),
-            NOT_EDITED,
-            NOT_EDITED,
-        ),
+        kept("D: the third tick", waiting, (0, 0)),
+        output("D: the third tick", waiting, (0, 0), NO_RULE).under(2),
+        kept("at 0 only", start(at_none, &[1, 0]), (0, 0)),
         asked(
             "20: marks of reading 1",
             start(at_none, &[1, 0]),
