@@ -15,7 +15,8 @@ use Rattle.policy.specs.Rules.{Rule}
 use Rattle.policy.specs.File.{byteAt, part, ruleSize, ruleFrom, rulesFrom, rulesOf, inputCount, outputCount, clocksAt, clockCount, locationsAt, locationCount, ruleCount, inputTags, outputTags, ceilingsOf, locationBytes, policyOf}
 use Rattle.policy.specs.Bytes.{pairBytes, pairsBytes, ruleBytes, rulesBytes, countsBytes, bytesOf}
 use Rattle.policy.specs.Sound.{Each, each-more, each-weak}
-use Rattle.policy.specs.Checked.{Framed, frame, rules-length, inputs-length, outputs-length, pairs-length, bounds-length, well-ruled}
+use Rattle.policy.specs.Frame.{Framed, frame, rules-length, inputs-length, outputs-length, pairs-length, bounds-length}
+use Rattle.policy.specs.Checked.{well-ruled}
 use Rattle.policy.specs.Parts.{rules-part}
 use Rattle.policy.specs.ReadBack.{rule-length}
 use Rattle.policy.specs.declared.Layout.{Layout}

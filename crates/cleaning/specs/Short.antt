@@ -7,7 +7,7 @@ use Rattle.streams.specs.Answer.{gives}
 use Rattle.streams.specs.AnswerLaws.{given-only, none-refused}
 use Rattle.policy.specs.Check.{refusalUnder}
 use Rattle.policy.specs.CheckLaws.{under-none}
-use Rattle.policy.specs.Checked.{frame, longest}
+use Rattle.policy.specs.Frame.{frame, longest}
 use Rattle.cleaning.specs.Entry.{cleanRefusal, cleanOf}
 use Rattle.cleaning.specs.declared.Lengths.{Lengths}
 use Rattle.cleaning.specs.Sizes.{room}

@@ -11,7 +11,8 @@ use Rattle.policy.specs.File.{policyOf, ruleSize, clocksAt, clockCount, ruleCou
 use Rattle.policy.specs.Number.{states}
 use Rattle.policy.specs.Check.{refusalOf}
 use Rattle.policy.specs.Sound.{WellFormed}
-use Rattle.policy.specs.Checked.{frame, inputs-length, outputs-length, pairs-length, rules-length, checked-file}
+use Rattle.policy.specs.Frame.{frame, inputs-length, outputs-length, pairs-length, rules-length}
+use Rattle.policy.specs.Checked.{checked-file}
 use Rattle.policy.specs.Bytes.{bytesOf}
 use Rattle.policy.specs.ReadBack.{bytes-length}
 use Rattle.cleaning.specs.Sift.{sift, kept}

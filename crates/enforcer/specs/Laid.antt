@@ -17,7 +17,8 @@ use Rattle.policy.specs.CheckLaws.{under-none}
 use Rattle.policy.specs.Number.{four, states, numberFrom, locationFrom, clocksFrom, numberOf, placeOf}
 use Rattle.policy.specs.Numbered.{number-take, number-ceilings, location-ceilings, clocks-ceilings, clocks-length, numberOf-below}
 use Rattle.policy.specs.Sound.{WellFormed, Inside}
-use Rattle.policy.specs.Checked.{Framed, frame, checked-file, inputs-length, outputs-length, pairs-length, well-sound}
+use Rattle.policy.specs.Frame.{Framed, frame, inputs-length, outputs-length, pairs-length}
+use Rattle.policy.specs.Checked.{checked-file, well-sound}
 use Rattle.policy.specs.Stays.{Of, advance-take, step-inside}
 use Rattle.policy.specs.Parts.{rules-part}
 use Rattle.policy.specs.Own.{level, own, ownOf, level-own, own-ends, own-reads}

@@ -12,8 +12,10 @@ pub mod Chosen
 pub mod Arrived
 pub mod Promises
 pub mod Ways
+pub mod TakesLaws
 pub mod WaysLaws
 pub mod RuleAhead
 pub mod Pass
+pub mod Rowing
 pub mod Decided
 pub mod Choice

@@ -2,7 +2,7 @@
 use mathlib.Core.Path.{_≡_, refl, sym, ap, ap₂, _∙_, subst}
 use mathlib.Core.Bool.{Bool, true, false, cond, _&&_, and-eq-true-iff, or-true, false≢true}
 use mathlib.Core.List.{List, [], _∷_}
-use Prim.Native.Nat.{ℕ, zero, suc, _-_, _≤_, _<_}
+use Prim.Native.Nat.{ℕ, zero, suc, _≤_, _<_}
 use native.Mathlib.Omega.{arith}
 use lib.Dec.{eqb, ltb}
 use lib.Bits.{bitAnd, bitOr, bitXor, and-zero-r, or-zero-r, xor-zero-r}
@@ -12,16 +12,15 @@ use Rattle.streams.specs.Choose.{any}
 use Rattle.streams.specs.ChooseLaws.{any-from, any-none, any-has, any-fails}
 use Rattle.policy.specs.Rules.{Rule, Policy, Place, inputValues, outputValues, stopped, looked}
 use Rattle.policy.specs.Sound.{WellFormed}
-use Rattle.policy.specs.Own.{below, own}
+use Rattle.policy.specs.Own.{own}
 use Rattle.policy.specs.Number.{states}
 use Rattle.enforcer.specs.State.{isMarked}
 use Rattle.enforcer.specs.Tick.{mayStand}
 use Rattle.choice.specs.Sets.{agreed, cond-same, has, has-or, has-some, has-not-empty, allBelow}
 use Rattle.choice.specs.Outs.{outs}
-use Rattle.enforcer.specs.Ways.{room, holds, takes, leads, gathered, allowed, row}
+use Rattle.enforcer.specs.Ways.{room, holds, takes, leads, gathered, allowed}
 use Rattle.enforcer.specs.WaysLaws.{gathered-keeps, gathered-own, allowed-any}
 use Rattle.choice.specs.Changed.{Changed, changed-by, changed-not}
-use Rattle.enforcer.specs.RuleAhead.{left}
 
 -- No number below n passes if none does.
 none-any : (n : ℕ) → any (λ x. ltb 0 0) n ≡ false
@@ -275,27 +274,3 @@ module _ (s : Place) (p : Policy) where
   pub passing-done : WellFormed p → {F : ℕ → Type 0} {left : List ℕ} → Passing F [] left → (marks : List ℕ) →
       ((t : ℕ) → F t → isMarked marks t ≡ false) → any (mayStand p marks s) (inputValues p) ≡ false
   passing-done k g marks h = gathering-nothing s p marks k (g .gathering marks h)
-
--- One row: x alone.
-module _ (s : Place) (p : Policy) (marks : List ℕ) (x : ℕ) where
-  -- What is known with the rules rs still to come.
-  pub record Rowing (rs : List Rule) (left found : ℕ) : Type 0 where
-    pub is : row p marks s x ≡ gathered s p marks rs x left found
-
-  pub rowing-start : WellFormed p → (rs : List Rule) → rs ≡ own (s .location) (p .rules) → (left : ℕ) → left ≡ allBelow (outputValues p) → Rowing rs left 0
-  unfolding row
-  rowing-start k rs e left c = record { is = sym (gathered-own s p marks x (allBelow (outputValues p)) k) ∙ rw (e, c) }
-
-  module _ {r : Rule} {rs : List Rule} {left found took kept : ℕ} (g : Rowing (r ∷ rs) left found) (t : took ≡ takes (looked stopped p s) r x left)
-      (e : kept ≡ cond (leads s p marks r) took 0) where
-    pub rowing-more : Rowing rs (bitXor left took) (bitOr found kept)
-    unfolding gathered
-    rowing-more = record { is = g .is ∙ rw (e, t) (ap (gathered s p marks rs x (bitXor left (takes (looked stopped p s) r x left))) (go (leads s p marks r))) }
-      where
-        go : (b : Bool) → cond b (bitOr found (takes (looked stopped p s) r x left)) found ≡ bitOr found (cond b (takes (looked stopped p s) r x left) 0)
-        go true = refl
-        go false = sym (or-zero-r found)
-
-  pub rowing-done : {left found : ℕ} → Rowing [] left found → found ≡ row p marks s x
-  unfolding gathered
-  rowing-done g = sym (g .is)

@@ -11,7 +11,8 @@ use borrow.Author.Tests.{eqb-true}
 use Rattle.policy.specs.Rules.{Rule, Policy}
 use Rattle.policy.specs.File.{ruleSize, ruleFrom, rulesFrom, rulesOf, clockCount, policyOf}
 use Rattle.policy.specs.Sound.{WellFormed, Each, each-none, each-more, each-weak, Formed}
-use Rattle.policy.specs.Checked.{frame, well-ruled}
+use Rattle.policy.specs.Frame.{frame}
+use Rattle.policy.specs.Checked.{well-ruled}
 use Rattle.policy.specs.Parts.{rules-part}
 use Rattle.policy.specs.Own.{below, level, own, ownOf}
 use Rattle.policy.specs.declared.Layout.{Layout}

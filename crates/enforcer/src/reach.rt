@@ -1,9 +1,9 @@
 // Which events take a state to a marked one.
+use crate::lead::leads;
 use crate::matcher::Found;
 use crate::matcher::first_rule;
 use crate::next::Step;
 use crate::next::advanced;
-use crate::pass::leads;
 use crate::state::State;
 use policy::Layout;
 use policy::Own;

@@ -7,6 +7,8 @@ pub mod Code
 pub mod Lists
 pub mod Turn
 pub mod Fall
+pub mod Rise
+pub mod Passes
 pub mod Paint
 pub mod Turns
 pub mod Roots

@@ -11,7 +11,8 @@ use Rattle.policy.specs.Rules.{start}
 use Rattle.policy.specs.File.{policyOf}
 use Rattle.policy.specs.CheckLaws.{under-none}
 use Rattle.policy.specs.Number.{numberOf}
-use Rattle.policy.specs.Checked.{frame, longest, checked-file}
+use Rattle.policy.specs.Frame.{frame, longest}
+use Rattle.policy.specs.Checked.{checked-file}
 use Rattle.enforcer.specs.Entries.{marksRefusal}
 use Rattle.enforcer.specs.States.{marks-granted}
 use Rattle.prepare.specs.Table.{machineOf, marksOf}

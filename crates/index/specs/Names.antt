@@ -13,7 +13,8 @@ use Rattle.policy.specs.Rules.{Rule}
 use Rattle.policy.specs.File.{byteAt, ruleSize, ruleFrom, rulesFrom, clockCount, locationCount, ruleCount, ruleSection, rulesOf, policyOf}
 use Rattle.policy.specs.Check.{refusalOf}
 use Rattle.policy.specs.Sound.{Each, each-none, each-more, each-weak}
-use Rattle.policy.specs.Checked.{Rising, rising-none, rising-more, frame, checked-file, rules-length, well-rising, well-ruled}
+use Rattle.policy.specs.Frame.{frame, rules-length}
+use Rattle.policy.specs.Checked.{Rising, rising-none, rising-more, checked-file, well-rising, well-ruled}
 use Rattle.policy.specs.Parts.{rules-drop}
 use Rattle.policy.specs.Own.{below, level, ownOf}
 use Rattle.index.specs.declared.entry.Entry.{Entry}

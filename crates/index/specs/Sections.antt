@@ -7,7 +7,7 @@ use native.Mathlib.Omega.{arith}
 use lib.ListN.{length, getD}
 use Rattle.policy.specs.File.{part, ruleSize, rulesFrom, clockCount, locationCount, ruleCount, ruleSection, rulesStart, rulesEnd, rulesOf}
 use Rattle.policy.specs.Check.{refusalOf}
-use Rattle.policy.specs.Checked.{Framed, frame}
+use Rattle.policy.specs.Frame.{Framed, frame}
 use Rattle.policy.specs.Parts.{rules-drop}
 use Rattle.policy.specs.Own.{level, ownOf}
 use Rattle.policy.specs.declared.Layout.{Layout}

@@ -9,7 +9,7 @@ use lib.Seq.{set-out, sets, length-sets, sets-eq, take-all, take-append-seam, dr
 use Rattle.policy.specs.Rules.{Rule}
 use Rattle.policy.specs.File.{byteAt, pairAt, part, pairsFrom, boundsFrom, ruleSize, ruleFrom, rulesFrom, inputCount, outputsAt, outputCount, inputTags, outputTags}
 use Rattle.policy.specs.Bytes.{pairBytes, pairsBytes, boundsBytes, rulesBytes}
-use Rattle.policy.specs.Checked.{Framed}
+use Rattle.policy.specs.Frame.{Framed}
 use Rattle.join.specs.Lay.{LaidAt, bytesFrom}
 
 sets-append : (l : List ℕ) (i : ℕ) (xs ys : List ℕ) → sets l i (xs ++ ys) ≡ sets (sets l i xs) (i + length xs) ys

@@ -15,7 +15,7 @@ use Rattle.streams.specs.AnswerLaws.{given-only}
 use Rattle.policy.specs.File.{pairAt, policyOf}
 use Rattle.policy.specs.Check.{refusalUnder}
 use Rattle.policy.specs.CheckLaws.{under-none}
-use Rattle.policy.specs.Checked.{frame, longest}
+use Rattle.policy.specs.Frame.{frame, longest}
 use Rattle.texts.specs.Text.{ascii, decimal}
 use Rattle.texts.specs.Decimal.{decimal-short}
 use Rattle.texts.specs.Wrote.{Wrote}

@@ -13,7 +13,7 @@ use Rattle.streams.specs.Answer.{_orElse_, unless}
 use Rattle.policy.specs.File.{byteAt, part, policyOf, outputsAt, inputTags, outputTags}
 use Rattle.policy.specs.Check.{refusalUnder, among}
 use Rattle.policy.specs.CheckLaws.{under-none}
-use Rattle.policy.specs.Checked.{frame, inputs-length, outputs-length}
+use Rattle.policy.specs.Frame.{frame, inputs-length, outputs-length}
 use Rattle.meter.specs.Meter.{weightOf}
 use Rattle.meter.specs.Entries.{tagP, tagD, meterRefusal, weightP, weightD}
 use Rattle.meter.specs.declared.signals.Signals.{Signals}

@@ -13,7 +13,8 @@ use Rattle.policy.specs.File.{pairAt, pairsFrom, inputCount, outputsAt, 
 use Rattle.policy.specs.File.{ceilingsOf}
 use Rattle.policy.specs.Check.{all, among, tagsGood, isCapital, inputsRefusal, outputsRefusal, clocksRefusal, locationsRefusal}
 use Rattle.policy.specs.Number.{four, statesOf}
-use Rattle.policy.specs.Checked.{section, pairs-length, ceiling-at}
+use Rattle.policy.specs.Frame.{section, pairs-length}
+use Rattle.policy.specs.Checked.{ceiling-at}
 
 -- The list from i on: its first element, and the rest.
 pub all-turn : (test : ℕ → Bool) (xs : List ℕ) (i : ℕ) → i < length xs →

@@ -17,7 +17,7 @@ use Rattle.policy.specs.File.{inputCount, outputCount, clocksAt, clockCo
 use Rattle.policy.specs.LayoutLaws.{ShapeOf}
 use Rattle.policy.specs.declared.rules.Shape.{Shape}
 use Rattle.policy.specs.Check.{boundGood, boundsGood, ruleRefusal, rulesRefusal}
-use Rattle.policy.specs.Checked.{pairs-length}
+use Rattle.policy.specs.Frame.{pairs-length}
 
 -- `1 << k`, which the machine has as a product cut to 64 bits
 pub one-shl : (k : ℕ) → k ≤ 4 → (1 * 2 ^ k) % 2 ^ 64 ≡ 2 ^ k

@@ -7,6 +7,7 @@ pub mod Check
 pub mod CheckLaws
 pub mod Sound
 pub mod Numbered
+pub mod Frame
 pub mod Checked
 pub mod Stays
 pub mod Reached

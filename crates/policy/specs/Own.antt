@@ -12,7 +12,8 @@ use borrow.Author.Tests.{lt-ltb, le-ltb, ltb-true, ltb-false, eqb-true, eqb-fals
 use Rattle.streams.specs.Stream.{Event}
 use Rattle.policy.specs.Rules.{Rule, Place, fires, decides}
 use Rattle.policy.specs.File.{byteAt, part, ruleFrom, rulesFrom, ruleSize}
-use Rattle.policy.specs.Checked.{rules-length, Rising, rising-none, rising-more}
+use Rattle.policy.specs.Frame.{rules-length}
+use Rattle.policy.specs.Checked.{Rising, rising-none, rising-more}
 use Rattle.policy.specs.Parts.{rules-part, rules-take, rules-drop}
 use Rattle.policy.specs.declared.own.Own.{Own}
 

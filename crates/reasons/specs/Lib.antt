@@ -2,6 +2,8 @@ pub mod Reasons
 pub mod Exact
 pub mod Loops
 pub mod Tables
+pub mod TicksLaws
+pub mod RestsLaws
 pub mod Peaks
 pub mod Better
 pub mod Deciding
@@ -14,3 +16,5 @@ pub mod Halves
 pub mod Granted
 pub mod Word
 pub mod Cases
+pub mod DownCases
+pub mod RestCases

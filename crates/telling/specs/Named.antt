@@ -10,7 +10,8 @@ use Rattle.streams.specs.Stream.{Event}
 use Rattle.policy.specs.Rules.{Rule, Place}
 use Rattle.policy.specs.File.{byteAt, part, ruleSize, ruleFrom, rulesFrom, inputCount, outputsAt, outputCount, ruleCount, ruleSection, clockCount, rulesStart, policyOf}
 use Rattle.policy.specs.Parts.{rule-part, rules-part}
-use Rattle.policy.specs.Checked.{frame, part-length, rules-length, well-ruled}
+use Rattle.policy.specs.Frame.{frame, part-length, rules-length}
+use Rattle.policy.specs.Checked.{well-ruled}
 use Rattle.policy.specs.declared.Layout.{Layout}
 use Rattle.enforcer.specs.Decider.{decider-lt}
 use Rattle.enforcer.specs.Ready.{Laid}

@@ -34,7 +34,8 @@ use Rattle.tender.specs.Samples.{T}
 use Rattle.tender.specs.Granted.{judged}
 use Rattle.tender.specs.Demand3.{JoinMade, tags, JoinOf, alone, joined, AllOf, SameAnswer, SameReleased, HopelessTogether, ReleaseTheSame, Alike, permitsAll, PermitsAll, Demand3}
 use Rattle.tender.specs.Demand2.{Run, Right, ReleasedFor}
-use Rattle.tender.specs.Demand2Shown.{releases, hopeless-exactly, prepared-otherwise, not-forwarding}
+use Rattle.tender.specs.Demand2Shown.{releases, hopeless-exactly, prepared-otherwise}
+use Rattle.tender.specs.WorthlessRuns.{not-forwarding}
 use Rattle.enforcer.specs.declared.state.State.{State}
 use Rattle.join.specs.Computing.{the-join}
 use Rattle.prepare.specs.Computing.{the-file, the-check, the-bytes}

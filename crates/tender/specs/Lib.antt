@@ -5,6 +5,7 @@ pub mod Demand1Shown
 pub mod Granted
 pub mod Demand2
 pub mod Demand2Shown
+pub mod WorthlessRuns
 pub mod Demand3
 pub mod Demand3Shown
 pub mod Halves

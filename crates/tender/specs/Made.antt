@@ -15,7 +15,8 @@ use Rattle.policy.specs.Number.{states, statesOf}
 use Rattle.policy.specs.File.{policyOf}
 use Rattle.policy.specs.Check.{readingRefusal, refusalOf}
 use Rattle.policy.specs.Sound.{WellFormed}
-use Rattle.policy.specs.Checked.{frame, longest, checked-file}
+use Rattle.policy.specs.Frame.{frame, longest}
+use Rattle.policy.specs.Checked.{checked-file}
 use Rattle.policy.specs.WrittenPasses.{written-passes}
 use Rattle.join.specs.Join.{of, agree, both, pair, each, cell, rows, join}
 use Rattle.join.specs.Free.{always, free, freeFile}

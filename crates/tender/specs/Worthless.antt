@@ -1,5 +1,5 @@
 -- "These worthless versions are to be rejected", from the promises of the code and by marked cases, which are under reading 1. As runs over the
--- definitions they are in specs/Demand2.antt.
+-- definitions they are in specs/WorthlessRuns.antt.
 use mathlib.Core.Path.{_≡_, refl, sym, ap, _∙_}
 use mathlib.Core.Bool.{true}
 use mathlib.Core.List.{List, [], _∷_}
@@ -22,7 +22,8 @@ use Rattle.prepare.specs.declared.Prepared.the-variants as Prepared
 use Rattle.tender.specs.Samples.{S, T}
 use Rattle.tender.specs.Cases
 use Rattle.tender.specs.Granted.{given-passed, given-goes-on}
-use Rattle.tender.specs.Demand2Shown.{releases, released-one, prepared-otherwise, marked, said-released}
+use Rattle.tender.specs.Demand2Shown.{releases, released-one, prepared-otherwise}
+use Rattle.tender.specs.WorthlessRuns.{marked, said-released}
 use Rattle.tender.specs.Code.{code-releases}
 -- "one refusing always" and "one inventing the number of live states", of prepare.
 pub use Rattle.tender.specs.Demand1Shown.{not-refusing, not-inventing}

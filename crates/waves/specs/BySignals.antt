@@ -12,7 +12,7 @@ use borrow.Author.Tests.{le-leb, lt-leb}
 use Rattle.streams.specs.Answer.{gives, _orElse_, unless, answer}
 use Rattle.policy.specs.File.{part, inputCount, outputCount, outputsAt, inputTags, outputTags}
 use Rattle.policy.specs.Check.{refusalOf, all}
-use Rattle.policy.specs.Checked.{frame, in-order}
+use Rattle.policy.specs.Frame.{frame, in-order}
 use Rattle.policy.specs.Layout.{CheckPromise}
 use Rattle.policy.specs.LayoutLaws.{checked-says}
 use Rattle.policy.specs.declared.Checked.{Checked}

@@ -9,7 +9,7 @@ use lib.ListN.{length-take}
 use borrow.Author.Tests.{leb-true, ltb-true, eqb-false, ne-eqb, lt-ltb, not-true}
 use Rattle.policy.specs.File.{inputTags, outputTags}
 use Rattle.policy.specs.Check.{refusalOf, all, among, isCapital, tagsGood}
-use Rattle.policy.specs.Checked.{passed}
+use Rattle.policy.specs.Frame.{passed}
 use Rattle.waves.specs.Values.{Distinct, NoneOf, neither}
 use Rattle.waves.specs.Events.{SignalsGood, EventFits}
 use Rattle.waves.specs.Steps.{AllFit}

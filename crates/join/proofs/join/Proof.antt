@@ -1,6 +1,7 @@
 -- `join::join` meets its contract: A's refusal, then B's, then what `join_checked` gives.
 use denote.Ref.{now}
-use Rattle.join.proofs.FileLaws.{checks, checks-not, refused-first, refused-second}
+use Rattle.join.proofs.SizeLaws.{checks, checks-not}
+use Rattle.join.proofs.JoinLaws.{refused-first, refused-second}
 use borrow.Author.Needs.{needs}
 use Rattle.join.proofs.join.Statement.{statement}
 use Rattle.join.proofs.join.Tie as tie

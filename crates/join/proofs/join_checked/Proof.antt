@@ -3,7 +3,8 @@ use mathlib.Core.Path.{sym, _∙_}
 use native.Mathlib.Omega.{arith}
 use denote.Ref.{now}
 use borrow.Author.Tests.{not-true, not-false}
-use Rattle.join.proofs.FileLaws.{sizes, refused-12, refused-13}
+use Rattle.join.proofs.SizeLaws.{sizes}
+use Rattle.join.proofs.JoinLaws.{refused-12, refused-13}
 use borrow.Author.Needs.{needs}
 use Rattle.join.proofs.join_checked.Statement.{statement}
 use Rattle.join.proofs.join_checked.Tie as tie

@@ -5,7 +5,9 @@ use native.Mathlib.Omega.{arith}
 use lib.ListN.{length}
 use denote.Ref.{now}
 use Rattle.policy.specs.File.{byteAt}
-use Rattle.join.proofs.FileLaws.{sizes, few, rules-counted, file-length, too-many, too-short, written}
+use Rattle.join.proofs.SizeLaws.{sizes}
+use Rattle.join.proofs.FileLaws.{few}
+use Rattle.join.proofs.JoinLaws.{rules-counted, file-length, too-many, too-short, written}
 use borrow.Author.Needs.{needs}
 use Rattle.join.proofs.join_within.Statement.{statement}
 use Rattle.join.proofs.join_within.Tie as tie

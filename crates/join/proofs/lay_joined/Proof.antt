@@ -1,7 +1,8 @@
 -- `join::lay_joined` meets its contract: the parts of the files that the rules are.
 use native.Mathlib.Omega.{arith}
 use Rattle.join.specs.Laying.{laid-as}
-use Rattle.join.proofs.FileLaws.{sizes, rules-section, joinable, rules-joined}
+use Rattle.join.proofs.SizeLaws.{sizes}
+use Rattle.join.proofs.FileLaws.{rules-section, joinable, rules-joined}
 use borrow.Author.Needs.{needs}
 use Rattle.join.proofs.lay_joined.Statement.{statement}
 use Rattle.join.proofs.lay_joined.Tie as tie

@@ -8,7 +8,9 @@ use borrow.Rule.Slice.PartMut.{same-len-mid}
 use Rattle.policy.specs.File.{byteAt}
 use Rattle.join.specs.Lay.{countsLength}
 use Rattle.join.specs.Laying.{laid-length}
-use Rattle.join.proofs.FileLaws.{sizes, few, counts-long, file-length, file-laid}
+use Rattle.join.proofs.SizeLaws.{sizes}
+use Rattle.join.proofs.FileLaws.{few, counts-long}
+use Rattle.join.proofs.JoinLaws.{file-length, file-laid}
 use Rattle.join.proofs.write_joined.Statement.{statement}
 use Rattle.join.proofs.write_joined.Tie as tie
 

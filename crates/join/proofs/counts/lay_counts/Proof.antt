@@ -4,7 +4,8 @@ use denote.Ref.{now}
 use borrow.Author.Needs.{needs}
 use Rattle.join.specs.Lay.{clocksFor}
 use Rattle.join.specs.Laying.{laid-more, bytes-length}
-use Rattle.join.proofs.FileLaws.{sizes, few}
+use Rattle.join.proofs.SizeLaws.{sizes}
+use Rattle.join.proofs.FileLaws.{few}
 use Rattle.join.proofs.counts.lay_counts.Statement.{statement}
 use Rattle.join.proofs.counts.lay_counts.Tie as tie
 

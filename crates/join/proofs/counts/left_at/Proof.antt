@@ -1,7 +1,8 @@
 -- `join::counts::left_at` meets its contract: the byte is 0 where both parts rest.
 use mathlib.Core.Path.{sym}
 use native.Mathlib.Omega.{arith}
-use Rattle.join.proofs.FileLaws.{sizes, first-place, second-place, left-by}
+use Rattle.join.proofs.SizeLaws.{sizes}
+use Rattle.join.proofs.FileLaws.{first-place, second-place, left-by}
 use Rattle.join.proofs.counts.left_at.Statement.{statement}
 use Rattle.join.proofs.counts.left_at.Tie as tie
 

@@ -4,7 +4,7 @@ use native.Mathlib.Omega.{arith}
 use borrow.Author.Tests.{not-true, not-false}
 use Rattle.policy.specs.File.{inputTags, policyOf}
 use Rattle.join.specs.Entry.{sameTags, sameSignals}
-use Rattle.join.proofs.FileLaws.{sizes, tags-read}
+use Rattle.join.proofs.SizeLaws.{sizes, tags-read}
 use denote.Ref.{now}
 use borrow.Author.Needs.{needs}
 use Rattle.join.proofs.counts.same_signals.Statement.{statement}

@@ -9,7 +9,7 @@ use denote.Ref.{now}
 use borrow.Author.Needs.{needs}
 use borrow.Author.Tests.{eq-eqb, ne-eqb}
 use Rattle.join.specs.Entry.{sameTags}
-use Rattle.join.proofs.FileLaws.{same-turn, same-end, same-long}
+use Rattle.join.proofs.SizeLaws.{same-turn, same-end, same-long}
 use Rattle.join.proofs.counts.same_tags.Statement.{statement}
 use Rattle.join.proofs.counts.same_tags.Tie as tie
 

@@ -7,7 +7,7 @@ use lib.ListN.{drop}
 use denote.Ref.{now}
 use borrow.Author.Needs.{needs}
 use Rattle.policy.specs.File.{ruleSize, rulesFrom}
-use Rattle.policy.specs.Checked.{rules-length}
+use Rattle.policy.specs.Frame.{rules-length}
 use Rattle.policy.specs.Parts.{rules-drop}
 use Rattle.policy.specs.Own.{below, level, below-le}
 use Rattle.policy.proofs.own.own_rules.Statement.{statement}

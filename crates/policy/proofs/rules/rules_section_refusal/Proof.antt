@@ -8,7 +8,7 @@ use borrow.Author.Needs.{needs}
 use Rattle.policy.specs.File.{ruleSize, rulesAt, ruleCount, clockCount}
 use Rattle.policy.specs.Check.{sectionRefusal, rulesSectionRefusal}
 use Rattle.streams.specs.AnswerLaws.{first-refused}
-use Rattle.policy.specs.Checked.{section-fits}
+use Rattle.policy.specs.Frame.{section-fits}
 use Rattle.policy.proofs.RuleLaws.{rules-read}
 use Rattle.policy.proofs.rules.rules_section_refusal.Statement.{statement}
 use Rattle.policy.proofs.rules.rules_section_refusal.Tie as tie

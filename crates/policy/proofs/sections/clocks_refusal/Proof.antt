@@ -6,7 +6,7 @@ use denote.Ref.{now}
 use borrow.Author.Needs.{needs}
 use Rattle.policy.specs.File.{clocksAt, clockCount, ceilingsOf}
 use Rattle.policy.specs.Check.{all, ceilingGood, sectionRefusal, clocksRefusal}
-use Rattle.policy.specs.Checked.{section-fits}
+use Rattle.policy.specs.Frame.{section-fits}
 use Rattle.streams.specs.AnswerLaws.{first-refused}
 use Rattle.policy.proofs.sections.clocks_refusal.Statement.{statement}
 use Rattle.policy.proofs.sections.clocks_refusal.Tie as tie

@@ -9,7 +9,7 @@ use denote.Ref.{now}
 use borrow.Author.Needs.{needs}
 use Rattle.policy.specs.File.{inputCount, inputTags}
 use Rattle.policy.specs.Check.{sectionRefusal, tagsGood, inputsRefusal}
-use Rattle.policy.specs.Checked.{section-fits}
+use Rattle.policy.specs.Frame.{section-fits}
 use Rattle.streams.specs.AnswerLaws.{first-refused}
 use Rattle.policy.proofs.sections.inputs_refusal.Statement.{statement}
 use Rattle.policy.proofs.sections.inputs_refusal.Tie as tie

@@ -8,7 +8,7 @@ use denote.Ref.{now}
 use borrow.Author.Needs.{needs}
 use Rattle.policy.specs.File.{locationsAt, locationCount, locationBytes}
 use Rattle.policy.specs.Check.{all, locationGood, sectionRefusal, locationsRefusal}
-use Rattle.policy.specs.Checked.{section-fits}
+use Rattle.policy.specs.Frame.{section-fits}
 use Rattle.streams.specs.AnswerLaws.{first-refused}
 use Rattle.policy.proofs.sections.locations_refusal.Statement.{statement}
 use Rattle.policy.proofs.sections.locations_refusal.Tie as tie

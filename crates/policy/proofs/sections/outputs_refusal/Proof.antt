@@ -8,7 +8,7 @@ use denote.Ref.{now}
 use borrow.Author.Needs.{needs}
 use Rattle.policy.specs.File.{inputTags, outputsAt, outputCount, outputTags}
 use Rattle.policy.specs.Check.{sectionRefusal, tagsGood, outputsRefusal}
-use Rattle.policy.specs.Checked.{section-fits}
+use Rattle.policy.specs.Frame.{section-fits}
 use Rattle.streams.specs.AnswerLaws.{first-refused}
 use Rattle.policy.proofs.Laws.{inputs-fit}
 use Rattle.policy.proofs.sections.outputs_refusal.Statement.{statement}

@@ -1,7 +1,7 @@
--- `enforcer::pass::is_marked` meets its contract: nowhere is no marked state, and else the mark says it.
+-- `enforcer::lead::is_marked` meets its contract: nowhere is no marked state, and else the mark says it.
 use borrow.Author.Tests.{not-true, not-false}
-use Rattle.enforcer.proofs.pass.is_marked.Statement.{statement}
-use Rattle.enforcer.proofs.pass.is_marked.Tie as tie
+use Rattle.enforcer.proofs.lead.is_marked.Statement.{statement}
+use Rattle.enforcer.proofs.lead.is_marked.Tie as tie
 
 returns : tie.Need-returns
 returns c = rw (not-true (c .before .before .args .to .some) (c .if1 .taken))

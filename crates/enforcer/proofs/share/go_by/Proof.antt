@@ -1,7 +1,7 @@
--- `enforcer::pass::go_by` meets its contract: what is left is what `way_by` leaves, and the mark of the state that it leads to says the rest.
+-- `enforcer::share::go_by` meets its contract: what is left is what `way_by` leaves, and the mark of the state that it leads to says the rest.
 use native.Mathlib.Omega.{arith}
-use Rattle.enforcer.proofs.pass.go_by.Statement.{statement}
-use Rattle.enforcer.proofs.pass.go_by.Tie as tie
+use Rattle.enforcer.proofs.share.go_by.Statement.{statement}
+use Rattle.enforcer.proofs.share.go_by.Tie as tie
 
 way-by-requires : tie.Need-way-by-requires
 way-by-requires c κs = let s = c .before .before .before in (s .pre .0 .standing .laid, s .pre .0 .here, s .pre .0 .standing .inside, s .pre .1, s .pre .2, s .pre .3)

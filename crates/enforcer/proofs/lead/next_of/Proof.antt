@@ -1,4 +1,4 @@
--- `enforcer::pass::next_of` meets its contract: a violation leads nowhere, and else the number is that of the next state.
+-- `enforcer::lead::next_of` meets its contract: a violation leads nowhere, and else the number is that of the next state.
 use mathlib.Core.Path.{_≡_, sym, _∙_}
 use mathlib.Core.Bool.{false≢true}
 use mathlib.Core.List.{List, []}
@@ -13,8 +13,8 @@ use Rattle.enforcer.specs.State.{place}
 use Rattle.enforcer.specs.Laid.{Numbered, laid-well}
 use Rattle.enforcer.specs.Ways.{leads}
 use Rattle.enforcer.proofs.WayLaws.{leads-violation, leads-next}
-use Rattle.enforcer.proofs.pass.next_of.Statement.{statement}
-use Rattle.enforcer.proofs.pass.next_of.Tie as tie
+use Rattle.enforcer.proofs.lead.next_of.Statement.{statement}
+use Rattle.enforcer.proofs.lead.next_of.Tie as tie
 
 -- Both arrays hold four numbers.
 lengths : (s : tie.Start) → (length (s .args .layout .ceilings) ≡ 4) × (length (s .args .state .clocks) ≡ 4)

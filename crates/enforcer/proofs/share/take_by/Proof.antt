@@ -1,8 +1,8 @@
--- `enforcer::pass::take_by` meets its contract: a rule that takes nothing leaves all as it is, and else the part says what it takes.
+-- `enforcer::share::take_by` meets its contract: a rule that takes nothing leaves all as it is, and else the part says what it takes.
 use borrow.Author.Tests.{not-true, not-false}
 use Rattle.enforcer.specs.Pass.{took-not, took-so}
-use Rattle.enforcer.proofs.pass.take_by.Statement.{statement}
-use Rattle.enforcer.proofs.pass.take_by.Tie as tie
+use Rattle.enforcer.proofs.share.take_by.Statement.{statement}
+use Rattle.enforcer.proofs.share.take_by.Tie as tie
 
 part-of-requires : tie.Need-part-of-requires
 part-of-requires c κs = let s = c .before .before in (s .pre .0, s .pre .1, s .pre .2, s .pre .3)

@@ -1,4 +1,4 @@
--- `enforcer::pass::kept` meets its contract by its tests.
+-- `enforcer::lead::kept` meets its contract by its tests.
 use mathlib.Core.Path.{_≡_, refl, sym, _∙_}
 use mathlib.Core.Bool.{Bool, true, false, cond}
 use Prim.Native.Nat.{ℕ}
@@ -7,8 +7,8 @@ use denote.Ref.{now}
 use Rattle.policy.specs.File.{policyOf, ruleFrom}
 use Rattle.enforcer.specs.State.{place}
 use Rattle.enforcer.specs.Ways.{leads}
-use Rattle.enforcer.proofs.pass.kept.Statement.{statement}
-use Rattle.enforcer.proofs.pass.kept.Tie as tie
+use Rattle.enforcer.proofs.lead.kept.Statement.{statement}
+use Rattle.enforcer.proofs.lead.kept.Tie as tie
 
 nothing : (t : Bool) (v : ℕ) → v ≡ 0 → 0 ≡ cond t v 0
 nothing true v e = sym e

@@ -1,27 +1,17 @@
--- `enforcer::pass::part_of` meets its contract: a rule whose bounds do not hold takes nothing, and else its bytes say what it takes.
+-- `enforcer::share::part_of` meets its contract: a rule whose bounds do not hold takes nothing, and else its bytes say what it takes.
 use mathlib.Core.Path.{sym, _∙_}
-use native.Mathlib.Omega.{arith}
 use borrow.Author.Needs.{needs}
 use borrow.Author.Tests.{not-true, not-false}
 use Rattle.policy.specs.File.{ruleFrom}
-use Rattle.enforcer.specs.Laid.{laid-limits}
 use Rattle.enforcer.specs.Pass.{parted-bounds, parted-so}
-use Rattle.enforcer.proofs.WayLaws.{rule-seen}
-use Rattle.enforcer.proofs.pass.part_of.Statement.{statement}
-use Rattle.enforcer.proofs.pass.part_of.Tie as tie
+use Rattle.enforcer.proofs.share.part_of.Statement.{statement}
+use Rattle.enforcer.proofs.share.part_of.Tie as tie
 
-add-bounds-hold : tie.Need-add-bounds-hold
-add-bounds-hold c = search needs
-
-bounds-hold-requires : tie.Need-bounds-hold-requires
-bounds-hold-requires c κs =
-    let s = c .before .before in
-    omega (arith, laid-limits (s .pre .0), s .pre .2 .ends, s .pre .2 .short)
+held-requires : tie.Need-held-requires
+held-requires c κs = let s = c .before in (s .pre .0, s .pre .1, s .pre .2)
 
 returns : tie.Need-returns
-returns c =
-    let s = c .before .before .before .before in
-    parted-bounds _ (rule-seen (s .pre .1) (s .pre .2) _ (sym (c .before .bounds-hold .ensures) ∙ not-true _ (c .if1 .taken)))
+returns c = parted-bounds _ (sym (c .before .held .ensures) ∙ not-true _ (c .if1 .taken))
 
 add-byte-within : tie.Need-add-byte-within
 add-byte-within c = search needs
@@ -54,7 +44,7 @@ is-left-requires : tie.Need-is-left-requires
 unfolding ruleFrom
 is-left-requires c κs =
     let d = c .before .before .before in
-    let r = d .before .before .before .before .before .before .pre in
+    let r = d .before .before .before .before .before .pre in
     rw (d .before .byte-within .ensures .0, d .byte-within2 .ensures .0) (r .3, r .2 .ours .care, r .2 .ours .formed .inputs)
 
 returns-2 : tie.Need-returns-2
@@ -62,18 +52,16 @@ unfolding ruleFrom
 returns-2 c =
     let d = c .before .before .before .before in
     let i = d .before .before in
-    let s = i .before .before .before .before in
-    let o = s .pre .2 in
+    let o = i .before .before .before .pre .2 in
     rw (c .before .outs .ensures, d .before .byte-within .ensures .0, d .byte-within2 .ensures .0, c .before .before .before .byte-within3 .ensures .0, c .before .before .byte-within4 .ensures .0)
-    (parted-so _ (rule-seen (s .pre .1) o _ (sym (i .before .bounds-hold .ensures) ∙ not-false _ (i .if1 .left))) (o .ours .care) (o .ours .formed .inputs)
+    (parted-so _ (sym (i .before .held .ensures) ∙ not-false _ (i .if1 .left)) (o .ours .care) (o .ours .formed .inputs)
     (rw (c .before .outs .ensures, d .before .byte-within .ensures .0, d .byte-within2 .ensures .0, c .before .before .before .byte-within3 .ensures .0, c .before .before .byte-within4 .ensures .0) at (c .is-left .ensures)))
 
 pub part-of-spec : {M : Type 1} → statement M
 part-of-spec =
     tie.close
     (tie.spec
-    add-bounds-hold
-    bounds-hold-requires
+    held-requires
     returns
     add-byte-within
     byte-within-requires

@@ -1,4 +1,4 @@
--- `enforcer::pass::gather_by` meets its contract: what a rule whose bounds hold takes is found if it leads to a marked state.
+-- `enforcer::share::gather_by` meets its contract: what a rule whose bounds hold takes is found if it leads to a marked state.
 use mathlib.Core.Path.{sym, _∙_}
 use native.Mathlib.Omega.{arith}
 use borrow.Author.Needs.{needs}
@@ -6,73 +6,68 @@ use denote.Ref.{now}
 use Rattle.policy.specs.Rules.{stopped, looked}
 use Rattle.policy.specs.File.{policyOf, ruleFrom}
 use Rattle.enforcer.specs.State.{place}
-use Rattle.enforcer.specs.Laid.{laid-limits}
 use Rattle.enforcer.specs.Pass.{Parts, parts-so, parted-bounds, gathers-not, gathers-led}
-use Rattle.enforcer.proofs.WayLaws.{rule-seen}
-use Rattle.enforcer.proofs.pass.gather_by.Statement.{statement}
-use Rattle.enforcer.proofs.pass.gather_by.Tie as tie
+use Rattle.enforcer.proofs.share.gather_by.Statement.{statement}
+use Rattle.enforcer.proofs.share.gather_by.Tie as tie
 
 -- What the rule takes, by its bytes.
 parts : (c : tie.After-byte-within4) →
     let o = c .before .before .before .before .before in
-    let a = o .before .before .before .before .before .before .before .before .args in
+    let a = o .before .before .before .before .before .before .before .args in
     Parts (looked stopped (policyOf (a .layout .reading) (now (a .file))) (place (a .layout .clocks) (a .state))) (ruleFrom (a .layout .clocks) (now (a .file)) (a .at))
     (c .before .byte-within3 .result) (c .byte-within4 .result) (o .outs .result)
 unfolding ruleFrom
 parts c =
     let o = c .before .before .before .before .before in
     let t = o .before .before .before in
-    let s = t .before .before .before .before .before in
+    let s = t .before .before .before .before in
     rw (c .before .byte-within3 .ensures .0, c .byte-within4 .ensures .0, o .outs .ensures, o .before .before .byte-within .ensures .0, o .before .byte-within2 .ensures .0)
-    (parts-so _ (rule-seen (s .pre .0 .here) (s .pre .1) _ (sym (t .before .bounds-hold .ensures) ∙ t .if1 .taken)) (s .pre .1 .ours .care) (s .pre .1 .ours .formed .inputs))
+    (parts-so _ (sym (t .before .held .ensures) ∙ t .if1 .taken) (s .pre .1 .ours .care) (s .pre .1 .ours .formed .inputs))
 
-add-bounds-hold : tie.Need-add-bounds-hold
-add-bounds-hold c = let s = c .before .before .before in omega (arith, s .pre .1 .ends, s .pre .1 .short)
-
-bounds-hold-requires : tie.Need-bounds-hold-requires
-bounds-hold-requires c κs = let s = c .before .before .before in omega (arith, laid-limits (s .pre .0 .standing .laid), s .pre .1 .ends, s .pre .1 .short)
+held-requires : tie.Need-held-requires
+held-requires c κs = let s = c .before .before in (s .pre .0 .standing .laid, s .pre .0 .here, s .pre .1)
 
 add-byte-within : tie.Need-add-byte-within
-add-byte-within c = let s = c .before .before .before .before .before in omega (arith, s .pre .1 .ends, s .pre .1 .short)
+add-byte-within c = let s = c .before .before .before .before in omega (arith, s .pre .1 .ends, s .pre .1 .short)
 
 byte-within-requires : tie.Need-byte-within-requires
-byte-within-requires c κs = let s = c .before .before .before .before .before in omega (arith, s .pre .1 .ends)
+byte-within-requires c κs = let s = c .before .before .before .before in omega (arith, s .pre .1 .ends)
 
 add-byte-within-2 : tie.Need-add-byte-within-2
-add-byte-within-2 c = let s = c .before .before .before .before .before .before in omega (arith, s .pre .1 .ends, s .pre .1 .short)
+add-byte-within-2 c = let s = c .before .before .before .before .before in omega (arith, s .pre .1 .ends, s .pre .1 .short)
 
 byte-within-requires-2 : tie.Need-byte-within-requires-2
-byte-within-requires-2 c κs = let s = c .before .before .before .before .before .before in omega (arith, s .pre .1 .ends)
+byte-within-requires-2 c κs = let s = c .before .before .before .before .before in omega (arith, s .pre .1 .ends)
 
 outs-requires : tie.Need-outs-requires
 outs-requires c κs = search needs
 
 kept-requires : tie.Need-kept-requires
-kept-requires c κs = let s = c .before .before .before .before .before .before .before .before in (s .pre .0 .standing, s .pre .1)
+kept-requires c κs = let s = c .before .before .before .before .before .before .before in (s .pre .0 .standing, s .pre .1)
 
 add-byte-within-3 : tie.Need-add-byte-within-3
 add-byte-within-3 c =
-    let s = c .before .before .before .before .before .before .before .before .before .before .before in
+    let s = c .before .before .before .before .before .before .before .before .before .before in
     omega (arith, s .pre .1 .ends, s .pre .1 .short)
 
 byte-within-requires-3 : tie.Need-byte-within-requires-3
 byte-within-requires-3 c κs =
-    let s = c .before .before .before .before .before .before .before .before .before .before .before in
+    let s = c .before .before .before .before .before .before .before .before .before .before in
     omega (arith, s .pre .1 .ends)
 
 add-byte-within-4 : tie.Need-add-byte-within-4
 add-byte-within-4 c =
-    let s = c .before .before .before .before .before .before .before .before .before .before .before .before in
+    let s = c .before .before .before .before .before .before .before .before .before .before .before in
     omega (arith, s .pre .1 .ends, s .pre .1 .short)
 
 byte-within-requires-4 : tie.Need-byte-within-requires-4
 byte-within-requires-4 c κs =
-    let s = c .before .before .before .before .before .before .before .before .before .before .before .before in
+    let s = c .before .before .before .before .before .before .before .before .before .before .before in
     omega (arith, s .pre .1 .ends)
 
 gather-requires : tie.Need-gather-requires
 gather-requires c κs =
-    let s = c .before .before .before .before .before .before .before .before .before .before .before .before .before in
+    let s = c .before .before .before .before .before .before .before .before .before .before .before .before in
     let k = parts c in
     (s .pre .2, k .few, k .within, s .pre .3, s .pre .4)
 
@@ -82,16 +77,13 @@ returns c =
     gathers-led _ _ _ (parts d) (c .gather .ensures .0) _ (d .before .before .before .before .kept .ensures) (c .gather .ensures .1)
 
 returns-2 : tie.Need-returns-2
-returns-2 c =
-    let s = c .before .before .before .before .before in
-    gathers-not _ _ _ _ (parted-bounds _ {care = 0} {value = 0} {set = 0} (rule-seen (s .pre .0 .here) (s .pre .1) _ (sym (c .before .bounds-hold .ensures) ∙ c .if1 .left)))
+returns-2 c = gathers-not _ _ _ _ (parted-bounds _ {care = 0} {value = 0} {set = 0} (sym (c .before .held .ensures) ∙ c .if1 .left))
 
 pub gather-by-spec : {M : Type 1} → statement M
 gather-by-spec =
     tie.close
     (tie.spec
-    add-bounds-hold
-    bounds-hold-requires
+    held-requires
     add-byte-within
     byte-within-requires
     add-byte-within-2

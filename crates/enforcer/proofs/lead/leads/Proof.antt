@@ -1,8 +1,8 @@
--- `enforcer::pass::leads` meets its contract: the mark of the state that the rule leads to says it.
+-- `enforcer::lead::leads` meets its contract: the mark of the state that the rule leads to says it.
 use mathlib.Core.Path.{sym, _∙_}
 use native.Mathlib.Omega.{arith}
-use Rattle.enforcer.proofs.pass.leads.Statement.{statement}
-use Rattle.enforcer.proofs.pass.leads.Tie as tie
+use Rattle.enforcer.proofs.lead.leads.Statement.{statement}
+use Rattle.enforcer.proofs.lead.leads.Tie as tie
 
 next-of-requires : tie.Need-next-of-requires
 next-of-requires c κs = let s = c .before .before in (s .pre .0 .laid, s .pre .0 .inside, s .pre .1)

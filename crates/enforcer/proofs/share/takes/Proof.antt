@@ -1,18 +1,16 @@
--- `enforcer::pass::takes` meets its contract by its tests.
+-- `enforcer::share::takes` meets its contract by its tests.
 use mathlib.Core.Path.{_≡_, sym, _∙_}
 use mathlib.Core.Bool.{true}
 use Prim.Native.Nat.{_+_}
-use native.Mathlib.Omega.{arith}
 use lib.Dec.{eqb}
 use lib.Bits.{bitAnd}
 use borrow.Author.Needs.{needs}
 use borrow.Author.Tests.{eq-eqb, ne-eqb, not-true, not-false}
 use denote.Ref.{now}
 use Rattle.policy.specs.File.{byteAt, ruleFrom}
-use Rattle.enforcer.specs.Laid.{laid-limits}
-use Rattle.enforcer.proofs.WayLaws.{rule-seen, takes-care, takes-bounds, takes-both}
-use Rattle.enforcer.proofs.pass.takes.Statement.{statement}
-use Rattle.enforcer.proofs.pass.takes.Tie as tie
+use Rattle.enforcer.proofs.WayLaws.{takes-care, takes-bounds, takes-both}
+use Rattle.enforcer.proofs.share.takes.Statement.{statement}
+use Rattle.enforcer.proofs.share.takes.Tie as tie
 
 -- The care bits agree with x.
 cares : (e : tie.Else1) →
@@ -38,18 +36,11 @@ returns c =
     let b = c .before in
     sym (takes-care _ _ _ _ (rw (← b .before .byte-within .ensures .0, ← b .byte-within2 .ensures .0) (ne-eqb _ _ (c .if1 .taken))))
 
-add-bounds-hold : tie.Need-add-bounds-hold
-add-bounds-hold c = search needs
-
-bounds-hold-requires : tie.Need-bounds-hold-requires
-bounds-hold-requires c κs =
-    let s = c .before .before .before .before .before in
-    omega (arith, laid-limits (s .pre .0), s .pre .2 .ends, s .pre .2 .short)
+held-requires : tie.Need-held-requires
+held-requires c κs = c .before .before .before .before .pre
 
 returns-2 : tie.Need-returns-2
-returns-2 c =
-    let s = c .before .before .before .before .before .before .before in
-    sym (takes-bounds _ _ _ _ (rule-seen (s .pre .1) (s .pre .2) _ (sym (c .before .bounds-hold .ensures) ∙ not-true _ (c .if2 .taken))))
+returns-2 c = sym (takes-bounds _ _ _ _ (sym (c .before .held .ensures) ∙ not-true _ (c .if2 .taken)))
 
 add-byte-within-3 : tie.Need-add-byte-within-3
 add-byte-within-3 c = search needs
@@ -70,9 +61,8 @@ returns-3 : tie.Need-returns-3
 unfolding ruleFrom
 returns-3 c =
     let e = c .before .before .before in
-    let s = e .before .before .before .before .before .before .before in
-    sym (takes-both _ _ _ _ (rule-seen (s .pre .1) (s .pre .2) _ (sym (e .before .bounds-hold .ensures) ∙ not-false _ (e .if2 .left)))
-    (cares (e .before .before .before))
+    sym (takes-both _ _ _ _ (sym (e .before .held .ensures) ∙ not-false _ (e .if2 .left))
+    (cares (e .before .before))
     ∙ rw (← c .before .before .byte-within3 .ensures .0, ← c .before .byte-within4 .ensures .0, ← c .outs .ensures))
 
 pub takes-spec : {M : Type 1} → statement M
@@ -84,8 +74,7 @@ takes-spec =
     add-byte-within-2
     byte-within-requires-2
     returns
-    add-bounds-hold
-    bounds-hold-requires
+    held-requires
     returns-2
     add-byte-within-3
     byte-within-requires-3

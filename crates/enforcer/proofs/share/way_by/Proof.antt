@@ -1,9 +1,9 @@
--- `enforcer::pass::way_by` meets its contract: a rule that takes nothing leads nowhere, and else where its target says.
+-- `enforcer::share::way_by` meets its contract: a rule that takes nothing leads nowhere, and else where its target says.
 use borrow.Author.Needs.{needs}
 use borrow.Author.Tests.{not-true, not-false}
 use Rattle.enforcer.specs.Pass.{turned-not, turned-took}
-use Rattle.enforcer.proofs.pass.way_by.Statement.{statement}
-use Rattle.enforcer.proofs.pass.way_by.Tie as tie
+use Rattle.enforcer.proofs.share.way_by.Statement.{statement}
+use Rattle.enforcer.proofs.share.way_by.Tie as tie
 
 take-by-requires : tie.Need-take-by-requires
 take-by-requires c κs = let s = c .before .before in (s .pre .0, s .pre .1, s .pre .3, s .pre .4, s .pre .5)
