@@ -1,4 +1,5 @@
 pub mod UseLaws
 pub mod FlagLaws
+pub mod LookLaws
 pub mod LayLaws
 pub mod PromiseLaws

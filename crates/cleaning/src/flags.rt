@@ -9,6 +9,12 @@ ghost use Rattle.cleaning.specs.Sift.{rank};
 ghost use Rattle.cleaning.specs.Clean.{renumbered};
 ghost use Rattle.cleaning.specs.Code.{flagsOf};
 
+pub(crate) fn flag_byte(set: bool) -> u8
+    ensures { λ r. ⌜ r ≡ bit set ⌝ }
+{
+    if set { 1 } else { 0 }
+}
+
 fn one(byte: u8) -> usize
     ensures { λ r. ⌜ r ≡ bit (eqb byte 1) ⌝ }
 {

@@ -1,4 +1,5 @@
 // A policy without what is of no use. Locations that no permitted stream from the start leads to go, and so do rules that decide no event there. What clean answers stands in specs/.
+mod asked;
 mod enter;
 mod flags;
 mod list;
@@ -13,12 +14,11 @@ use enforcer::State;
 use policy::Layout;
 use policy::check_under;
 use policy::limits::RULES;
-use prepare::fill;
+use prepare::plan;
 use prepare::reached;
 ghost use mathlib.Core.Path.{_≡_};
-ghost use mathlib.Core.List.{_++_};
-ghost use Prim.Native.Nat.{ℕ, _≤_, _<_};
-ghost use lib.ListN.{length, getD, drop};
+ghost use Prim.Native.Nat.{ℕ, _<_};
+ghost use lib.ListN.{length, getD};
 ghost use Rattle.policy.specs.File.{policyOf};
 ghost use Rattle.policy.specs.Number.{states};
 ghost use Rattle.enforcer.specs.Ready.{Laid};
@@ -39,15 +39,16 @@ pub enum Cleaned {
     Refused(u8),
 }
 
-// Finds the locations that are entered and the rules that are used. Each state has a byte: first it says whether the state is reached, and at the end the first bytes are the locations' flags.
+// Finds the locations that are entered and the rules that are used. Each state has a byte: first it says whether the state is reached, and at the end the first bytes are the locations' flags. Each rule has one: first its plan, and at the end its flag.
 fn find(file: &[u8], layout: Layout, marks: &mut [u8], rules: &mut [u8])
-    requires { ⌜ Laid (now file) layout × (length (now marks) ≡ states (policyOf (layout .reading) (now file))) × (length (now rules) ≡ 256) × ((i : ℕ) → getD (now rules) i 0 ≡ 0) ⌝ }
+    requires { ⌜ Laid (now file) layout × (length (now marks) ≡ states (policyOf (layout .reading) (now file))) × (length (now rules) ≡ 256) ⌝ }
     ensures { λ _. ⌜ (length (now (marks .exit)) ≡ length (now (marks .entry))) × ((l : ℕ) → l < layout .locations → getD (now (marks .exit)) l 0 ≡ bit (entered (policyOf (layout .reading) (now (file .entry))) l)) ⌝ }
-    ensures { λ _. ⌜ (length (now (rules .exit)) ≡ length (now (rules .entry))) × ((i : ℕ) → getD (now (rules .exit)) i 0 ≡ bit (used (policyOf (layout .reading) (now (file .entry))) i)) ⌝ }
+    ensures { λ _. ⌜ (length (now (rules .exit)) ≡ length (now (rules .entry))) × ((i : ℕ) → i < layout .rules → getD (now (rules .exit)) i 0 ≡ bit (used (policyOf (layout .reading) (now (file .entry))) i)) ⌝ }
 {
     let locations = layout.locations;
     let size = layout.states / locations;
-    reached(file, layout, marks);
+    plan(file, layout, rules);
+    reached(file, layout, rules, marks);
     use_rules(file, layout, marks, rules, size);
     enter(marks, size, locations);
 }
@@ -107,7 +108,6 @@ fn clean_in(
     let states = layout.states;
     let locations = layout.locations;
     let count = layout.rules;
-    fill(rules, 0);
     find(file, layout, &mut marks[..states], rules);
     write(
         file,

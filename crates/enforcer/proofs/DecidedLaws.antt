@@ -3,9 +3,7 @@ use mathlib.Core.Path.{_≡_, sym, ap, _∙_, subst}
 use mathlib.Core.Bool.{Bool, true, false, false≢true}
 use mathlib.Core.List.{List}
 use mathlib.Core.Option.{Option, some, none, Option·map, bind}
-use Prim.Native.Nat.{ℕ, zero, suc, _+_, _-_, _*_, _<_}
-use native.Mathlib.Nat.{suc-mul}
-use native.Mathlib.Omega.{arith}
+use Prim.Native.Nat.{ℕ, _+_, _*_}
 use borrow.Author.Tests.{eq-eqb}
 use Rattle.streams.specs.Stream.{Event}
 use Rattle.policy.specs.Rules.{Rule, Policy, Place, stopped, decides, looked, taken, step}
@@ -19,7 +17,7 @@ use Rattle.enforcer.specs.Code.{eventXY, decider, stepFrom}
 use Rattle.enforcer.specs.State.{place}
 use Rattle.enforcer.specs.Ready.{Laid, HereOf}
 use Rattle.enforcer.specs.Laid.{laid-well}
-use Rattle.enforcer.specs.RuleAhead.{Ahead, RuleAt, own-here, own-ahead, ahead-rule, ahead-rest}
+use Rattle.enforcer.specs.RuleAhead.{RuleAt, own-here, own-ahead, ahead-at}
 use Rattle.enforcer.specs.Ways.{leads}
 use Rattle.enforcer.specs.Decided.{ruleSaid, Decided}
 use Rattle.enforcer.specs.declared.state.State.{State}
@@ -44,15 +42,6 @@ rule-place (Found.Rule at) = at
 rule-place Found.Nothing = 0
 
 module _ {f : List ℕ} {l : Layout} (k : Laid f l) where
-  -- Each of the rules ahead is the location's.
-  pub ahead-at : {a at : ℕ} (n i : ℕ) → Ahead f l a at n → i < n → RuleAt f l a (at + i * ruleSize (l .clocks))
-  ahead-at {a} {at} n zero h m =
-      let e : at ≡ at + 0 * ruleSize (l .clocks) = omega arith in
-      subst (RuleAt f l a) e (ahead-rule k h m)
-  ahead-at {a} {at} n (suc i) h m =
-      let e : at + ruleSize (l .clocks) + i * ruleSize (l .clocks) ≡ at + suc i * ruleSize (l .clocks) = omega (arith, suc-mul i (ruleSize (l .clocks))) in
-      subst (RuleAt f l a) e (ahead-at (n - 1) i (ahead-rest k h (omega arith)) (omega arith))
-
   module _ {h : Here} (s : State) (e : Event) (g : HereOf f l s h) where
     abbrev from : ℕ
     from = l .«rules_start» + h .own .start
@@ -82,7 +71,7 @@ module _ {f : List ℕ} {l : Layout} (k : Laid f l) where
         record {
           says = rw (sym p) at own-decides;
           stands = λ at q. subst (RuleAt f l (s .location)) (ap rule-place q)
-              (ahead-at (h .own .count) i (own-ahead k (s .location) (g .own)) (decider-lt _ _ _ _ _ _ i (sym p)));
+              (ahead-at k (h .own .count) i (own-ahead k (s .location) (g .own)) (decider-lt _ _ _ _ _ _ i (sym p)));
         }
 
 -- What the rule that decides makes of the state is what the event does.

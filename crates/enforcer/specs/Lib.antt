@@ -17,5 +17,6 @@ pub mod WaysLaws
 pub mod RuleAhead
 pub mod Pass
 pub mod Rowing
+pub mod Led
 pub mod Decided
 pub mod Choice

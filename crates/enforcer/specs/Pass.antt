@@ -26,7 +26,7 @@ use Rattle.choice.specs.Changed.{Changed, changed-by, changed-not}
 none-any : (n : ℕ) → any (λ x. ltb 0 0) n ≡ false
 none-any n = any-fails _ n (λ z h. refl)
 
-zeros : (n x : ℕ) → _≡_ {A = ℕ} (getD (replicate n 0) x 0) 0
+pub zeros : (n x : ℕ) → _≡_ {A = ℕ} (getD (replicate n 0) x 0) 0
 zeros zero x = refl
 zeros (suc n) zero = refl
 zeros (suc n) (suc x) = zeros n x

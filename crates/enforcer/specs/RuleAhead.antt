@@ -1,12 +1,12 @@
 -- The rules of a location that are still ahead, by where they stand in the file.
-use mathlib.Core.Path.{_≡_, refl, sym, ap, _∙_}
+use mathlib.Core.Path.{_≡_, refl, sym, ap, subst, _∙_}
 use mathlib.Core.Bool.{Bool, true, false, cond}
 use mathlib.Core.List.{List, [], _∷_}
 use Prim.Native.Nat.{ℕ, zero, suc, _+_, _-_, _*_, _≤_, _<_}
 use native.Mathlib.Nat.{suc-mul, mul-le-mul-right, pow-le-pow-right}
 use native.Mathlib.Omega.{arith}
 use lib.Dec.{eqb}
-use lib.ListN.{length, take, drop}
+use lib.ListN.{length, take}
 use borrow.Author.Tests.{eqb-true}
 use Rattle.policy.specs.Rules.{Rule, Policy}
 use Rattle.policy.specs.File.{ruleSize, ruleFrom, rulesFrom, rulesOf, clockCount, policyOf}
@@ -14,7 +14,7 @@ use Rattle.policy.specs.Sound.{WellFormed, Each, each-none, each-more, each-wea
 use Rattle.policy.specs.Frame.{frame}
 use Rattle.policy.specs.Checked.{well-ruled}
 use Rattle.policy.specs.Parts.{rules-part}
-use Rattle.policy.specs.Own.{below, level, own, ownOf}
+use Rattle.policy.specs.Own.{below, level, own, ownOf, each-drop}
 use Rattle.policy.specs.declared.Layout.{Layout}
 use Rattle.policy.specs.declared.own.Own.{Own}
 use Rattle.enforcer.specs.Ready.{Laid}
@@ -34,11 +34,6 @@ pub record Ours (clocks locations a : ℕ) (r : Rule) : Type 0 where
   pub source : r .source ≡ a
   pub formed : Formed clocks locations r
   pub care : r .inCare < 16
-
-each-drop : {P : Rule → Type 0} (n : ℕ) {rs : List Rule} → Each P rs → Each P (drop n rs)
-each-drop zero h = h
-each-drop (suc n) each-none = each-none
-each-drop (suc n) (each-more p h) = each-drop n h
 
 module _ (clocks locations a : ℕ) where
   each-level : {rs : List Rule} → Each (Cared clocks locations) rs → Each (Ours clocks locations a) (take (level a rs) rs)
@@ -106,6 +101,15 @@ module _ {f : List ℕ} {l : Layout} (k : Laid f l) where
 
     pub ahead-rest : Ahead f l a (at + ruleSize (l .clocks)) (n - 1)
     ahead-rest = record { each = split .1; ends = room-left }
+
+  -- Each of the rules ahead is the location's.
+  pub ahead-at : {a at : ℕ} (n i : ℕ) → Ahead f l a at n → i < n → RuleAt f l a (at + i * ruleSize (l .clocks))
+  ahead-at {a} {at} n zero h m =
+      let e : at ≡ at + 0 * ruleSize (l .clocks) = omega arith in
+      subst (RuleAt f l a) e (ahead-rule h m)
+  ahead-at {a} {at} n (suc i) h m =
+      let e : at + ruleSize (l .clocks) + i * ruleSize (l .clocks) ≡ at + suc i * ruleSize (l .clocks) = omega (arith, suc-mul i (ruleSize (l .clocks))) in
+      subst (RuleAt f l a) e (ahead-at (n - 1) i (ahead-rest h (omega arith)) (omega arith))
 
 pub none-ahead : (clocks : ℕ) (f : List ℕ) (at n : ℕ) → n ≡ 0 → rulesFrom clocks f at n ≡ []
 unfolding rulesFrom

@@ -3,15 +3,17 @@ use mathlib.Core.Path.{_≡_, refl, sym, ap, _∙_}
 use mathlib.Core.Bool.{Bool, true, false, cond}
 use mathlib.Core.List.{List, [], _∷_}
 use mathlib.Core.Option.{some}
-use Prim.Native.Nat.{ℕ, suc, _+_, _-_, _*_, _≤_, _<_}
+use Prim.Native.Nat.{ℕ, zero, suc, _+_, _-_, _*_, _≤_, _<_}
 use native.Mathlib.Nat.{mul-le-mul-right}
 use native.Mathlib.Omega.{arith}
 use lib.Dec.{ltb, eqb}
 use lib.ListN.{length, take, drop, length-drop}
+use lib.Seq.{length-take-le}
 use borrow.Author.Tests.{lt-ltb, le-ltb, ltb-true, ltb-false, eqb-true, eqb-false, eq-eqb, ne-eqb}
 use Rattle.streams.specs.Stream.{Event}
 use Rattle.policy.specs.Rules.{Rule, Place, fires, decides}
 use Rattle.policy.specs.File.{byteAt, part, ruleFrom, rulesFrom, ruleSize}
+use Rattle.policy.specs.Sound.{Each, each-none, each-more}
 use Rattle.policy.specs.Frame.{rules-length}
 use Rattle.policy.specs.Checked.{Rising, rising-none, rising-more}
 use Rattle.policy.specs.Parts.{rules-part, rules-take, rules-drop}
@@ -54,9 +56,38 @@ level-le a (r ∷ rs) = go (eqb (r .source) a) (level-le a rs)
     go false h = omega arith
 
 -- The rules before the location's own and those themselves are no more than there are.
-own-le : (a : ℕ) (rs : List Rule) → below a rs + level a (drop (below a rs) rs) ≤ length rs
+pub own-le : (a : ℕ) (rs : List Rule) → below a rs + level a (drop (below a rs) rs) ≤ length rs
 own-le a rs =
     omega (arith, below-le a rs, level-le a (drop (below a rs) rs), length-drop (below a rs) rs)
+
+pub own-length : (a : ℕ) (rs : List Rule) → length (own a rs) ≡ level a (drop (below a rs) rs)
+unfolding own
+own-length a rs = length-take-le (level a (drop (below a rs) rs)) (drop (below a rs) rs) (omega (arith, own-le a rs, length-drop (below a rs) rs))
+
+-- Before the rules of a later location stand no fewer.
+pub below-rises : (rs : List Rule) {a b : ℕ} → a ≤ b → below a rs ≤ below b rs
+unfolding below
+below-rises [] l = omega arith
+below-rises (r ∷ rs) {a} {b} l = go (ltb (r .source) a) refl (below-rises rs l)
+  where
+    go : (t : Bool) → ltb (r .source) a ≡ t → below a rs ≤ below b rs → cond t (suc (below a rs)) 0 ≤ cond (ltb (r .source) b) (suc (below b rs)) 0
+    go true e h = rw (lt-ltb (r .source) b (omega (arith, ltb-true (r .source) a e))) (omega arith)
+    go false e h = omega arith
+
+-- What each rule is, each of some of them is.
+each-take : {P : Rule → Type 0} (n : ℕ) {rs : List Rule} → Each P rs → Each P (take n rs)
+each-take zero h = each-none
+each-take (suc n) each-none = each-none
+each-take (suc n) (each-more p h) = each-more p (each-take n h)
+
+pub each-drop : {P : Rule → Type 0} (n : ℕ) {rs : List Rule} → Each P rs → Each P (drop n rs)
+each-drop zero h = h
+each-drop (suc n) each-none = each-none
+each-drop (suc n) (each-more p h) = each-drop n h
+
+pub each-own : {P : Rule → Type 0} (a : ℕ) {rs : List Rule} → Each P rs → Each P (own a rs)
+unfolding own
+each-own a {rs} h = each-take (level a (drop (below a rs) rs)) (each-drop (below a rs) h)
 
 -- All of the location's own rules have it for their source.
 level-take : (a : ℕ) (rs : List Rule) → level a (take (level a rs) rs) ≡ level a rs
@@ -72,6 +103,32 @@ level-take a (r ∷ rs) = go (eqb (r .source) a) refl (level-take a rs)
 pub level-own : (a : ℕ) (rs : List Rule) → level a (own a rs) ≡ level a (drop (below a rs) rs)
 unfolding own
 level-own a rs = level-take a (drop (below a rs) rs)
+
+-- Where sources never fall: none is below the first location, and below the next one are those below this one and its own.
+pub below-high : (a : ℕ) {b : ℕ} {rs : List Rule} → a ≤ b → Rising b rs → below a rs ≡ 0
+unfolding below
+below-high a l rising-none = refl
+below-high a l (rising-more {r = r} h k) = rw (le-ltb (r .source) a (omega arith))
+
+pub below-first : {rs : List Rule} → Rising 0 rs → below 0 rs ≡ 0
+below-first k = below-high 0 (omega arith) k
+
+pub below-next : (a : ℕ) {b : ℕ} {rs : List Rule} → Rising b rs → below (a + 1) rs ≡ below a rs + level a (drop (below a rs) rs)
+unfolding below level
+below-next a rising-none = refl
+below-next a (rising-more {r = r} {rs = rs} h k) = go (ltb (r .source) a) refl (eqb (r .source) a) refl (below-next a k)
+  where
+    go : (t : Bool) → ltb (r .source) a ≡ t → (u : Bool) → eqb (r .source) a ≡ u → below (a + 1) rs ≡ below a rs + level a (drop (below a rs) rs) →
+        cond (ltb (r .source) (a + 1)) (suc (below (a + 1) rs)) 0 ≡ cond t (suc (below a rs)) 0 + level a (drop (cond t (suc (below a rs)) 0) (r ∷ rs))
+    go true e u q ih = rw (lt-ltb (r .source) (a + 1) (omega (arith, ltb-true (r .source) a e))) (omega arith)
+    go false e true q ih =
+        let s : r .source ≡ a = eqb-true (r .source) a q in
+        let z = below-high a {rs = rs} (omega arith) k in
+        rw (lt-ltb (r .source) (a + 1) (omega arith), q) (omega (arith, rw z at ih))
+    go false e false q ih =
+        let d : r .source ≡ a → ⊥ = eqb-false (r .source) a q in
+        let m : a ≤ r .source = ltb-false (r .source) a e in
+        rw (le-ltb (r .source) (a + 1) (omega arith), q)
 
 -- One rule more, as a loop over the bytes meets it: i rules of `count` are passed, and the next stands at `at`.
 module _ (clocks : ℕ) (f : List ℕ) (at i count a : ℕ) (more : i < count) where

@@ -3,8 +3,16 @@ pub mod Entry
 pub mod Computing
 pub mod Live
 pub mod Alone
+pub mod At
+pub mod SameWay
 pub mod Ways
+pub mod Unreached
+pub mod Steps
+pub mod Plan
+pub mod Deciding
 pub mod Along
+pub mod Planning
+pub mod Turns
 pub mod Passed
 pub mod Located
 pub mod Enforcing

@@ -30,12 +30,13 @@ use Rattle.resting.specs.Keeps.{isMarked}
 use Rattle.resting.specs.Leads.{unmarked}
 use Rattle.prepare.specs.Table.{machineOf, marksOf}
 use Rattle.prepare.specs.Live.{within, marks-bits}
+use Rattle.prepare.specs.Deciding.{onFrom, decider-own}
 use Rattle.reasons.specs.Exact.{Exact, exact-few, calm, within-calm}
 use Rattle.reasons.specs.Tables.{endless, TicksTable, RestsTable}
 use Rattle.reasons.specs.Loops.{LastsLong}
 use Rattle.reasons.specs.Reasons.{Reason, rule, unmatched, ticks, rests, countOf, SaysWhy, by-rule, by-none, by-ticks, by-rests, SaysIn}
 use Rattle.reasons.specs.Better.{better, better-few, best-first, best-more}
-use Rattle.reasons.specs.Deciding.{onFrom, decider-own, decider-same, decides-same}
+use Rattle.reasons.specs.Deciding.{decider-same, decides-same}
 use Rattle.reasons.specs.Shown.{ticks-left, lasting, rests-left, led-some, led-none, next-shown}
 
 -- A true reason whose number is below that of the states that a policy can have.

@@ -20,7 +20,6 @@ ghost use Rattle.policy.specs.Number.{numberOf};
 ghost use Rattle.policy.specs.Sound.{Inside};
 ghost use Rattle.enforcer.specs.State.{isMarked, place};
 ghost use Rattle.enforcer.specs.Tick.{reaches};
-ghost use Rattle.enforcer.specs.Code.{eventXY};
 ghost use Rattle.enforcer.specs.Ready.{Laid, HereOf, Standing};
 ghost use Rattle.enforcer.specs.Promises.{answerSaid};
 ghost use Rattle.prepare.specs.Table.{marksOf};

@@ -86,11 +86,11 @@ calls-back bay (r ∷ rs) = go (calls-back bay rs) (eqb (r .bay) bay) refl
 
 module _ (reading : ℕ) (file marks : List ℕ) where
   -- The replies and the list are those that the definitions say.
-  abbrev Told : List ℕ → List BayReply → List ℕ → Type 0
-  Told states rs last =
+  abbrev BayTold : List ℕ → List BayReply → List ℕ → Type 0
+  BayTold states rs last =
       (replies reading file marks states (map callOf rs) ≡ rs) × (left reading file marks states (map callOf rs) ≡ last)
 
-  calls-told : {states last : List ℕ} {rs : List BayReply} → BayCalls reading file marks states rs last → Told states rs last
+  calls-told : {states last : List ℕ} {rs : List BayReply} → BayCalls reading file marks states rs last → BayTold states rs last
   unfolding replies left
   calls-told calls-none = (refl, refl)
   calls-told (calls-input {bay = bay} {x = x} {rs = rs} h more) =
@@ -105,7 +105,7 @@ module _ (reading : ℕ) (file marks : List ℕ) where
         ap (λ (l : List ℕ). left reading file marks l (map callOf rs)) there ∙ k .1,
       )
 
-  c-calls-told : {states last : List ℕ} {rs : List BayReply} → CBayCalls reading file marks states rs last → Told states rs last
+  c-calls-told : {states last : List ℕ} {rs : List BayReply} → CBayCalls reading file marks states rs last → BayTold states rs last
   unfolding replies left
   c-calls-told c-calls-none = (refl, refl)
   c-calls-told (c-calls-input {states = states} {bay = bay} {x = x} {rs = rs} h more) =
@@ -144,7 +144,7 @@ module _ (reading : ℕ) (file marks : List ℕ) where
         let n = ap bayCount (new .states) ∙ afresh-count before in
         ap (λ (l : List ℕ). bayState l bay) (new .states) ∙ afresh before bay (omega arith)
 
-    module _ {last : List ℕ} {rs : List BayReply} (told : Told fresh rs last) {es os : Stream} (ticks : BayTicks (repliesTo bay rs) es os) where
+    module _ {last : List ℕ} {rs : List BayReply} (told : BayTold fresh rs last) {es os : Stream} (ticks : BayTicks (repliesTo bay rs) es os) where
       own-ticks : TickByTick reading file marks startState es os (bayState last bay)
       own-ticks =
           let i = interleaved reading file marks fresh (map callOf rs) bay is in
@@ -164,7 +164,7 @@ module _ (reading : ℕ) (file marks : List ℕ) where
           omega arith
 
   unmoved :
-      (last later : List ℕ) (bay : ℕ) (more : List BayReply) → bay < bayCount last → Told last more later → repliesTo bay more ≡ [] →
+      (last later : List ℕ) (bay : ℕ) (more : List BayReply) → bay < bayCount last → BayTold last more later → repliesTo bay more ≡ [] →
       (bay < bayCount later) × (bayState later bay ≡ bayState last bay)
   unfolding leftAlone
   unmoved last later bay more is told none =

@@ -30,10 +30,10 @@ pub marked : (i : ℕ) →
 marked i = ap (λ (l : List Cases.Said). getD l i (Cases.released [])) Cases.marked-cases
 
 -- Prepare gives a summary of the sample.
-abbrev Given : List ℕ → Type 0
-Given file = (s : Summary) × (prepareOf 1 file (Cases.lent (states (policyOf 1 file))) ≡ gives s)
+abbrev Prepares : List ℕ → Type 0
+Prepares file = (s : Summary) × (prepareOf 1 file (Cases.lent (states (policyOf 1 file))) ≡ gives s)
 
-said-given : (file : List ℕ) (v n l : ℕ) → Cases.said 1 file Cases.prepared ≡ Cases.summary v n l → Given file
+said-given : (file : List ℕ) (v n l : ℕ) → Cases.said 1 file Cases.prepared ≡ Cases.summary v n l → Prepares file
 said-given file v n l = go (prepareOf 1 file (Cases.lent (states (policyOf 1 file))))
   where
     go : (a : Answer Summary) → Cases.saidOfPrepare (Cases.marks 1 file) a ≡ Cases.summary v n l → (s : Summary) × (a ≡ gives s)
@@ -44,11 +44,11 @@ pub said-released : (n : ℕ) (out rs : List ℕ) → n ≡ 0 → Cases.saidOfRu
 said-released zero out rs z e = cc
 said-released (suc n) out rs z e = absurd (omega arith)
 
-S-given : Given S
+S-given : Prepares S
 unfolding Cases.cases
 S-given = said-given S 0 1 1 (marked 4)
 
-T-given : Given T
+T-given : Prepares T
 unfolding Cases.cases
 T-given = said-given T 1 2 1 (marked 7)
 
@@ -63,7 +63,7 @@ sample run file events = run 1 file (Cases.marks 1 file) (stateOf (start (policy
 module _ (run : Run) (right : Right run) where
   -- A right run releases what a marked case says.
   as-marked :
-      (file : List ℕ) → Given file → (events rs : List ℕ) → all (eventGood 1 file) events ≡ true →
+      (file : List ℕ) → Prepares file → (events rs : List ℕ) → all (eventGood 1 file) events ≡ true →
       Cases.said 1 file (Cases.enforced events) ≡ Cases.released rs → (sample run file events .refusal ≡ 0) × (sample run file events .out ≡ rs)
   as-marked file s events rs good e =
       let marks = Cases.lent (states (policyOf 1 file)) in

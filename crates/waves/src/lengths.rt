@@ -1,6 +1,6 @@
 // How long the lines are, before any is written.
 ghost use mathlib.Core.Path.{_≡_};
-ghost use Prim.Native.Nat.{_+_, _*_, _≤_, _<_, _^_};
+ghost use Prim.Native.Nat.{_+_, _≤_, _<_, _^_};
 ghost use lib.ListN.{length, getD, drop};
 ghost use Rattle.texts.specs.Text.{decimal};
 ghost use Rattle.waves.specs.Wave.{timeLine, valueLines, eventLines, changeLines, laterLines, waveText};

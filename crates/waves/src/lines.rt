@@ -2,8 +2,7 @@
 use texts::put_bytes;
 use texts::put_decimal;
 ghost use mathlib.Core.Path.{_≡_};
-ghost use mathlib.Core.List.{_++_};
-ghost use Prim.Native.Nat.{_+_, _*_, _≤_, _<_, _^_};
+ghost use Prim.Native.Nat.{_+_, _≤_};
 ghost use lib.ListN.{length};
 ghost use Rattle.texts.specs.Text.{decimal};
 ghost use Rattle.texts.specs.Wrote.{Wrote};

@@ -2,7 +2,6 @@
 use crate::lines::put_event;
 use crate::lines::put_opening;
 use crate::lines::put_time;
-ghost use mathlib.Core.Path.{_≡_};
 ghost use Prim.Native.Nat.{_+_, _≤_, _<_};
 ghost use lib.ListN.{length, getD, drop};
 ghost use Rattle.texts.specs.Wrote.{Wrote};

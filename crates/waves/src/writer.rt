@@ -4,7 +4,6 @@ use crate::stream::ones;
 use crate::text::put_text;
 ghost use mathlib.Core.Path.{_≡_};
 ghost use Prim.Native.Nat.{_≤_};
-ghost use lib.ListN.{length};
 ghost use Rattle.policy.specs.Check.{all};
 ghost use Rattle.waves.specs.Events.{SignalsGood};
 ghost use Rattle.waves.specs.Promise.{WritePromise};

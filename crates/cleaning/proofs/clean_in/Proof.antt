@@ -1,16 +1,16 @@
 -- `cleaning::clean_in` meets its contract: the flags found are those of the definitions.
-use mathlib.Core.Path.{_≡_, refl, sym, ap, _∙_}
+use mathlib.Core.Path.{_≡_, refl, sym, _∙_}
 use mathlib.Core.List.{List, _++_}
 use Prim.Native.Nat.{ℕ, _/_, _≤_}
 use native.Mathlib.Omega.{arith}
-use lib.ListN.{length, take, drop, length-append, length-replicate}
+use lib.ListN.{length, take, drop, length-append}
 use lib.Seq.{length-take-le, getD-take}
 use denote.Ref.{now}
 use borrow.Author.Needs.{needs}
 use Rattle.policy.specs.File.{policyOf}
 use Rattle.policy.specs.Number.{states}
 use Rattle.enforcer.specs.Laid.{laid-well, laid-limits}
-use Rattle.cleaning.proofs.FlagLaws.{from-own, laid-sized, sized-all, laid-entered, laid-used, first-long, first-at, zeros-at}
+use Rattle.cleaning.proofs.FlagLaws.{from-own, laid-sized, sized-all, laid-entered, laid-used, first-long, first-at}
 use Rattle.cleaning.proofs.PromiseLaws.{cleaned-is, struck-is}
 use Rattle.cleaning.proofs.clean_in.Statement.{statement}
 use Rattle.cleaning.proofs.clean_in.Tie as tie
@@ -29,39 +29,30 @@ sizes s =
       omega (arith, laid-limits k),
     )
 
-fill-requires : tie.Need-fill-requires
-fill-requires c κs = search needs
-
 slice-relend-prefix-find : tie.Need-slice-relend-prefix-find
-slice-relend-prefix-find c = sizes (c .before .before .before .before .before .before .before .before .before) .1
+slice-relend-prefix-find c = sizes (c .before .before .before .before .before) .1
 
 slice-aggregate-find : tie.Need-slice-aggregate-find
-slice-aggregate-find c = let s = c .before .before .before .before .before .before .before .before .before .before in sym (length-take-le (s .args .layout .states) (now (s .args .marks)) (sizes s .1))
+slice-aggregate-find c = let s = c .before .before .before .before .before .before in sym (length-take-le (s .args .layout .states) (now (s .args .marks)) (sizes s .1))
 
 find-requires : tie.Need-find-requires
 find-requires c κs =
-    let s = c .before .before .before .before .before .before .before .before .before .before .before in
-    let e = c .before .before .before .before .fill .ensures in (
-      s .pre .0,
-      length-take-le (s .args .layout .states) (now (s .args .marks)) (sizes s .1) ∙ sizes s .0,
-      ap length e ∙ length-replicate {A = ℕ} (length (now (s .args .rules))) 0 ∙ s .pre .2,
-      λ i. rw e (zeros-at (length (now (s .args .rules))) i),
-    )
+    let s = c .before .before .before .before .before .before .before in
+    (s .pre .0, length-take-le (s .args .layout .states) (now (s .args .marks)) (sizes s .1) ∙ sizes s .0, s .pre .2)
 
 -- What `find` leaves, by its lengths.
 found : (c : tie.After-find) →
-    let s = c .before .before .before .before .before .before .before .before .before .before .before .before in
+    let s = c .before .before .before .before .before .before .before .before in
     (s .args .layout .locations ≤ length (c .find .last .1 .1 .0)) × (s .args .layout .rules ≤ length (c .find .last .1 .1 .1 .0))
 found c =
-    let s = c .before .before .before .before .before .before .before .before .before .before .before .before in
-    let n = sizes s in
-    let e = c .before .before .before .before .before .fill .ensures in (
+    let s = c .before .before .before .before .before .before .before .before in
+    let n = sizes s in (
       omega (arith, n .2, c .find .ensures .0 .0, length-take-le (s .args .layout .states) (now (s .args .marks)) (n .1)),
-      omega (arith, n .3, c .find .ensures .1 .0, ap length e, length-replicate {A = ℕ} (length (now (s .args .rules))) 0, s .pre .2),
+      omega (arith, n .3, c .find .ensures .1 .0, s .pre .2),
     )
 
 slice-reshare-prefix-write : tie.Need-slice-reshare-prefix-write
-slice-reshare-prefix-write c = omega (arith, found (c .before .before .before .before) .0, length-append (c .before .before .before .before .find .last .1 .1 .0) (drop (c .before .before .before .before .before .before .before .before .before .before .before .before .before .before .before .before .args .layout .states) (now (c .before .before .before .before .before .before .before .before .before .before .before .before .before .before .before .before .args .marks))))
+slice-reshare-prefix-write c = omega (arith, found (c .before .before .before .before) .0, length-append (c .before .before .before .before .find .last .1 .1 .0) (drop (c .before .before .before .before .before .before .before .before .before .before .before .before .args .layout .states) (now (c .before .before .before .before .before .before .before .before .before .before .before .before .args .marks))))
 
 slice-aggregate-write : tie.Need-slice-aggregate-write
 slice-aggregate-write c = sym (first-long _ (c .before .before .before .before .before .find .last .1 .1 .0) _ (found (c .before .before .before .before .before) .0))
@@ -76,7 +67,7 @@ write-requires : tie.Need-write-requires
 write-requires c κs =
     let d = c .before .before .before .before .before .before .before .before in
     record {
-      laid = c .before .before .before .before .before .before .before .before .before .before .before .before .before .before .before .before .before .before .before .before .pre .0;
+      laid = c .before .before .before .before .before .before .before .before .before .before .before .before .before .before .before .before .pre .0;
       locations = first-long _ (d .find .last .1 .1 .0) _ (found d .0);
       rules = length-take-le _ (d .find .last .1 .1 .1 .0) (found d .1);
     }
@@ -95,7 +86,7 @@ same-length-4 c = search needs
 
 returns : tie.Need-returns
 returns c =
-    let s = c .before .before .before .before .before .before .before .before .before .before .before .before .before .before .before .before .before .before .before .before .before .before .before .before .before in
+    let s = c .before .before .before .before .before .before .before .before .before .before .before .before .before .before .before .before .before .before .before .before .before in
     let d = c .before .before .before .before .before .before .before .before .before .before .before .before .before in
     let f : List ℕ = now (s .args .file) in
     let l = s .args .layout in
@@ -106,14 +97,13 @@ returns c =
     let uses : List ℕ = take (l .rules) rules in
     let n = found d in
     let e = laid-entered (s .pre .0) ent (first-long (l .locations) marks rest (n .0)) (λ i u. first-at (l .locations) marks rest (n .0) i u ∙ d .find .ensures .0 .1 i u) in
-    let w = laid-used (s .pre .0) uses (length-take-le (l .rules) rules (n .1)) (λ i u. getD-take (l .rules) rules i 0 u ∙ d .find .ensures .1 .1 i) in
+    let w = laid-used (s .pre .0) uses (length-take-le (l .rules) rules (n .1)) (λ i u. getD-take (l .rules) rules i 0 u ∙ d .find .ensures .1 .1 i u) in
     rw (cleaned-is f l ent uses refl e w, struck-is f l ent uses refl e w) at (c .before .before .before .before .write .ensures)
 
 pub clean-in-spec : {M : Type 1} → statement M
 clean-in-spec =
     tie.close
     (tie.spec
-    fill-requires
     slice-relend-prefix-find
     slice-aggregate-find
     find-requires

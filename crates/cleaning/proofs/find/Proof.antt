@@ -1,26 +1,36 @@
--- `cleaning::find` meets its contract, by those of the three that it calls.
+-- `cleaning::find` meets its contract, by those of the four that it calls.
 use mathlib.Core.Path.{_∙_}
 use native.Mathlib.Omega.{arith}
 use denote.Ref.{now}
 use Rattle.policy.specs.File.{policyOf}
 use Rattle.enforcer.specs.Laid.{laid-well}
 use Rattle.prepare.specs.Located.{laid-start}
-use Rattle.cleaning.proofs.FlagLaws.{laid-sized, sized-all, enters-entered, uses-used}
+use Rattle.cleaning.proofs.FlagLaws.{laid-sized, sized-all, enters-entered}
 use Rattle.cleaning.proofs.find.Statement.{statement}
 use Rattle.cleaning.proofs.find.Tie as tie
 
 div-size : tie.Need-div-size
 div-size c = laid-start (c .before .before .before .before .pre .0)
 
+plan-requires : tie.Need-plan-requires
+plan-requires c κs = let s = c .before .before .before .before .before in (s .pre .0, s .pre .2)
+
 reached-requires : tie.Need-reached-requires
-reached-requires c κs = let s = c .before .before .before .before .before in (s .pre .0, s .pre .1)
+reached-requires c κs =
+    let s = c .before .before .before .before .before .before .before .before .before .before in
+    let w = c .before .before .before .before .plan .ensures in
+    (s .pre .0, s .pre .1, w .1)
 
 use-rules-requires : tie.Need-use-rules-requires
-use-rules-requires c κs = let s = c .before .before .before .before .before .before .before .before .before .before in (s .pre .0, c .before .before .before .before .reached .ensures .0 ∙ s .pre .1, s .pre .2, laid-sized (s .pre .0))
+use-rules-requires c κs =
+    let s = c .before .before .before .before .before .before .before .before .before .before .before .before .before .before .before in
+    let w = c .before .before .before .before .before .before .before .before .before .plan .ensures in
+    let r = c .before .before .before .before .reached .ensures in
+    ((s .pre .0, r .0 ∙ s .pre .1, r .1, laid-sized (s .pre .0)), (w .0 ∙ s .pre .2, w .1))
 
 enter-requires : tie.Need-enter-requires
 enter-requires c κs =
-    let s = c .before .before .before .before .before .before .before .before .before .before .before .before .before .before in
+    let s = c .before .before .before .before .before .before .before .before .before .before .before .before .before .before .before .before .before .before .before in
     let z = laid-sized (s .pre .0) in
     let e = c .before .before .before .before .before .before .before .before .reached .ensures .0 in
     (z .some, omega (arith, sized-all (s .pre .0) z, e, s .pre .1), omega (arith, laid-well (s .pre .0) .states, e, s .pre .1))
@@ -29,17 +39,15 @@ same-length : tie.Need-same-length
 same-length c = c .before .before .enter .ensures .same ∙ c .before .before .before .before .before .before .before .before .before .before .before .reached .ensures .0
 
 same-length-2 : tie.Need-same-length-2
-same-length-2 c = c .before .before .before .before .before .before .use-rules .ensures .size
+same-length-2 c = c .before .before .before .before .before .before .use-rules .ensures .0 ∙ c .before .before .before .before .before .before .before .before .before .before .before .before .before .before .before .before .plan .ensures .0
 
 returns : tie.Need-returns
 returns c =
-    let s = c .before .before .before .before .before .before .before .before .before .before .before .before .before .before .before .before .before in
-    let p = policyOf (s .args .layout .reading) (now (s .args .file)) in
-    let ok = laid-well (s .pre .0) in
-    let w = c .before .before .before .before .before .before .before .before .before .before .before .reached .ensures .1 in (
-      (same-length c, enters-entered p ok w (laid-sized (s .pre .0)) (c .before .before .enter .ensures)),
-      (same-length-2 c, uses-used p ok w (c .before .before .before .before .before .before .use-rules .ensures) (s .pre .3)),
+    let s = c .before .before .before .before .before .before .before .before .before .before .before .before .before .before .before .before .before .before .before .before .before .before in
+    let r = c .before .before .before .before .before .before .before .before .before .before .before .reached .ensures in (
+      (same-length c, enters-entered (policyOf (s .args .layout .reading) (now (s .args .file))) (laid-well (s .pre .0)) (r .1) (laid-sized (s .pre .0)) (c .before .before .enter .ensures)),
+      (same-length-2 c, c .before .before .before .before .before .before .use-rules .ensures .1),
     )
 
 pub find-spec : {M : Type 1} → statement M
-find-spec = tie.close (tie.spec div-size reached-requires use-rules-requires enter-requires same-length same-length-2 returns)
+find-spec = tie.close (tie.spec div-size plan-requires reached-requires use-rules-requires enter-requires same-length same-length-2 returns)

@@ -1,7 +1,6 @@
 -- `enforcer::lead::next_of` meets its contract: a violation leads nowhere, and else the number is that of the next state.
-use mathlib.Core.Path.{_≡_, sym, _∙_}
-use mathlib.Core.Bool.{false≢true}
-use mathlib.Core.List.{List, []}
+use mathlib.Core.Path.{_≡_, refl, sym, _∙_}
+use mathlib.Core.Bool.{true}
 use Prim.Native.Nat.{ℕ}
 use native.Mathlib.Omega.{arith}
 use lib.ListN.{length}
@@ -10,9 +9,9 @@ use denote.Ref.{now}
 use Rattle.policy.specs.File.{policyOf, ruleFrom}
 use Rattle.policy.specs.Number.{numberFrom}
 use Rattle.enforcer.specs.State.{place}
-use Rattle.enforcer.specs.Laid.{Numbered, laid-well}
-use Rattle.enforcer.specs.Ways.{leads}
-use Rattle.enforcer.proofs.WayLaws.{leads-violation, leads-next}
+use Rattle.enforcer.specs.Laid.{laid-well}
+use Rattle.enforcer.specs.Pass.{Led}
+use Rattle.enforcer.specs.Led.{led-violation, led-next}
 use Rattle.enforcer.proofs.lead.next_of.Statement.{statement}
 use Rattle.enforcer.proofs.lead.next_of.Tie as tie
 
@@ -20,20 +19,19 @@ use Rattle.enforcer.proofs.lead.next_of.Tie as tie
 lengths : (s : tie.Start) → (length (s .args .layout .ceilings) ≡ 4) × (length (s .args .state .clocks) ≡ 4)
 lengths s = search needs
 
--- The next state has a number, and by whichever marks its mark says whether the rule leads to a marked one.
-numbered : (c : tie.After-advanced) (marks : List ℕ) →
+-- The rule leads to the next state, whose number is the one that the code works out.
+led : (c : tie.After-advanced) {n : ℕ} →
     let a = c .before .before .before .before .before .before .before .args in
-    Numbered (a .layout .reading) (now (a .file)) marks (numberFrom (a .layout .ceilings) 4 (c .before .before .before .before .before .byte-within .result) (c .advanced .result))
-    (leads (place (a .layout .clocks) (a .state)) (policyOf (a .layout .reading) (now (a .file))) marks (ruleFrom (a .layout .clocks) (now (a .file)) (a .at)))
+    n ≡ numberFrom (a .layout .ceilings) 4 (c .before .before .before .before .before .byte-within .result) (c .advanced .result) →
+    Led (place (a .layout .clocks) (a .state)) (policyOf (a .layout .reading) (now (a .file))) (ruleFrom (a .layout .clocks) (now (a .file)) (a .at)) true n
 unfolding ruleFrom
-numbered c marks =
+led c w =
     let e = c .before .before .before .before in
     let s = e .before .before .before in
     let a = s .args in
     let t = e .before .byte-within .ensures .0 in
-    rw (c .advanced .ensures, c .before .byte-within2 .ensures .0, t)
-    (leads-next (s .pre .0) marks (a .state) (s .pre .1) (ruleFrom (a .layout .clocks) (now (a .file)) (a .at))
-    (s .pre .2 .ours .formed) (λ z. e .if1 .left (t ∙ z)) (lengths s .0) (lengths s .1))
+    led-next (s .pre .0) (a .state) (s .pre .1) (ruleFrom (a .layout .clocks) (now (a .file)) (a .at)) (s .pre .2 .ours .formed)
+    (λ z. e .if1 .left (t ∙ z)) (lengths s .0) (lengths s .1) (w ∙ rw (c .advanced .ensures, c .before .byte-within2 .ensures .0, t))
 
 add-byte-within : tie.Need-add-byte-within
 add-byte-within c = search needs
@@ -43,11 +41,7 @@ byte-within-requires c κs = search needs
 
 returns : tie.Need-returns
 unfolding ruleFrom
-returns c =
-    record {
-      mark = λ marks. leads-violation _ _ marks _ (sym (c .before .byte-within .ensures .0) ∙ c .if1 .taken);
-      below = λ q. absurd (false≢true q);
-    }
+returns c = led-violation _ _ _ (sym (c .before .byte-within .ensures .0) ∙ c .if1 .taken)
 
 cast-t11 : tie.Need-cast-t11
 cast-t11 c = search needs
@@ -64,14 +58,10 @@ advanced-requires c κs = search needs
 number-requires : tie.Need-number-requires
 number-requires c κs =
     let s = c .before .before .before .before .before .before .before in
-    omega (arith, laid-well (s .pre .0) .states, numbered c [] .number)
+    omega (arith, laid-well (s .pre .0) .states, led c refl .below refl)
 
 returns-2 : tie.Need-returns-2
-returns-2 c =
-    record {
-      mark = λ marks. rw (c .number .ensures) (sym (numbered (c .before) marks .mark));
-      below = λ q. rw (c .number .ensures) (numbered (c .before) [] .number);
-    }
+returns-2 c = led (c .before) (c .number .ensures)
 
 pub next-of-spec : {M : Type 1} → statement M
 next-of-spec =

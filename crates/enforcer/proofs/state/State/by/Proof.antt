@@ -11,7 +11,7 @@ use Rattle.policy.specs.File.{ruleFrom}
 use Rattle.enforcer.specs.Code.{stepFrom}
 use Rattle.enforcer.specs.RuleAhead.{RuleAt}
 use Rattle.enforcer.specs.Laid.{laid-limits, laid-ceilings, laid-four}
-use Rattle.enforcer.proofs.Laws.{advance-four}
+use Rattle.enforcer.specs.Led.{advance-four}
 use Rattle.enforcer.proofs.DecidedLaws.{taken-violation}
 use Rattle.enforcer.proofs.state.State.by.Statement.{statement}
 use Rattle.enforcer.proofs.state.State.by.Tie as tie
