@@ -9,7 +9,7 @@ use crate::call::Call;
 use crate::cases;
 use crate::engine::{Engine, Model};
 use crate::laws::{self, LawTally};
-use crate::meter;
+use crate::meter::transfers;
 pub use tally::Tally;
 
 /// One case of the laws is tried for so many groups of calls.
@@ -46,8 +46,8 @@ pub fn compare(
             let station = bays::station(seed, number);
             bays::examine(engine, &station, &mut tally.bays)
                 .map_err(|breach| told("bays", format!("{breach}\n{}", station.describe())))?;
-            let transfer = meter::transfer(seed, number);
-            meter::examine(engine, &transfer, &mut tally.meter)
+            let transfer = transfers::transfer(seed, number);
+            transfers::examine(engine, &transfer, &mut tally.meter)
                 .map_err(|breach| told("meter", format!("{breach}\n{}", transfer.describe())))?;
         }
         tally.groups += 1;

@@ -5,6 +5,8 @@
 //! passes every part's enforcer without an edit. All of a case is read in the
 //! same way; the bytes of a join carry no reading.
 
+mod tally;
+
 use crate::basis::Basis;
 use crate::engine::{found_in, refusal_in, Engine};
 use crate::events::RuleBook;
@@ -16,6 +18,7 @@ use crate::policy::{Policy, MAX_STATES};
 use crate::random::Random;
 use crate::reading::{Reading, READINGS};
 use crate::refusal::Refusal;
+pub use tally::LawTally;
 
 /// Four policies with the same signals, a reading for all of them and their
 /// joins, and a stream.
@@ -36,42 +39,6 @@ pub enum Behaviour {
         stream: Vec<u8>,
         state: [u16; STATE_LENGTH],
     },
-}
-
-/// One law, and how often it was tried on a pair of files that were both
-/// there, under each reading.
-#[derive(Debug)]
-pub struct LawCount {
-    pub law: &'static str,
-    pub tried: [Tried; READINGS.len()],
-}
-
-#[derive(Clone, Copy, Debug, Default)]
-pub struct Tried {
-    pub hopeless: usize,
-    /// Not hopeless, and all locations of the policies may rest.
-    pub resting: usize,
-    /// Not hopeless, and some location must be left.
-    pub leaving: usize,
-}
-
-#[derive(Default)]
-pub struct LawTally {
-    pub laws: Vec<LawCount>,
-}
-
-impl LawTally {
-    fn of(&mut self, law: &'static str, reading: Reading) -> &mut Tried {
-        let place = match self.laws.iter().position(|count| count.law == law) {
-            Some(place) => place,
-            None => {
-                let tried = Default::default();
-                self.laws.push(LawCount { law, tried });
-                self.laws.len() - 1
-            }
-        };
-        &mut self.laws[place].tried[usize::from(reading.number()) - 1]
-    }
 }
 
 /// All that an engine made of one case, so that two engines can be compared.

@@ -4,7 +4,7 @@ use crate::bays::BayTally;
 use crate::call::{Call, FUNCTIONS};
 use crate::engine::{found_in, refusal_in};
 use crate::laws::LawTally;
-use crate::meter::MeterTally;
+use crate::meter::transfers::MeterTally;
 use crate::reading::READINGS;
 use crate::refusal::LAST_REFUSAL;
 use std::fmt;
