@@ -41,6 +41,8 @@ policies=(
     "all die"
     "the dead not reached"
     "the longest file"
+    "128 rules where reached"
+    "256 rules where reached"
     "65,536 states, reading 2"
     "most must be left, reading 2"
     "most die, reading 2"
@@ -59,6 +61,7 @@ cleaned=(
     "256 rules, an event each"
     "256 rules, the last decides nothing"
     "256 rules, random bounds"
+    "239 rules covered only together"
 )
 
 sides=(plain)

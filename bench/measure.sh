@@ -1,5 +1,5 @@
 #!/usr/bin/env bash
-# Proves and builds the library, and measures it against the plain program:
+# Proves and builds the library, and measures it against two programs without proofs:
 # times as ratios, then instructions a tick.
 set -euo pipefail
 shopt -s inherit_errexit

@@ -1,6 +1,6 @@
-//! Sets the plain program against the reference model, on random calls and
-//! on the laws of joins and runs, and the library's clean on the policies that it
-//! is counted on.
+//! Sets the plain program and the maker's against the reference model, on random
+//! calls and on the laws of joins and runs, and the library's clean on the policies
+//! that it is counted on.
 
 mod cleanings;
 
@@ -42,7 +42,8 @@ mod model {
 use basis::Basis;
 // One type for both sides.
 use bench::basis;
-use bench::engine::{Engine as _, Plain};
+use bench::engine::Plain;
+use bench::maker::Maker;
 use call::Work;
 use compare::Tally;
 use engine::{Engine, Model};
@@ -66,11 +67,18 @@ fn main() -> ExitCode {
     })
 }
 
+/// What was compared, for the plain program and then for the maker's.
 fn at_random(groups: u64, seed: u64) -> Result<String, String> {
-    let mut tally = Tally::default();
-    let goes_on = |group| group < groups;
-    compare::compare(&mut PlainSide, seed, goes_on, false, &mut tally)?;
-    Ok(tally.to_string())
+    let maker = Maker::new();
+    let sides: [&dyn bench::engine::Engine; 2] = [&Plain, &maker];
+    let mut found = String::new();
+    for side in sides {
+        let mut tally = Tally::default();
+        let goes_on = |group| group < groups;
+        compare::compare(&mut Side(side), seed, goes_on, false, &mut tally)?;
+        found += &tally.to_string();
+    }
+    Ok(found)
 }
 
 fn number(word: &str) -> Result<u64, String> {
@@ -78,43 +86,48 @@ fn number(word: &str) -> Result<u64, String> {
         .map_err(|_| format!("not a number: {word}\n{USAGE}"))
 }
 
-/// The plain program where the model expects a library.
-struct PlainSide;
+/// A program of the benchmark where the model expects a library.
+struct Side<'a>(&'a dyn bench::engine::Engine);
 
 /// Hands a question on.
 macro_rules! asks {
-    ($($side:ident.$function:ident($($given:ident: $kind:ty),*);)+) => {
+    ($($function:ident($($given:ident: $kind:ty),*);)+) => {
+        $(fn $function(&mut self, $($given: $kind),*) -> u64 {
+            self.0.$function($($given),*)
+        })+
+    };
+    ($side:ident: $($function:ident($($given:ident: $kind:ty),*);)+) => {
         $(fn $function(&mut self, $($given: $kind),*) -> u64 {
             $side.$function($($given),*)
         })+
     };
 }
 
-impl Engine for PlainSide {
+impl Engine for Side<'_> {
     asks! {
-        Plain.prepare(reading: u8, file: &[u8], marks: &mut [u8]);
-        Plain.input(basis: Basis, state: &[u16], x: u8);
-        Plain.output(basis: Basis, state: &mut [u16], x: u8, y: u8);
-        Plain.run(basis: Basis, state: &mut [u16], events: &[u8], released: &mut [u8]);
-        Plain.join(a: &[u8], b: &[u8], out: &mut [u8]);
-        Plain.wave_write(file: &[u8], events: &[u8], text: &mut [u8]);
-        Plain.wave_read(file: &[u8], text: &[u8], events: &mut [u8]);
+        prepare(reading: u8, file: &[u8], marks: &mut [u8]);
+        input(basis: Basis, state: &[u16], x: u8);
+        output(basis: Basis, state: &mut [u16], x: u8, y: u8);
+        run(basis: Basis, state: &mut [u16], events: &[u8], released: &mut [u8]);
+        join(a: &[u8], b: &[u8], out: &mut [u8]);
+        wave_write(file: &[u8], events: &[u8], text: &mut [u8]);
+        wave_read(file: &[u8], text: &[u8], events: &mut [u8]);
     }
 
-    // What follows is not measured, so the plain program has none of it.
-    asks! {
-        Model.ticks(milliseconds: u32, tick_length: u32, up: u8);
-        Model.index(file: &[u8], index: &mut [u16]);
-        Model.input_indexed(indexed: Indexed, state: &[u16], x: u8);
-        Model.output_indexed(indexed: Indexed, state: &mut [u16], x: u8, y: u8);
-        Model.bays_new(states: &mut [u16]);
-        Model.bay_input(basis: Basis, states: &[u16], bay: u32, x: u8);
-        Model.bay_output(basis: Basis, states: &mut [u16], bay: u32, x: u8, y: u8);
-        Model.meter_new(station: &mut [u16], totals: &mut [u32], register: u16);
-        Model.meter_input(basis: Basis, station: &[u16], register: u16, x: u8);
-        Model.meter_output(basis: Basis, lent: Lent, register: u16, x: u8, y: u8);
-        Model.prepare_fast(reading: u8, file: &[u8], marks: &mut [u8], work: &mut Work);
-        Model.clean(reading: u8, file: &[u8], cleaned: &mut [u8], struck: &mut [u8]);
-        Model.why(basis: Basis, state: &[u16], x: u8, y: u8);
+    // What follows is not measured, so no program here has any of it.
+    asks! { Model:
+        ticks(milliseconds: u32, tick_length: u32, up: u8);
+        index(file: &[u8], index: &mut [u16]);
+        input_indexed(indexed: Indexed, state: &[u16], x: u8);
+        output_indexed(indexed: Indexed, state: &mut [u16], x: u8, y: u8);
+        bays_new(states: &mut [u16]);
+        bay_input(basis: Basis, states: &[u16], bay: u32, x: u8);
+        bay_output(basis: Basis, states: &mut [u16], bay: u32, x: u8, y: u8);
+        meter_new(station: &mut [u16], totals: &mut [u32], register: u16);
+        meter_input(basis: Basis, station: &[u16], register: u16, x: u8);
+        meter_output(basis: Basis, lent: Lent, register: u16, x: u8, y: u8);
+        prepare_fast(reading: u8, file: &[u8], marks: &mut [u8], work: &mut Work);
+        clean(reading: u8, file: &[u8], cleaned: &mut [u8], struck: &mut [u8]);
+        why(basis: Basis, state: &[u16], x: u8, y: u8);
     }
 }

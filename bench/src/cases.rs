@@ -13,9 +13,18 @@ const TICKS: usize = 16_384;
 /// How many moments of a run the halves are called at.
 const MOMENTS: usize = 1_024;
 
+/// What the library may take of the time of the maker's program.
+const RUN: f64 = 1.1;
+const PREPARE: f64 = 1.0;
+const HALF: f64 = 1.2;
+const EDITED_HALF: f64 = 1.8;
+
 pub struct Case {
     pub name: String,
     pub work: Box<dyn Work>,
+    /// The most that it may take of the time of the maker's program, where that
+    /// does this work too.
+    pub limit: Option<f64>,
 }
 
 /// A policy that is prepared, under a reading.
@@ -52,7 +61,7 @@ pub const fn prepared(name: &'static str, reading: u8, policy: fn() -> Policy) -
     }
 }
 
-pub static PREPARED: [Preparation; 13] = [
+pub static PREPARED: [Preparation; 15] = [
     prepared("1,024 states", 1, policies::thousand),
     prepared("10,000 states", 1, policies::ten_thousand),
     prepared("65,536 states", 1, policies::full),
@@ -63,6 +72,8 @@ pub static PREPARED: [Preparation; 13] = [
     prepared("all die", 1, policies::all_die),
     prepared("the dead not reached", 1, policies::apart),
     prepared("the longest file", 1, policies::long),
+    prepared("128 rules where reached", 1, policies::reached_by_128),
+    prepared("256 rules where reached", 1, policies::reached_by_256),
     prepared("65,536 states, reading 2", 2, policies::full),
     prepared("most must be left, reading 2", 2, policies::leaving),
     prepared("most die, reading 2", 2, policies::most_die),
@@ -88,21 +99,29 @@ pub fn all() -> Vec<Case> {
 }
 
 fn run(stream: &Stream) -> Case {
-    case("run, a tick", stream.name, stream.run(TICKS))
+    beside_maker("run, a tick", stream.name, stream.run(TICKS), RUN)
 }
 
 fn input(stream: &Stream) -> Case {
     let (ready, events) = stream.ready(MOMENTS);
-    case("input half", stream.name, HalfWork::input(ready, &events))
+    half("input half", stream, HalfWork::input(ready, &events))
 }
 
 fn output(stream: &Stream) -> Case {
     let (ready, events) = stream.ready(MOMENTS);
-    case("output half", stream.name, HalfWork::output(ready, &events))
+    half("output half", stream, HalfWork::output(ready, &events))
+}
+
+fn half(which: &str, stream: &Stream, work: HalfWork) -> Case {
+    let limit = match stream.edits {
+        Edits::None => HALF,
+        _ => EDITED_HALF,
+    };
+    beside_maker(which, stream.name, work, limit)
 }
 
 fn prepare(preparation: &Preparation) -> Case {
-    case("prepare", preparation.name, preparation.work())
+    beside_maker("prepare", preparation.name, preparation.work(), PREPARE)
 }
 
 fn join(size: &str, pair: (Policy, Policy)) -> Case {
@@ -123,6 +142,14 @@ fn case(function: &str, what: &str, work: impl Work + 'static) -> Case {
     Case {
         name: format!("{function}: {what}"),
         work: Box::new(work),
+        limit: None,
+    }
+}
+
+fn beside_maker(function: &str, what: &str, work: impl Work + 'static, limit: f64) -> Case {
+    Case {
+        limit: Some(limit),
+        ..case(function, what, work)
     }
 }
 
@@ -131,38 +158,41 @@ mod tests {
     use super::*;
     use crate::basis::Basis;
     use crate::engine::{refusal_in, Engine, Plain};
+    use crate::maker::Maker;
     use crate::work::outcome_of;
 
-    /// Writes nothing and claims success.
+    /// Writes nothing and claims success, with what no function finds.
     struct Idle;
+
+    const NOTHING_DONE: u64 = 1 << 63;
 
     impl Engine for Idle {
         fn prepare(&self, _: u8, _: &[u8], _: &mut [u8]) -> u64 {
-            0
+            NOTHING_DONE
         }
 
         fn input(&self, _: Basis, _: &[u16], _: u8) -> u64 {
-            0
+            NOTHING_DONE
         }
 
         fn output(&self, _: Basis, _: &mut [u16], _: u8, _: u8) -> u64 {
-            0
+            NOTHING_DONE
         }
 
         fn run(&self, _: Basis, _: &mut [u16], _: &[u8], _: &mut [u8]) -> u64 {
-            0
+            NOTHING_DONE
         }
 
         fn join(&self, _: &[u8], _: &[u8], _: &mut [u8]) -> u64 {
-            0
+            NOTHING_DONE
         }
 
         fn wave_write(&self, _: &[u8], _: &[u8], _: &mut [u8]) -> u64 {
-            0
+            NOTHING_DONE
         }
 
         fn wave_read(&self, _: &[u8], _: &[u8], _: &mut [u8]) -> u64 {
-            0
+            NOTHING_DONE
         }
     }
 
@@ -192,6 +222,16 @@ mod tests {
             let first = outcome_of(work, &Plain);
             work.pass(&Plain);
             assert!(work.outcome() == first, "{}", case.name);
+        }
+    }
+
+    #[test]
+    fn the_maker_answers_as_the_plain_program() {
+        let maker = Maker::new();
+        for mut case in all() {
+            let work = case.work.as_mut();
+            let plain = outcome_of(work, &Plain);
+            assert!(outcome_of(work, &maker) == plain, "{}", case.name);
         }
     }
 

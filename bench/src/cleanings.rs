@@ -6,7 +6,7 @@ use crate::generated::Shape;
 use crate::policies;
 
 /// All under reading 1, and of 65,536 states but for the chain.
-pub static CLEANED: [Preparation; 12] = [
+pub static CLEANED: [Preparation; 13] = [
     prepared("all entered, all used", 1, all_used),
     prepared("every second location entered", 1, every_second),
     prepared("a rule in four decides nothing", 1, shadowed),
@@ -19,6 +19,7 @@ pub static CLEANED: [Preparation; 12] = [
     prepared("256 rules, an event each", 1, crowd),
     prepared("256 rules, the last decides nothing", 1, idle_last),
     prepared("256 rules, random bounds", 1, bounded),
+    prepared("239 rules covered only together", 1, covered_together),
 ];
 
 /// The C function, on the slices that it takes. The plain program has none.
@@ -205,6 +206,33 @@ fn bounded() -> Policy {
         rule.output = Condition::value(event & 15);
     }
     policy
+}
+
+/// One location and four clocks. Of the first 16 rules eight take every event
+/// while the first clock is low, and eight while it is high: no one of them covers
+/// any of the 239 rules behind them, which take every event, but together they do.
+fn covered_together() -> Policy {
+    let covering = |number: u8| {
+        let first_clock = match number < 8 {
+            true => (0, 7),
+            false => (8, NO_UPPER_BOUND),
+        };
+        Rule {
+            output: Condition {
+                care: 0b0111,
+                value: number % 8,
+            },
+            reset: number,
+            bounds: vec![first_clock, OPEN, OPEN, OPEN],
+            ..Rule::open(0, 0, 4)
+        }
+    };
+    let covered = |number: u8| Rule {
+        reset: number % 16,
+        ..Rule::open(0, 0, 4)
+    };
+    let rules = (0..16).map(covering).chain((0..239).map(covered));
+    policy(vec![15; 4], 1, rules)
 }
 
 #[cfg(test)]

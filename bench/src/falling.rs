@@ -47,6 +47,7 @@ pub fn living() -> Vec<Falling> {
         of("fall in rising order, 65,536 states", longest_chain()),
         of("255 rules, an event each", started(each)),
         of("255 rules, all inputs each", started(crowd(|_| 16))),
+        of("255 rules, the last for nothing", started(idle_last())),
     ]);
     living
 }
@@ -104,6 +105,29 @@ fn crowd(input: impl Fn(u8) -> u8) -> Policy {
         locations: vec![0],
         rules: rules.collect(),
     }
+}
+
+/// 254 rules in the first of two locations, each for all inputs; the last of them
+/// is left no event, and leads to a state from which more ticks are permitted
+/// than the others leave.
+fn idle_last() -> Policy {
+    let mut policy = crowd(|_| 16);
+    policy.ceilings = vec![180, 90];
+    policy.locations.push(0);
+    policy.rules.pop();
+    for rule in &mut policy.rules {
+        rule.bounds[0] = (0, 178);
+    }
+    policy.rules[253] = Rule {
+        output: Condition::ANY,
+        target: 1,
+        ..policy.rules[253].clone()
+    };
+    policy.rules.push(Rule {
+        bounds: vec![(0, 179), OPEN],
+        ..rule(1, Condition::ANY, 0, 1, OPEN)
+    });
+    policy
 }
 
 /// As many states as there can be. Two clocks: the first counts to 511, the

@@ -16,9 +16,11 @@ mod generated;
 #[cfg(feature = "library")]
 #[path = "../../include/groovepawn.rs"]
 mod groovepawn;
+pub mod indexes;
 pub mod instructions;
 #[cfg(feature = "library")]
 pub mod library;
+pub mod maker;
 pub mod measure;
 pub mod plain;
 mod policies;

@@ -101,3 +101,17 @@ pub fn clean(reading: u8, file: &[u8], cleaned: &mut [u8], struck: &mut [u8]) ->
 pub fn why(reading: u8, file: &[u8], marks: &[u8], state: &[u16], x: u8, y: u8) -> u64 {
     ask!(groovepawn_why[reading][file, marks, state][x, y])
 }
+
+pub fn index(file: &[u8], index: &mut [u16]) -> u64 {
+    ask!(groovepawn_index[][file, index][])
+}
+
+pub fn input_indexed(basis: Basis, index: &[u16], state: &[u16], x: u8) -> u64 {
+    let (reading, file, marks) = basis.parts();
+    ask!(groovepawn_input_indexed[reading][file, index, marks, state][x])
+}
+
+pub fn output_indexed(basis: Basis, index: &[u16], state: &mut [u16], x: u8, y: u8) -> u64 {
+    let (reading, file, marks) = basis.parts();
+    ask!(groovepawn_output_indexed[reading][file, index, marks, state][x, y])
+}

@@ -4,8 +4,9 @@
 use bench::cases::{Preparation, PREPARED};
 use bench::cleanings::{self, CLEANED};
 use bench::engine::{Engine, Plain};
+use bench::maker::Maker;
 use bench::streams::{Stream, Wave, STREAMS, WAVES};
-use bench::{cases, command, engines, instructions, measure, report, whys, work};
+use bench::{cases, command, engines, indexes, instructions, measure, report, whys, work};
 use std::process::ExitCode;
 
 fn main() -> ExitCode {
@@ -17,6 +18,7 @@ fn perform(words: &[&str]) -> Result<(), String> {
         [] => measure_all(),
         ["engines"] => compare_engines(""),
         ["engines", policy] => compare_engines(policy),
+        ["indexed"] => compare_indexed(),
         ["why"] => compare_why(""),
         ["why", policy] => compare_why(policy),
         ["instructions", side, ticks] => count(side, ticks, STREAMS[0].name, instructions::run),
@@ -45,7 +47,7 @@ fn usage() -> String {
     let policies = PREPARED.iter().chain(&CLEANED);
     let policies: Vec<&str> = policies.map(|policy| policy.name).collect();
     format!(
-        "usage:\n  bench\n  bench engines [POLICY]\n  bench why [POLICY]\n  bench instructions plain|library TICKS [STREAM]\n  \
+        "usage:\n  bench\n  bench engines [POLICY]\n  bench indexed\n  bench why [POLICY]\n  bench instructions plain|library TICKS [STREAM]\n  \
          bench instructions plain|library CALLS STREAM input|output\n  \
          bench instructions plain|library CALLS WAVE write|read\n  \
          bench instructions plain|library CALLS POLICY prepare\n  \
@@ -86,19 +88,37 @@ fn compare_why(policy: &str) -> Result<(), String> {
     Ok(())
 }
 
+/// The halves with an index and without.
+fn compare_indexed() -> Result<(), String> {
+    println!("{}", indexes::heading());
+    for row in indexes::rows()? {
+        println!("{row}");
+    }
+    Ok(())
+}
+
 fn measure_all() -> Result<(), String> {
     let (name, second) = second_side();
     if name == "plain" {
         println!("built without the library: the plain program against itself\n");
     }
     println!("{}", report::heading(name));
+    let maker = Maker::new();
     for mut case in cases::all() {
-        let work = case.work.as_mut();
-        if work::outcome_of(work, &Plain) != work::outcome_of(work, second) {
-            return Err(format!("{}: the two sides answer differently", case.name));
+        let mut sides: Vec<&dyn Engine> = vec![&Plain, second];
+        if case.limit.is_some() {
+            sides.push(&maker);
         }
-        let measured = measure::measure(work, &Plain, second);
-        println!("{}", report::row(&case.name, &measured));
+        let work = case.work.as_mut();
+        let plain = work::outcome_of(work, &Plain);
+        if sides
+            .iter()
+            .any(|side| work::outcome_of(work, *side) != plain)
+        {
+            return Err(format!("{}: the sides answer differently", case.name));
+        }
+        let rounds = measure::measure(work, &sides);
+        println!("{}", report::row(&case.name, &rounds, case.limit));
     }
     Ok(())
 }

@@ -1,6 +1,6 @@
-//! Two engines side by side: many short rounds in turn, and the median of the
-//! ratios of neighbours. Whatever slows the machine for longer than a round
-//! slows both of a pair, and so leaves their ratio alone.
+//! Engines side by side: many short rounds in turn, and the median of the ratios
+//! of neighbours. Whatever slows the machine for longer than a round slows all
+//! that take part in it, and so leaves their ratios alone.
 
 use crate::clock;
 use crate::engine::Engine;
@@ -15,13 +15,9 @@ const ALL_ROUNDS: Duration = Duration::from_millis(1_000);
 const FEWEST_ROUNDS: usize = 21;
 const MOST_ROUNDS: usize = 401;
 
-pub struct Measured {
-    /// Medians, in nanoseconds for one unit of the work.
-    pub first: f64,
-    pub second: f64,
-    /// Of the second to the first.
-    pub ratio: Ratio,
-}
+/// Nanoseconds for one unit of the work: a row for each round, with a number for
+/// each side.
+pub struct Rounds(Vec<Vec<f64>>);
 
 /// The median of the ratios, with the tenth and the ninetieth of a hundred.
 #[derive(Clone, Copy, Debug, PartialEq)]
@@ -31,19 +27,48 @@ pub struct Ratio {
     pub high: f64,
 }
 
-pub fn measure(work: &mut dyn Work, first: &dyn Engine, second: &dyn Engine) -> Measured {
-    let pass = slower_pass(work, first, second);
-    let passes = count(ROUND, pass).max(1);
-    let pair = 2 * pass * passes as u32;
-    let rounds = count(ALL_ROUNDS, pair).clamp(FEWEST_ROUNDS, MOST_ROUNDS);
-    let times: Vec<(f64, f64)> = (0..rounds)
-        .map(|_| (round(work, first, passes), round(work, second, passes)))
-        .collect();
-    Measured {
-        first: median(times.iter().map(|pair| pair.0)),
-        second: median(times.iter().map(|pair| pair.1)),
-        ratio: ratio(&times),
+impl Rounds {
+    /// A single round.
+    #[cfg(test)]
+    pub fn of_one(times: Vec<f64>) -> Rounds {
+        Rounds(vec![times])
     }
+
+    pub fn median(&self, side: usize) -> f64 {
+        at_share(&sorted(self.of(side)), 0.5)
+    }
+
+    pub fn best(&self, side: usize) -> f64 {
+        self.of(side).fold(f64::INFINITY, f64::min)
+    }
+
+    /// Of one side to another in the same round.
+    pub fn ratio(&self, of: usize, to: usize) -> Ratio {
+        let ratios = sorted(self.0.iter().map(|round| round[of] / round[to]));
+        Ratio {
+            low: at_share(&ratios, 0.1),
+            median: at_share(&ratios, 0.5),
+            high: at_share(&ratios, 0.9),
+        }
+    }
+
+    fn of(&self, side: usize) -> impl Iterator<Item = f64> + '_ {
+        self.0.iter().map(move |round| round[side])
+    }
+}
+
+pub fn measure(work: &mut dyn Work, sides: &[&dyn Engine]) -> Rounds {
+    let pass = slowest_pass(work, sides);
+    let passes = count(ROUND, pass).max(1);
+    let turn = pass * (sides.len() * passes) as u32;
+    let rounds = count(ALL_ROUNDS, turn).clamp(FEWEST_ROUNDS, MOST_ROUNDS);
+    let times = |_| {
+        sides
+            .iter()
+            .map(|side| round(work, *side, passes))
+            .collect()
+    };
+    Rounds((0..rounds).map(times).collect())
 }
 
 /// How often `part` goes into `whole`.
@@ -51,20 +76,20 @@ fn count(whole: Duration, part: Duration) -> usize {
     (whole.as_nanos() / part.as_nanos().max(1)) as usize
 }
 
-/// About the time of one pass on the slower side. The passes made here also
-/// warm both sides up.
-fn slower_pass(work: &mut dyn Work, first: &dyn Engine, second: &dyn Engine) -> Duration {
-    let one = |work: &mut dyn Work, engine| {
+/// About the time of one pass on the slowest side. The passes made here also
+/// warm all sides up.
+fn slowest_pass(work: &mut dyn Work, sides: &[&dyn Engine]) -> Duration {
+    let mut one = |side: &&dyn Engine| {
         let mut passes = 1;
         loop {
-            let time = timed(work, engine, passes);
+            let time = timed(work, *side, passes);
             if time >= ROUND {
                 return time / passes as u32;
             }
             passes *= 2;
         }
     };
-    one(work, first).max(one(work, second))
+    sides.iter().map(&mut one).max().unwrap_or(ROUND)
 }
 
 /// Nanoseconds for one unit of the work, in a round of so many passes.
@@ -74,7 +99,7 @@ fn round(work: &mut dyn Work, engine: &dyn Engine, passes: usize) -> f64 {
 }
 
 fn timed(work: &mut dyn Work, engine: &dyn Engine, passes: usize) -> Duration {
-    // Both sides are called through a table that the compiler cannot see
+    // All sides are called through a table that the compiler cannot see
     // through, as a library is.
     let engine = black_box(engine);
     let began = clock::now();
@@ -82,19 +107,6 @@ fn timed(work: &mut dyn Work, engine: &dyn Engine, passes: usize) -> Duration {
         work.pass(engine);
     }
     clock::now() - began
-}
-
-fn ratio(times: &[(f64, f64)]) -> Ratio {
-    let ratios = sorted(times.iter().map(|(first, second)| second / first));
-    Ratio {
-        low: at_share(&ratios, 0.1),
-        median: at_share(&ratios, 0.5),
-        high: at_share(&ratios, 0.9),
-    }
-}
-
-fn median(numbers: impl Iterator<Item = f64>) -> f64 {
-    at_share(&sorted(numbers), 0.5)
 }
 
 fn sorted(numbers: impl Iterator<Item = f64>) -> Vec<f64> {
@@ -122,11 +134,20 @@ mod tests {
         assert_eq!(at_share(&[7.0], 0.9), 7.0);
     }
 
+    fn rounds(times: &[(f64, f64)]) -> Rounds {
+        Rounds(
+            times
+                .iter()
+                .map(|&(first, second)| vec![first, second])
+                .collect(),
+        )
+    }
+
     /// A machine that slows down by half in the middle changes no ratio.
     #[test]
     fn the_ratio_is_that_of_neighbours() {
         let times = [(10.0, 12.0), (10.0, 12.0), (20.0, 24.0), (20.0, 24.0)];
-        let ratio = ratio(&times);
+        let ratio = rounds(&times).ratio(1, 0);
         assert_eq!((ratio.low, ratio.median, ratio.high), (1.2, 1.2, 1.2));
     }
 
@@ -134,6 +155,12 @@ mod tests {
     fn one_odd_round_does_not_move_the_median() {
         let mut times = vec![(10.0, 10.0); 20];
         times[3] = (10.0, 1_000.0);
-        assert_eq!(ratio(&times).median, 1.0);
+        assert_eq!(rounds(&times).ratio(1, 0).median, 1.0);
+    }
+
+    #[test]
+    fn the_best_is_the_least() {
+        let times = rounds(&[(3.0, 9.0), (2.0, 8.0), (4.0, 7.0)]);
+        assert_eq!((times.best(0), times.best(1)), (2.0, 7.0));
     }
 }

@@ -15,6 +15,22 @@ const SIGNALS: u8 = 4;
 const FEW: u64 = 20;
 const HALF: u64 = 50;
 
+/// One input and one output, two locations and two rules: the input leads to a
+/// location without a future, so it is never kept.
+pub fn smallest() -> Policy {
+    let leads = |input, target| Rule {
+        input,
+        ..Rule::open(0, target, 0)
+    };
+    Policy {
+        inputs: 1,
+        outputs: 1,
+        ceilings: vec![],
+        locations: vec![0; 2],
+        rules: vec![leads(Condition::set(1), 1), leads(Condition::ANY, 0)],
+    }
+}
+
 /// Two locations and six rules: a request (input bit 0) is answered (output
 /// bit 0) on the fourth tick at the latest, and two inputs exclude each other.
 pub fn short() -> Policy {
@@ -229,6 +245,60 @@ pub fn apart() -> Policy {
         rule.reset = number as u8 % 4;
     }
     policy
+}
+
+/// 8,192 states in two locations. The first has so many rules, each of which is
+/// left just one event, and all of its states are reached; the second has none,
+/// and is never entered. So half of the states die at once, the others go on by
+/// their first rule, and the verdict asks where every rule leads.
+fn reached_alone(rules: usize) -> Policy {
+    let rule = |event: u8| Rule {
+        input: Condition::within(event >> 4),
+        output: Condition::within(event & 15),
+        reset: event & 15,
+        ..Rule::open(0, 0, 4)
+    };
+    Policy {
+        inputs: SIGNALS,
+        outputs: SIGNALS,
+        ceilings: vec![7; 4],
+        locations: vec![0; 2],
+        rules: (0..=255).take(rules).map(rule).collect(),
+    }
+}
+
+pub fn reached_by_128() -> Policy {
+    reached_alone(128)
+}
+
+pub fn reached_by_256() -> Policy {
+    reached_alone(256)
+}
+
+/// 256 rules shared out evenly to so many locations, and 1,024 states: of each
+/// location all rules but the last are for few events.
+pub fn shared_out(locations: u8) -> Policy {
+    let ceiling = 1_024 / u16::from(locations) - 1;
+    let of_each = 256 / usize::from(locations);
+    let mut random = Random::new(6);
+    let mut rules = Vec::new();
+    for source in 0..locations {
+        for _ in 1..of_each {
+            rules.push(Rule {
+                input: one_value(&mut random),
+                output: one_value(&mut random),
+                ..Rule::open(source, source, 1)
+            });
+        }
+        rules.push(Rule::open(source, (source + 1) % locations, 1));
+    }
+    Policy {
+        inputs: SIGNALS,
+        outputs: SIGNALS,
+        ceilings: vec![ceiling.min(1_001)],
+        locations: vec![0; locations.into()],
+        rules,
+    }
 }
 
 /// Two small policies to be joined.

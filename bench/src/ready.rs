@@ -40,6 +40,14 @@ impl Ready {
         released
     }
 
+    /// What one event is corrected to, and the state after it.
+    pub fn released(&self, state: &mut State, event: u8) -> u8 {
+        let mut released = [FILLER];
+        let answer = Plain.run(self.basis(), state, &[event], &mut released);
+        assert_eq!(refusal_in(answer), 0, "a measured event is refused");
+        released[0]
+    }
+
     /// The state before each event of a stream that needs no correction.
     pub fn states_along(&self, stream: &[u8]) -> Vec<State> {
         let mut state = START;

@@ -1,6 +1,7 @@
 //! The runs that are measured: a policy under a reading, and a stream that needs
-//! no edits, many, or two in each event.
+//! no edits, many, one at every tick, or two.
 
+use crate::engine::START;
 use crate::file::Policy;
 use crate::policies;
 use crate::random::Random;
@@ -13,6 +14,8 @@ pub enum Edits {
     Many,
     /// The event 0, 0 each time, of which both halves are edited.
     Both,
+    /// At each tick an event that is edited there.
+    Every,
 }
 
 pub struct Stream {
@@ -23,9 +26,17 @@ pub struct Stream {
 }
 
 /// Under reading 1, then the same under reading 2.
-pub const STREAMS: [Stream; 16] = [
+pub const STREAMS: [Stream; 19] = [
+    stream("smallest, no edits", 1, policies::smallest, Edits::None),
+    stream(
+        "smallest, every tick edited",
+        1,
+        policies::smallest,
+        Edits::Every,
+    ),
     stream("short, no edits", 1, policies::short, Edits::None),
     stream("short, many edits", 1, policies::short, Edits::Many),
+    stream("short, every tick edited", 1, policies::short, Edits::Every),
     stream("long, no edits", 1, policies::long, Edits::None),
     stream("long, many edits", 1, policies::long, Edits::Many),
     stream("crowded, no edits", 1, policies::crowded, Edits::None),
@@ -105,6 +116,7 @@ impl Stream {
             Edits::None => ready.corrected(&any_events(&policy, ticks)),
             Edits::Many => any_events(&policy, ticks),
             Edits::Both => vec![0; ticks],
+            Edits::Every => edited_events(&policy, &ready, ticks),
         };
         (ready, events)
     }
@@ -144,6 +156,28 @@ impl Wave {
     }
 }
 
+/// At each tick the first of some random events that is edited there. The policy
+/// has such an event in every state.
+fn edited_events(policy: &Policy, ready: &Ready, count: usize) -> Vec<u8> {
+    const TRIES: usize = 256;
+    let mut random = Random::new(4);
+    let mask = policy.event_mask();
+    let mut state = START;
+    let mut tick = |_| {
+        let (mut event, mut next) = (0, state);
+        for _ in 0..TRIES {
+            event = random.byte() & mask;
+            next = state;
+            if ready.released(&mut next, event) != event {
+                break;
+            }
+        }
+        state = next;
+        event
+    };
+    (0..count).map(&mut tick).collect()
+}
+
 fn any_events(policy: &Policy, count: usize) -> Vec<u8> {
     let mut random = Random::new(3);
     let mask = policy.event_mask();
@@ -175,6 +209,7 @@ mod tests {
                 Edits::None => assert_eq!(share, 0.0, "{}", stream.name),
                 Edits::Many => assert!(share > 0.2, "{}: {share}", stream.name),
                 Edits::Both => assert_eq!(share, 1.0, "{}", stream.name),
+                Edits::Every => assert_eq!(share, 1.0, "{}", stream.name),
             }
         }
     }
