@@ -4,6 +4,8 @@
  * Once: groovepawn_prepare checks a policy and marks the states that have a future.
  * Each tick: read the input x, hand it to groovepawn_input, and act on the x' that comes back; then hand that x' and your answer y to
  * groovepawn_output, and put out the y' that comes back. groovepawn_run does the same for many ticks at once.
+ * Look at the refusal of each answer before you use what stands above it: example/ shows a loop that does, and what it does on a refusal.
+ * groovepawn_policy.h, beside this file, has shorter calls over the same functions.
  *
  * Slices. Each pointer is followed by its length, in elements. It points to that many elements, is never NULL, not even where the length is 0, and
  * is aligned for its type. A slice that is not const is written: it overlaps no other slice of the same call, and nothing else touches it during the
@@ -11,11 +13,12 @@
  * is given anew, whatever they are, and always returns.
  *
  *   file    the policy file: at most 5,974 bytes
- *   marks   one byte for each state, 1 live and 0 not: 65,536 bytes are always enough, and those past the number of states stay
+ *   marks   one byte for each state, 1 live and 0 not: 65,536 bytes are always enough, and those past the number of states stay. A policy has
+ *           as many states as its locations times the product of (ceiling + 1) over its clocks
  *   state   five numbers: the location, then the four clock values, unused ones 0. The start state is { 0, 0, 0, 0, 0 }
  *   x, y    an input, an output: bit 0 is the first signal of its section of the file
  *   event   one byte: input x in the low four bits, output y in the high four
- *   text    a wave: a Value Change Dump (IEEE 1364) of a stream. 497,013 bytes are always enough
+ *   text    a wave: a Value Change Dump (IEEE 1364) of a stream. 508,119 bytes are always enough
  *   states  a list of bays: five numbers for each of 1 to 8 bays, one bay after the other
  *   station six numbers of 16 bits: a state, then the meter's register as last accepted
  *   totals  two numbers of 32 bits: the pulses billed, the pulses not billed
@@ -33,50 +36,108 @@
  * then not promised, and 17 may come. So name one reading for a policy, and keep to it.
  *
  * Answers. The low eight bits are the number of a refusal, or 0 for none; the fields above hold then. With a refusal they are 0, except for the count
- * of groovepawn_run. With a refusal nothing is written, except by refusal 11 of groovepawn_prepare and refusal 17 of groovepawn_run.
- *
- *    1  a count or its section is cut short
- *    2  a count is outside its limits
- *    3  a tag is not A to Z or is repeated
- *    4  a ceiling is 0 or above 1,001
- *    5  a location byte is above 1
- *    6  a rule's first seven bytes break the rules of the file
- *    7  a rule's bounds break them
- *    8  bytes are left over
- *    9  more than 65,536 states
- *   10  the mark slice is shorter than the number of states
- *   11  the start is not live
- *   12  two policies differ in signal tags or their order
- *   13  a join has over 64 locations, 4 clocks, 256 rules or 65,536 states
- *   14  the slice to be written is too short
- *   15  an event, x or y has a bit beyond its signals
- *   16  a state is not five numbers, has a location or clock value out of range, an unused clock not 0, or a mark other than 1
- *   17  no input, or for the given x' no output, reaches a state marked 1
- *   18  the tick length is 0
- *   19  the tick count is above 1,000
- *   20  the marks are not those of groovepawn_prepare under this reading
- *   21  a text is not one that groovepawn_wave_write makes, or holds a time above 16,384
- *   22  the reading is neither 1 nor 2
- *   23  a work slice has fewer entries than there are states
- *   24  the list has no such bay
- *   25  a list of bays is not five numbers for each of 1 to 8 bays
- *   26  the policy has no input P or no output D
- *   27  a total would pass 4,294,967,295
- *   28  the index is not that of the file, or not 128 numbers
- *   29  a stream to be written as a wave has over 16,384 events
+ * of groovepawn_run. With a refusal nothing is written, with three exceptions: refusal 11 of groovepawn_prepare and of groovepawn_prepare_fast
+ * leaves the marks as success does, and the work slices of the second with anything in them; refusal 17 of groovepawn_run leaves the events
+ * released before it, and the state there. The refusals and their words are the enum groovepawn_refusal below.
  *
  * Where several hold, the first in this order is given: 22, 1 to 9 as they come in the file, 26 or 28, 10, 23 or 24, 11, 14, 16, 20, 15, 17, 27. A join
  * asks 1 to 9 of its first file, then of its second, then 12, 13, 14. A conversion asks 18, then 19. After 1 to 9 the writer of waves asks 29, 15,
- * 14, their reader 21, 14. With the marks of groovepawn_prepare under the same reading and a live state, groovepawn_input and groovepawn_run never
- * give 17.
+ * 14, their reader 21, 14. Each function's own order stands with it. With the marks of groovepawn_prepare under the same reading and a live state,
+ * groovepawn_input and groovepawn_run never give 17.
  *
- * Stack use: less than 2 KiB for each call, in the archive as it is compiled for x86-64. No heap and no global data.
+ * Stack. Each function says what it was seen to use, in the archive as it is compiled for x86-64 (tools/stack.c); these are readings and no promise.
+ * It is less than 2 KiB for each but groovepawn_clean (67,074 bytes) and groovepawn_why (1,247,352): these are tools and no part of a station's
+ * loop. No heap and no global data.
  */
 #ifndef GROOVEPAWN_H
 #define GROOVEPAWN_H
 
 #include <stddef.h>
 #include <stdint.h>
+
+/* The version of what this file declares. The first number rises when something goes or means something else, the second when something is added. */
+#define GROOVEPAWN_VERSION_MAJOR 1
+#define GROOVEPAWN_VERSION_MINOR 0
+#define GROOVEPAWN_VERSION_PATCH 0
+#define GROOVEPAWN_VERSION (GROOVEPAWN_VERSION_MAJOR * 10000 + GROOVEPAWN_VERSION_MINOR * 100 + GROOVEPAWN_VERSION_PATCH)
+
+/* Stands before each function: gcc and clang warn where an answer is thrown away. Elsewhere it is empty; you may define it before this file. */
+#ifndef GROOVEPAWN_LOOK_AT_ANSWER
+#if defined(__GNUC__) || defined(__clang__)
+#define GROOVEPAWN_LOOK_AT_ANSWER __attribute__((warn_unused_result))
+#else
+#define GROOVEPAWN_LOOK_AT_ANSWER
+#endif
+#endif
+
+/* The two readings of a deadline. */
+#define GROOVEPAWN_READING_AT_START 1
+#define GROOVEPAWN_READING_AFTER_COUNTING 2
+
+/* How many numbers a state, a station with a meter, its totals and an index have. */
+#define GROOVEPAWN_STATE_LEN 5
+#define GROOVEPAWN_STATION_LEN 6
+#define GROOVEPAWN_TOTALS_LEN 2
+#define GROOVEPAWN_INDEX_LEN 128
+
+/* The most that there can be: so many elements are always enough for a slice. */
+#define GROOVEPAWN_MOST_FILE_BYTES 5974
+#define GROOVEPAWN_MOST_STATES 65536
+#define GROOVEPAWN_MOST_BAYS 8
+#define GROOVEPAWN_MOST_EVENTS_OF_A_WAVE 16384
+#define GROOVEPAWN_MOST_TEXT_BYTES 508119
+#define GROOVEPAWN_MOST_STRUCK_BYTES 957
+
+/* The refusals. */
+enum groovepawn_refusal {
+    GROOVEPAWN_NOT_REFUSED = 0,
+    GROOVEPAWN_REFUSED_CUT_SHORT = 1,         /* a count or its section is cut short */
+    GROOVEPAWN_REFUSED_COUNT = 2,             /* a count is outside its limits */
+    GROOVEPAWN_REFUSED_TAG = 3,               /* a tag is not A to Z or is repeated */
+    GROOVEPAWN_REFUSED_CEILING = 4,           /* a ceiling is 0 or above 1,001 */
+    GROOVEPAWN_REFUSED_LOCATION = 5,          /* a location byte is above 1 */
+    GROOVEPAWN_REFUSED_RULE = 6,              /* a rule's first seven bytes break the rules of the file */
+    GROOVEPAWN_REFUSED_BOUNDS = 7,            /* a rule's bounds break them */
+    GROOVEPAWN_REFUSED_LEFT_OVER = 8,         /* bytes are left over */
+    GROOVEPAWN_REFUSED_TOO_MANY_STATES = 9,   /* more than 65,536 states */
+    GROOVEPAWN_REFUSED_MARKS_SHORT = 10,      /* the mark slice is shorter than the number of states */
+    GROOVEPAWN_REFUSED_HOPELESS = 11,         /* the start is not live */
+    GROOVEPAWN_REFUSED_OTHER_SIGNALS = 12,    /* two policies differ in signal tags or their order */
+    GROOVEPAWN_REFUSED_JOIN_TOO_LARGE = 13,   /* a join has over 64 locations, 4 clocks, 256 rules or 65,536 states */
+    GROOVEPAWN_REFUSED_SLICE_SHORT = 14,      /* the slice to be written is too short; of a meter, station or totals are not six and two numbers */
+    GROOVEPAWN_REFUSED_BEYOND_SIGNALS = 15,   /* an event, x or y has a bit beyond its signals */
+    GROOVEPAWN_REFUSED_STATE = 16,            /* a state is not five numbers, has a location or clock value out of range, an unused clock not 0, or */
+                                              /* a mark other than 1 */
+    GROOVEPAWN_REFUSED_NO_WAY_ON = 17,        /* no input, or for the given x' no output, reaches a state marked 1 */
+    GROOVEPAWN_REFUSED_TICK_LENGTH = 18,      /* the tick length is 0 */
+    GROOVEPAWN_REFUSED_TICK_COUNT = 19,       /* the tick count is above 1,000 */
+    GROOVEPAWN_REFUSED_OTHER_MARKS = 20,      /* the marks are not those of groovepawn_prepare under this reading */
+    GROOVEPAWN_REFUSED_TEXT = 21,             /* a text is not one that groovepawn_wave_write makes, or holds a time above 16,384 */
+    GROOVEPAWN_REFUSED_READING = 22,          /* the reading is neither 1 nor 2 */
+    GROOVEPAWN_REFUSED_WORK_SHORT = 23,       /* a work slice has fewer entries than there are states */
+    GROOVEPAWN_REFUSED_NO_SUCH_BAY = 24,      /* the list has no such bay */
+    GROOVEPAWN_REFUSED_BAYS = 25,             /* a list of bays is not five numbers for each of 1 to 8 bays */
+    GROOVEPAWN_REFUSED_NO_METER_SIGNALS = 26, /* the policy has no input P or no output D */
+    GROOVEPAWN_REFUSED_TOTAL_FULL = 27,       /* a total would pass 4,294,967,295 */
+    GROOVEPAWN_REFUSED_INDEX = 28,            /* the index is not that of the file, or not 128 numbers */
+    GROOVEPAWN_REFUSED_TOO_MANY_EVENTS = 29   /* a stream to be written as a wave has over 16,384 events */
+};
+
+/* The kinds of a reason of groovepawn_why. */
+enum groovepawn_reason {
+    GROOVEPAWN_NOT_EDITED = 0,
+    GROOVEPAWN_RULE_FORBIDS = 1,   /* the rule of this number sent it to 255 */
+    GROOVEPAWN_NO_RULE_MATCHES = 2,
+    GROOVEPAWN_TICKS_LEFT = 3,     /* the stream could have gone on for at most so many more ticks after it */
+    GROOVEPAWN_RESTS_LEFT = 4      /* the stream could have gone on for ever, with at most so many later events ending at rest */
+};
+
+/* The kinds of what groovepawn_clean strikes out. */
+enum groovepawn_struck {
+    GROOVEPAWN_STRUCK_LOCATION = 1, /* a location that no permitted stream from the start leads to */
+    GROOVEPAWN_STRUCK_WITH_IT = 2,  /* a rule of such a location */
+    GROOVEPAWN_STRUCK_RULE = 3      /* another rule that decides no event in any state that such a stream leads to */
+};
 
 #ifdef __cplusplus
 extern "C" {
@@ -102,114 +163,146 @@ extern "C" {
 #define GROOVEPAWN_LIST_LENGTH(answer) ((answer) >> 32)
 
 /*
- * Checks the policy and writes one mark for each state, under the reading named. Refusals 22, 1 to 11.
+ * Checks the policy and writes one mark for each state, under the reading named.
+ * Refusals in this order: 22, 1 to 9, 10, 11. Stack: 1,136 bytes.
  * Returns refusal | verdict << 8 | states << 16 | live << 40: how many states there are and how many are live.
  * Verdict 0: every state that some permitted stream from the start leads to is live. Verdict 1: the start is live and one such state is not.
  * Refusal 22 and refusals 1 to 10 leave marks as it was. Refusal 11 leaves it as success does.
  */
+GROOVEPAWN_LOOK_AT_ANSWER
 uint64_t groovepawn_prepare(uint8_t reading, const uint8_t *file, size_t file_len, uint8_t *marks, size_t marks_len);
 
 /*
  * The input half of a tick: the input x' to act on. It is x where some output then leads to a state marked 1, else the input of this kind that
  * differs from x in the fewest bits; among equals, at the first signal in which two differ, the one that leaves that signal as read.
- * Refusals 22, 1 to 10, 16, 15, 17. Returns refusal | x' << 8. Nothing is written: the state moves with the output half.
+ * Refusals in this order: 22, 1 to 9, 10, 16, 15, 17. Stack: 1,408 bytes.
+ * Returns refusal | x' << 8. Nothing is written: the state moves with the output half.
  */
+GROOVEPAWN_LOOK_AT_ANSWER
 uint32_t groovepawn_input(uint8_t reading, const uint8_t *file, size_t file_len, const uint8_t *marks, size_t marks_len, const uint16_t *state,
                           size_t state_len, uint8_t x);
 
 /*
  * The output half of a tick, given the x' of the input half and the controller's answer y: the output y' to put out, chosen
  * likewise among the outputs that with x' lead to a state marked 1.
- * Refusals 22, 1 to 10, 16, 15, 17. Returns refusal | y' << 8. The state becomes the next one; with a refusal it stays as given.
+ * Refusals in this order: 22, 1 to 9, 10, 16, 15, 17. Stack: 1,424 bytes.
+ * Returns refusal | y' << 8. The state becomes the next one; with a refusal it stays as given.
  */
+GROOVEPAWN_LOOK_AT_ANSWER
 uint32_t groovepawn_output(uint8_t reading, const uint8_t *file, size_t file_len, const uint8_t *marks, size_t marks_len, uint16_t *state,
                            size_t state_len, uint8_t x, uint8_t y);
 
 /*
- * Many ticks: for each event one is released. Refusals 22, 1 to 10, 14 (released is shorter than events), 16, 15, 17.
+ * Many ticks: for each event one is released.
+ * Refusals in this order: 22, 1 to 9, 10, 14 (released is shorter than events), 16, 15, 17. Stack: 1,456 bytes.
  * Returns refusal | count << 8: how many events were released. (The count is held modulo 2 to the 56th, which no slice reaches.)
  * The state becomes the one after the events released, and these stand in front in released, whose other bytes stay.
  * That is so with refusal 17 too: the run stops before the event that it cannot answer. With every other refusal the count is 0, and state and
  * released stay as given.
  */
+GROOVEPAWN_LOOK_AT_ANSWER
 uint64_t groovepawn_run(uint8_t reading, const uint8_t *file, size_t file_len, const uint8_t *marks, size_t marks_len, uint16_t *state,
                         size_t state_len, const uint8_t *events, size_t events_len, uint8_t *released, size_t released_len);
 
 /*
- * Joins two policies over the same signals into one that asks what both ask. Refusals 1 to 9 of a, 1 to 9 of b, 12, 13, 14.
+ * Joins two policies over the same signals into one that asks what both ask.
+ * Refusals in this order: 1 to 9 of a, 1 to 9 of b, 12, 13, 14. Stack: 720 bytes.
  * Returns refusal | length << 8: how many bytes of out the joined file takes; the other bytes stay. 5,974 bytes are always enough.
  * With a refusal out stays as given. A joined file is a policy like any other, to be handed to groovepawn_prepare under either reading.
  */
+GROOVEPAWN_LOOK_AT_ANSWER
 uint64_t groovepawn_join(const uint8_t *a, size_t a_len, const uint8_t *b, size_t b_len, uint8_t *out, size_t out_len);
 
 /*
- * A time in milliseconds as ticks of so many milliseconds, rounded down where up is 0, else up. Refusals 18, 19. Returns refusal | ticks << 8.
+ * A time in milliseconds as ticks of so many milliseconds, rounded down where up is 0, else up.
+ * Refusals in this order: 18, 19. Stack: none. Returns refusal | ticks << 8.
  */
+GROOVEPAWN_LOOK_AT_ANSWER
 uint32_t groovepawn_ticks(uint32_t milliseconds, uint32_t tick_length, uint8_t up);
 
 /*
  * A released stream as a text for wave viewers: 100 ms for each event, and for each signal, inputs first in file order, a wire with its tag as name.
- * Refusals 1 to 9, 29, 15, 14. Returns refusal | length << 8: how many bytes the text takes; the other bytes stay. There is no zero byte at its end.
+ * Refusals in this order: 1 to 9, 29, 15, 14. Stack: 464 bytes.
+ * Returns refusal | length << 8: how many bytes the text takes; the other bytes stay. There is no zero byte at its end.
  * With a refusal text stays as given. The policy's rules do not matter here: no marks are taken, and a policy without a live start is not refused.
  */
+GROOVEPAWN_LOOK_AT_ANSWER
 uint64_t groovepawn_wave_write(const uint8_t *file, size_t file_len, const uint8_t *events, size_t events_len, uint8_t *text, size_t text_len);
 
 /*
  * The stream of such a text. It takes exactly the texts that groovepawn_wave_write makes with this policy's signals, byte for byte, and each gives
- * the stream it was made of. Refusals 1 to 9, 21, 14. Returns refusal | count << 8: how many events there are; they stand in front in events, whose
- * other bytes stay. 16,384 bytes are always enough. With a refusal events stays as given.
+ * the stream it was made of.
+ * Refusals in this order: 1 to 9, 21, 14. Stack: 1,120 bytes.
+ * Returns refusal | count << 8: how many events there are; they stand in front in events, whose other bytes stay. 16,384 bytes are always enough.
+ * With a refusal events stays as given.
  */
+GROOVEPAWN_LOOK_AT_ANSWER
 uint64_t groovepawn_wave_read(const uint8_t *file, size_t file_len, const uint8_t *text, size_t text_len, uint8_t *events, size_t events_len);
 
 /*
  * The index of a policy, to be built once and kept beside it: index[2 * l] is the number of the first rule of location l, which is always the count of
  * rules with a lower source, and index[2 * l + 1] is how many rules l has. Past the locations both are 0. It takes no reading: a file has one index.
- * Refusals 1 to 9, 14 (fewer than 128 numbers). Returns the refusal. The first 128 numbers are written, and those past them stay.
+ * Refusals in this order: 1 to 9, 14 (fewer than 128 numbers). Stack: 312 bytes.
+ * Returns the refusal. The first 128 numbers are written, and those past them stay; with a refusal all stay.
  */
+GROOVEPAWN_LOOK_AT_ANSWER
 uint32_t groovepawn_index(const uint8_t *file, size_t file_len, uint16_t *index, size_t index_len);
 
 /*
  * The halves of a tick with an index, so that the rules of the location need not be looked for: the same answers as groovepawn_input and
- * groovepawn_output give for the same arguments. An index that is not that of the file is refused by 28 and never followed.
- * Refusals 22, 1 to 9, 28, 10, 16, 15, 17.
+ * groovepawn_output give for the same arguments. An index that is not that of the file is refused by 28 and never followed; that each call compares
+ * it costs more than it saves: see docs/C-INTERFACE.md before you choose them.
+ * Refusals in this order: 22, 1 to 9, 28, 10, 16, 15, 17. Stack: 1,184 and 1,216 bytes.
+ * Return refusal | x' << 8 and refusal | y' << 8. The first writes nothing; with a refusal of the second the state stays as given.
  */
+GROOVEPAWN_LOOK_AT_ANSWER
 uint32_t groovepawn_input_indexed(uint8_t reading, const uint8_t *file, size_t file_len, const uint16_t *index, size_t index_len,
                                   const uint8_t *marks, size_t marks_len, const uint16_t *state, size_t state_len, uint8_t x);
+GROOVEPAWN_LOOK_AT_ANSWER
 uint32_t groovepawn_output_indexed(uint8_t reading, const uint8_t *file, size_t file_len, const uint16_t *index, size_t index_len,
                                    const uint8_t *marks, size_t marks_len, uint16_t *state, size_t state_len, uint8_t x, uint8_t y);
 
 /*
  * Makes a list of bays that share one policy and one set of marks, and starts every bay afresh: all numbers become 0.
- * Refusal 25 for a length that is not five numbers for each of 1 to 8 bays; it leaves the numbers as given. Returns the refusal.
+ * Refusals: 25 for a length that is not five numbers for each of 1 to 8 bays; it leaves the numbers as given. Stack: none. Returns the refusal.
  */
+GROOVEPAWN_LOOK_AT_ANSWER
 uint32_t groovepawn_bays_new(uint16_t *states, size_t states_len);
 
 /*
  * The halves of a tick of one bay, counted from 0: what groovepawn_input and groovepawn_output do with the five numbers of that bay. The numbers of
  * the other bays are neither looked at nor changed. The policy, the marks and the reading stay the same while the list lives.
- * Refusals 22, 1 to 10, 24 (the bay is not below the count, or what is lent is no list), 16, 15, 17.
+ * Refusals in this order: 22, 1 to 9, 10, 24 (the bay is not below the count, or what is lent is no list), 16, 15, 17. Stack: 1,424 and 1,472 bytes.
+ * Return refusal | x' << 8 and refusal | y' << 8. The first writes nothing; with a refusal of the second the list stays as given.
  */
+GROOVEPAWN_LOOK_AT_ANSWER
 uint32_t groovepawn_bay_input(uint8_t reading, const uint8_t *file, size_t file_len, const uint8_t *marks, size_t marks_len,
                               const uint16_t *states, size_t states_len, uint32_t bay, uint8_t x);
+GROOVEPAWN_LOOK_AT_ANSWER
 uint32_t groovepawn_bay_output(uint8_t reading, const uint8_t *file, size_t file_len, const uint8_t *marks, size_t marks_len,
                                uint16_t *states, size_t states_len, uint32_t bay, uint8_t x, uint8_t y);
 
 /*
  * Sets up a station with a meter: its state is the start, the first reading of the meter's register is given, and both totals are 0.
- * Refusal 14 if station is not six numbers or totals is not two; both are then left as given. Returns the refusal.
+ * Refusals: 14 if station is not six numbers or totals is not two; both are then left as given. Stack: none. Returns the refusal.
  */
+GROOVEPAWN_LOOK_AT_ANSWER
 uint32_t groovepawn_meter_new(uint16_t *station, size_t station_len, uint32_t *totals, size_t totals_len, uint16_t reading_of_register);
 
 /*
  * The halves of a tick of a station with a meter. The pulses of the tick are this register less the last accepted one, modulo 65,536.
- * groovepawn_meter_input sets the input P in x exactly when pulses is not 0, clears it otherwise, and then is groovepawn_input. Nothing is written.
- * Refusals 22, 1 to 9, 26, 10, 16 (also for a station that is not six numbers), 15, 17. Returns refusal | x' << 8.
+ * groovepawn_meter_input sets the input P in x exactly when pulses is not 0, clears it otherwise, and then is groovepawn_input.
+ * Refusals in this order: 22, 1 to 9, 26, 10, 16 (also for a station that is not six numbers), 15, 17. Stack: 1,424 bytes.
+ * Returns refusal | x' << 8. Nothing is written.
  * groovepawn_meter_output takes the same register, that x' and the controller's answer y, and is groovepawn_output; then it adds the pulses to the
  * first total if the output D is on in the y' released, else to the second, and keeps the register.
- * Refusals 22, 1 to 9, 26, 10, 14 (totals is not two), 16, 15, 17, 27. Returns refusal | y' << 8. With a refusal station and totals stay as given.
+ * Refusals in this order: 22, 1 to 9, 26, 10, 14 (totals is not two), 16 (as above), 15, 17, 27. Stack: 1,456 bytes.
+ * Returns refusal | y' << 8. With a refusal station and totals stay as given.
  */
+GROOVEPAWN_LOOK_AT_ANSWER
 uint32_t groovepawn_meter_input(uint8_t reading, const uint8_t *file, size_t file_len, const uint8_t *marks, size_t marks_len,
                                 const uint16_t *station, size_t station_len, uint16_t reading_of_register, uint8_t x);
+GROOVEPAWN_LOOK_AT_ANSWER
 uint32_t groovepawn_meter_output(uint8_t reading, const uint8_t *file, size_t file_len, const uint8_t *marks, size_t marks_len,
                                  uint16_t *station, size_t station_len, uint32_t *totals, size_t totals_len, uint16_t reading_of_register,
                                  uint8_t x, uint8_t y);
@@ -217,9 +310,11 @@ uint32_t groovepawn_meter_output(uint8_t reading, const uint8_t *file, size_t fi
 /*
  * The second engine: what groovepawn_prepare answers and writes, for every policy and both readings, and on large tables faster. It works in five
  * slices that the caller lends, each with an entry for each state or more. They may hold anything, and what they hold afterwards is not said.
- * Refusals 22, 1 to 10, 23 (a work slice has fewer entries than there are states), 11. With 22, 1 to 10 and 23 neither the marks nor the work
- * slices are written.
+ * Refusals in this order: 22, 1 to 9, 10, 23 (a work slice has fewer entries than there are states), 11. Stack: 1,992 bytes.
+ * Returns what groovepawn_prepare returns. With 22, 1 to 10 and 23 neither the marks nor the work slices are written; 11 leaves the marks as success
+ * does.
  */
+GROOVEPAWN_LOOK_AT_ANSWER
 uint64_t groovepawn_prepare_fast(uint8_t reading, const uint8_t *file, size_t file_len, uint8_t *marks, size_t marks_len, uint16_t *work_1,
                                  size_t work_1_len, uint16_t *work_2, size_t work_2_len, uint16_t *work_3, size_t work_3_len, uint16_t *work_4,
                                  size_t work_4_len, uint16_t *work_5, size_t work_5_len);
@@ -234,9 +329,12 @@ uint64_t groovepawn_prepare_fast(uint8_t reading, const uint8_t *file, size_t fi
  *   2  a rule of such a location
  *   3  another rule that decides no event in any state that such a stream leads to
  *
- * Refusals 22, 1 to 9, 14 (either slice is too short; both are then left as given). Returns refusal | length << 8 | length of the list << 32. Bytes
- * past both lengths stay. 5,974 bytes are always enough for cleaned, and 957 for struck.
+ * A tool, and no part of a station's loop. Refusals in this order: 22, 1 to 9, 14 (either slice is too short; both are then left as given).
+ * Stack: 67,074 bytes, for a small policy too.
+ * Returns refusal | length << 8 | length of the list << 32. Bytes past both lengths stay. 5,974 bytes are always enough for cleaned, and 957 for
+ * struck.
  */
+GROOVEPAWN_LOOK_AT_ANSWER
 uint64_t groovepawn_clean(uint8_t reading, const uint8_t *file, size_t file_len, uint8_t *cleaned, size_t cleaned_len, uint8_t *struck,
                           size_t struck_len);
 
@@ -252,9 +350,12 @@ uint64_t groovepawn_clean(uint8_t reading, const uint8_t *file, size_t file_len,
  *
  * For an input: 4 with the greatest number over all outputs, if with some output the stream could have gone on for ever; else 3 with the greatest
  * number, if some output is no violation; else the reason for the output 0. Each number is exact: some permitted stream has it, and none has more.
- * Refusals 22, 1 to 10, 16, 20 (a byte for a state is not the mark of groovepawn_prepare under this reading), 15. 17 never comes.
+ * A tool, and no part of a station's loop: it prepares the policy anew and goes over all states.
+ * Refusals in this order: 22, 1 to 9, 10, 16, 20 (a byte for a state is not the mark of groovepawn_prepare under this reading), 15. 17 never comes.
+ * Stack: 1,247,352 bytes, for a small policy too.
  * Returns refusal | input's kind << 8 | its number << 16 | output's kind << 32 | its number << 40.
  */
+GROOVEPAWN_LOOK_AT_ANSWER
 uint64_t groovepawn_why(uint8_t reading, const uint8_t *file, size_t file_len, const uint8_t *marks, size_t marks_len, const uint16_t *state,
                         size_t state_len, uint8_t x, uint8_t y);
 

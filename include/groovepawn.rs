@@ -5,6 +5,66 @@
 // A program may well need some of them only.
 #![allow(dead_code)]
 
+// The numbers of `groovepawn.h`, by its names. A refusal is the low eight bits of an answer.
+pub const GROOVEPAWN_VERSION_MAJOR: u32 = 1;
+pub const GROOVEPAWN_VERSION_MINOR: u32 = 0;
+pub const GROOVEPAWN_VERSION_PATCH: u32 = 0;
+
+pub const GROOVEPAWN_READING_AT_START: u8 = 1;
+pub const GROOVEPAWN_READING_AFTER_COUNTING: u8 = 2;
+
+pub const GROOVEPAWN_STATE_LEN: usize = 5;
+pub const GROOVEPAWN_STATION_LEN: usize = 6;
+pub const GROOVEPAWN_TOTALS_LEN: usize = 2;
+pub const GROOVEPAWN_INDEX_LEN: usize = 128;
+pub const GROOVEPAWN_MOST_FILE_BYTES: usize = 5974;
+pub const GROOVEPAWN_MOST_STATES: usize = 65_536;
+pub const GROOVEPAWN_MOST_BAYS: usize = 8;
+pub const GROOVEPAWN_MOST_EVENTS_OF_A_WAVE: usize = 16_384;
+pub const GROOVEPAWN_MOST_TEXT_BYTES: usize = 508_119;
+pub const GROOVEPAWN_MOST_STRUCK_BYTES: usize = 957;
+
+pub const GROOVEPAWN_NOT_REFUSED: u8 = 0;
+pub const GROOVEPAWN_REFUSED_CUT_SHORT: u8 = 1;
+pub const GROOVEPAWN_REFUSED_COUNT: u8 = 2;
+pub const GROOVEPAWN_REFUSED_TAG: u8 = 3;
+pub const GROOVEPAWN_REFUSED_CEILING: u8 = 4;
+pub const GROOVEPAWN_REFUSED_LOCATION: u8 = 5;
+pub const GROOVEPAWN_REFUSED_RULE: u8 = 6;
+pub const GROOVEPAWN_REFUSED_BOUNDS: u8 = 7;
+pub const GROOVEPAWN_REFUSED_LEFT_OVER: u8 = 8;
+pub const GROOVEPAWN_REFUSED_TOO_MANY_STATES: u8 = 9;
+pub const GROOVEPAWN_REFUSED_MARKS_SHORT: u8 = 10;
+pub const GROOVEPAWN_REFUSED_HOPELESS: u8 = 11;
+pub const GROOVEPAWN_REFUSED_OTHER_SIGNALS: u8 = 12;
+pub const GROOVEPAWN_REFUSED_JOIN_TOO_LARGE: u8 = 13;
+pub const GROOVEPAWN_REFUSED_SLICE_SHORT: u8 = 14;
+pub const GROOVEPAWN_REFUSED_BEYOND_SIGNALS: u8 = 15;
+pub const GROOVEPAWN_REFUSED_STATE: u8 = 16;
+pub const GROOVEPAWN_REFUSED_NO_WAY_ON: u8 = 17;
+pub const GROOVEPAWN_REFUSED_TICK_LENGTH: u8 = 18;
+pub const GROOVEPAWN_REFUSED_TICK_COUNT: u8 = 19;
+pub const GROOVEPAWN_REFUSED_OTHER_MARKS: u8 = 20;
+pub const GROOVEPAWN_REFUSED_TEXT: u8 = 21;
+pub const GROOVEPAWN_REFUSED_READING: u8 = 22;
+pub const GROOVEPAWN_REFUSED_WORK_SHORT: u8 = 23;
+pub const GROOVEPAWN_REFUSED_NO_SUCH_BAY: u8 = 24;
+pub const GROOVEPAWN_REFUSED_BAYS: u8 = 25;
+pub const GROOVEPAWN_REFUSED_NO_METER_SIGNALS: u8 = 26;
+pub const GROOVEPAWN_REFUSED_TOTAL_FULL: u8 = 27;
+pub const GROOVEPAWN_REFUSED_INDEX: u8 = 28;
+pub const GROOVEPAWN_REFUSED_TOO_MANY_EVENTS: u8 = 29;
+
+pub const GROOVEPAWN_NOT_EDITED: u8 = 0;
+pub const GROOVEPAWN_RULE_FORBIDS: u8 = 1;
+pub const GROOVEPAWN_NO_RULE_MATCHES: u8 = 2;
+pub const GROOVEPAWN_TICKS_LEFT: u8 = 3;
+pub const GROOVEPAWN_RESTS_LEFT: u8 = 4;
+
+pub const GROOVEPAWN_STRUCK_LOCATION: u8 = 1;
+pub const GROOVEPAWN_STRUCK_WITH_IT: u8 = 2;
+pub const GROOVEPAWN_STRUCK_RULE: u8 = 3;
+
 extern "C" {
     pub fn groovepawn_prepare(
         reading: u8,
