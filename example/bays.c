@@ -4,9 +4,9 @@
  */
 #include <stdio.h>
 
-#include "groovepawn.h"
+#include "groovepawn_policy.h"
 
-static const uint8_t policy[] = {
+static const uint8_t file[] = {
     1, 'R',                                              /* inputs */
     1, 'C',                                              /* outputs */
     1, 0x00, 0x03,                                       /* clocks: the ceiling is 3 */
@@ -18,7 +18,6 @@ static const uint8_t policy[] = {
     0x01, 0, 0, 1, 0, 0, 0x01, 0x00, 0x00, 0x00, 0x02,   /* waiting, no C: while the clock is at most 2 */
 };
 
-#define READING 1
 #define BAYS 3
 #define TICKS 8
 
@@ -37,39 +36,53 @@ static uint8_t controller(uint32_t bay, uint8_t x)
     return 0;
 }
 
-static uint8_t marks[65536];
+/* The outputs of each bay as the wiring has them. What is safe is for each station to say: here, all off. */
+#define SAFE_OUTPUT 0
+static uint8_t wiring[BAYS];
 
-static int refused(uint32_t answer)
+static void put_out(uint32_t bay, uint8_t y)
 {
-    if (GROOVEPAWN_REFUSAL(answer) == 0) {
+    wiring[bay] = y;
+}
+
+/* To be asked of every answer, before anything is made of it. On a refusal this station stops all bays: they share the policy and the marks. */
+static int refused(uint64_t answer)
+{
+    if (GROOVEPAWN_REFUSAL(answer) == GROOVEPAWN_NOT_REFUSED) {
         return 0;
     }
-    printf("refused %u\n", (unsigned)GROOVEPAWN_REFUSAL(answer));
+    for (uint32_t bay = 0; bay < BAYS; bay++) {
+        put_out(bay, SAFE_OUTPUT);
+    }
+    printf("refused %u: all bays stopped\n", (unsigned)GROOVEPAWN_REFUSAL(answer));
     return 1;
 }
 
+static uint8_t marks[GROOVEPAWN_MOST_STATES];
+
 int main(void)
 {
-    uint16_t states[5 * BAYS];
+    struct groovepawn_policy policy;
+    struct groovepawn_bays bays;
     uint8_t released[BAYS][TICKS];
 
-    if (refused((uint32_t)GROOVEPAWN_REFUSAL(groovepawn_prepare(READING, policy, sizeof policy, marks, sizeof marks))) ||
-        refused(groovepawn_bays_new(states, 5 * BAYS))) {
+    if (refused(groovepawn_policy_prepare(&policy, GROOVEPAWN_READING_AT_START, file, sizeof file, marks, sizeof marks)) ||
+        refused(groovepawn_policy_bays_new(&bays, BAYS))) {
         return 1;
     }
     for (size_t tick = 0; tick < TICKS; tick++) {
         for (uint32_t bay = 0; bay < BAYS; bay++) {
-            uint32_t input = groovepawn_bay_input(READING, policy, sizeof policy, marks, sizeof marks, states, 5 * BAYS, bay, sensor[bay][tick]);
+            uint32_t input = groovepawn_policy_bay_input(&policy, &bays, bay, sensor[bay][tick]);
             if (refused(input)) {
                 return 1;
             }
             uint8_t x = (uint8_t)GROOVEPAWN_VALUE(input);
-            uint8_t wanted = controller(bay, x);
-            uint32_t output = groovepawn_bay_output(READING, policy, sizeof policy, marks, sizeof marks, states, 5 * BAYS, bay, x, wanted);
+            uint32_t output = groovepawn_policy_bay_output(&policy, &bays, bay, x, controller(bay, x));
             if (refused(output)) {
                 return 1;
             }
-            released[bay][tick] = (uint8_t)(x | GROOVEPAWN_VALUE(output) << 4);
+            put_out(bay, (uint8_t)GROOVEPAWN_VALUE(output));
+            released[bay][tick] = (uint8_t)(x | wiring[bay] << 4);
         }
     }
     for (uint32_t bay = 0; bay < BAYS; bay++) {

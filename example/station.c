@@ -5,9 +5,9 @@
  */
 #include <stdio.h>
 
-#include "groovepawn.h"
+#include "groovepawn_policy.h"
 
-static const uint8_t policy[] = {
+static const uint8_t file[] = {
     2, 'E', 'P',                        /* inputs: emergency, pulses */
     1, 'D',                             /* outputs: delivery */
     0,                                  /* no clocks */
@@ -17,7 +17,6 @@ static const uint8_t policy[] = {
     0x00, 0, 0, 0, 0, 0, 0x00,          /* all else */
 };
 
-#define READING 1
 #define EMERGENCY 1
 #define DELIVERY 1
 
@@ -32,38 +31,50 @@ static uint8_t controller(size_t tick)
     return tick == 0 || tick + 1 == sizeof sensor ? 0 : DELIVERY;
 }
 
-static uint8_t marks[65536];
+/* The valve as the wiring has it. What is safe is for each station to say: here, shut. */
+#define SAFE_OUTPUT 0
+static uint8_t valve;
+
+static void put_out(uint8_t y)
+{
+    valve = y;
+}
+
+/* To be asked of every answer, before anything is made of it. A refused tick has changed no total, no register and no state. */
+static int refused(uint64_t answer)
+{
+    if (GROOVEPAWN_REFUSAL(answer) == GROOVEPAWN_NOT_REFUSED) {
+        return 0;
+    }
+    put_out(SAFE_OUTPUT);
+    printf("refused %u: valve %u, stopped\n", (unsigned)GROOVEPAWN_REFUSAL(answer), (unsigned)valve);
+    return 1;
+}
+
+static uint8_t marks[GROOVEPAWN_MOST_STATES];
 
 int main(void)
 {
-    uint16_t station[6];
-    uint32_t totals[2];
+    struct groovepawn_policy policy;
+    struct groovepawn_station station;
 
-    uint64_t prepared = groovepawn_prepare(READING, policy, sizeof policy, marks, sizeof marks);
-    if (GROOVEPAWN_REFUSAL(prepared) != 0) {
-        printf("refused %u\n", (unsigned)GROOVEPAWN_REFUSAL(prepared));
+    if (refused(groovepawn_policy_prepare(&policy, GROOVEPAWN_READING_AT_START, file, sizeof file, marks, sizeof marks))) {
         return 1;
     }
-    uint32_t made = groovepawn_meter_new(station, 6, totals, 2, 65490);
-    if (GROOVEPAWN_REFUSAL(made) != 0) {
-        printf("refused %u\n", (unsigned)GROOVEPAWN_REFUSAL(made));
-        return 1;
-    }
+    groovepawn_policy_meter_new(&station, 65490);
     for (size_t tick = 0; tick < sizeof sensor; tick++) {
-        uint32_t input = groovepawn_meter_input(READING, policy, sizeof policy, marks, sizeof marks, station, 6, meter[tick], sensor[tick]);
-        if (GROOVEPAWN_REFUSAL(input) != 0) {
-            printf("refused %u\n", (unsigned)GROOVEPAWN_REFUSAL(input));
+        uint32_t input = groovepawn_policy_meter_input(&policy, &station, meter[tick], sensor[tick]);
+        if (refused(input)) {
             return 1;
         }
         uint8_t x = (uint8_t)GROOVEPAWN_VALUE(input);
-        uint32_t output = groovepawn_meter_output(READING, policy, sizeof policy, marks, sizeof marks, station, 6, totals, 2, meter[tick], x,
-                                                  controller(tick));
-        if (GROOVEPAWN_REFUSAL(output) != 0) {
-            printf("refused %u\n", (unsigned)GROOVEPAWN_REFUSAL(output));
+        uint32_t output = groovepawn_policy_meter_output(&policy, &station, meter[tick], x, controller(tick));
+        if (refused(output)) {
             return 1;
         }
+        put_out((uint8_t)GROOVEPAWN_VALUE(output));
         printf("tick %u: register %u, input %u, valve %u, billed %lu, unbilled %lu\n", (unsigned)(tick + 1), (unsigned)meter[tick], (unsigned)x,
-               (unsigned)GROOVEPAWN_VALUE(output), (unsigned long)totals[0], (unsigned long)totals[1]);
+               (unsigned)valve, (unsigned long)station.totals[0], (unsigned long)station.totals[1]);
     }
     return 0;
 }
