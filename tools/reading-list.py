@@ -1,12 +1,18 @@
 #!/usr/bin/env python3
 """The reading list of docs/PROMISES.md: every definition that a promise rests on, by the files that hold them.
 
-    tools/reading-list.py            does the list hold them all, and are its numbers right?
-    tools/reading-list.py --write    write it
+    tools/reading-list.py            is the list right, and is every name there that the pages cite?
+    tools/reading-list.py --write    write the list
 
 A promise rests on the definitions that its statement names, and on those that they name in turn. Proofs are not followed, nor the library. The promises
 are what docs/PROMISES.md cites. A file that holds little else is listed as a whole, with its lines but for the imports; what stands among theorems is
 listed by its name.
+
+Without an argument it also says
+- which names docs/PROMISES.md and docs/DECISIONS.md cite that are not there, or not where they are said to be;
+- which entries have a promise that tender's `Demand1`, where they stand together, has not;
+- which public functions are neither in the table of entries of PROMISES nor in DECISIONS' list of those that are none, and what these two have that
+  is no public function.
 """
 import collections
 import glob
@@ -14,8 +20,12 @@ import os
 import re
 import sys
 
+sys.dont_write_bytecode = True
 os.chdir(os.path.join(os.path.dirname(os.path.abspath(__file__)), ".."))
-PROMISES = "docs/PROMISES.md"
+from sources import code_names, public_functions  # noqa: E402
+from specs import closure, home_of, is_letter, modules  # noqa: E402
+
+PROMISES, DECISIONS = "docs/PROMISES.md", "docs/DECISIONS.md"
 HEAD, END = "## What to read\n", "## The meaning\n"
 
 # The parts of the list: a title, the crates (or modules of one) whose entries belong to it, and the sections whose citations do.
@@ -32,155 +42,40 @@ PARTS = [
     ("Adding a clause never loosens one (13/13)", "", ["Adding a clause never loosens one (13/13)"]),
     ("What the other tables cite", "", None),
 ]
-ENTRIES = "The public entries (demand 1)"
-DEMANDS = [(("tender", "Demand2"), "Demand2"), (("tender", "Demand3"), "Demand3")]
+ENTRIES, NO_ENTRIES = "The public entries (demand 1)", "Public functions that are no entries"
+TOGETHER = ("tender", "Demand1")
+# The demands, and the policy that permits all, of which demand 3 speaks.
+DEMANDS = [(("tender", "Demand2"), "Demand2"), (("tender", "Demand3"), "Demand3"), (("join", "Free"), "free"), (("join", "Free"), "freeFile")]
 
-WORD = re.compile(r"[^\s(){};,\[\]⌜⌝]+")
-MARKS = r"(?:(?:unfoldable|abbrev|pub) )*"
-
-
-class Module:
-    """A file of specs/: what it has from others, and its declarations as (kind, first line, line after the last, enclosing module lines)."""
-
-    def __init__(self, path):
-        self.key = (path.split("/")[1], path.split("/specs/")[1][:-5])
-        self.path, self.lines = path, open(path).read().split("\n")[:-1]
-        text = re.sub(r"^(?:pub )?use [^{\n]*(?:\{[^}]*\})?[^\n]*\n", "", "\n".join(self.lines) + "\n", flags=re.M)
-        self.length = text.count("\n")
-        self.names, self.aliases, self.decls, self.makes, self.telescopes = {}, {}, {}, {}, {}
-        for use in re.finditer(r"^(?:pub )?use ([^\s{]+?)(?:\.\{([^}]*)\})?(?: as (\S+))?$", "\n".join(self.lines), re.M):
-            home = re.match(r"Rattle·([a-z]+)(?:·specs)?\.specs\.(.+)$", use[1])
-            home = home and (home[1], home[2])
-            for name in (use[2] or "").split(","):
-                old, _, new = name.strip().partition(" as ")
-                self.names[new.strip() or old] = (home, old)
-            if use[2] is None:
-                self.aliases[use[3] or use[1].split(".")[-1]] = home
-        self.declare()
-
-    def declare(self):
-        heads, inside = [], []
-        for i, line in enumerate(self.lines):
-            indent = len(line) - len(line.lstrip())
-            if not line.strip() or line.strip().startswith("--") or re.match(r"(pub )?use |[})]", line.strip()):
-                continue
-            while inside and indent <= inside[-1][0]:
-                inside.pop()
-            if indent != (inside[-1][0] + 2 if inside else 0):
-                continue
-            here = [at for _, at in inside]
-            if line.strip().startswith("module "):
-                inside.append((indent, i))
-                heads.append((i, None, "module", here))
-                self.telescopes[i] = line
-                continue
-            head = re.match(r"\s*(%s)(record |data )?([^\s(){}:=,;]+)\s*(?:\{[^}]*\}\s*)?(:|\(|\{|$)" % MARKS, line)
-            if head and (head[2] or (head[4] == ":" and head[3] not in ("where", "unfolding"))):
-                kind = (head[2] or ("definition" if re.search("abbrev|unfoldable", head[1]) else "theorem")).strip()
-                heads.append((i, head[3], kind, here))
-        ends = [head[0] for head in heads[1:]] + [len(self.lines)]
-        for (start, name, kind, here), end in zip(heads, ends):
-            if not name:
-                self.telescopes[start] = " ".join(self.lines[start:end]).split(" where")[0]
-                continue
-            while end > start + 1 and re.match(r"\s*(--|infix|$)", self.lines[end - 1]):
-                end -= 1
-            self.decls[name] = (kind, start, end, here)
-            for line in self.lines[start + 1 : end] if kind == "data" else []:
-                made = re.match(r"\s+([^\s(){}:]+)\s*:", line)
-                if made:
-                    self.makes[made[1]] = name
-
-    def stated(self, name):
-        """The lines that a reader of the name reads: a definition whole, of a theorem the statement."""
-        kind, start, end, _ = self.decls[name]
-        if kind == "theorem":
-            for i in range(start + 1, end):
-                if re.match(r"\s*(unfolding\b|%s( .*)?=)" % re.escape(name), self.lines[i]):
-                    return start, i
-        return start, end
+crates = {crate for crate, _ in modules} | {path.split("/")[1] for path in glob.glob("crates/*/src")}
+code = code_names()
+CODE_ANYWHERE = {name for _, name in code}
+C_NAMES = {name for path in glob.glob("include/*.h") for name in re.findall(r"\b\w*(?:groovepawn|GROOVEPAWN)_\w+", open(path).read())}
+# Words of the language, and the mark at the head of a file of stored cases.
+LANGUAGE = set("ensures requires unfolding pub self const static inline u8 u16 u32 u64 usize main memset GPV2".split())
 
 
-modules = {}
-for path in sorted(glob.glob("crates/*/specs/*.antt")):
-    if not path.endswith("/Lib.antt"):
-        module = Module(path)
-        modules[module.key] = module
-
-
-def home_of(key, name):
-    """Where a name that a module has is declared: a declaration of specs/, or a type of the code."""
-    for _ in range(9):
-        if key and key[1].startswith("declared."):
-            return key, name
-        if key not in modules:
-            return None
-        if name in modules[key].decls:
-            return key, name
-        if name in modules[key].makes:
-            return key, modules[key].makes[name]
-        if name not in modules[key].names:
-            return None
-        key, name = modules[key].names[name]
-    return None
-
-
-def found(module, word):
-    word = word.strip(".«»")
-    if word in module.decls or word in module.makes or word in module.names:
-        return home_of(module.key, word)
-    alias, _, name = word.partition(".")
-    if name and module.aliases.get(alias):
-        return home_of(module.aliases[alias], name)
-    return None
-
-
-def rests_on(key, name):
-    """What a declaration names. Variables of its clauses are none of it."""
-    module = modules[key]
-    start, end = module.stated(name)
-    text = [module.telescopes[i] for i in module.decls[name][3]] + module.lines[start:end]
-    out = set()
-    for line in text:
-        line = "" if line.strip().startswith("--") else line.split(" -- ")[0]
-        bound = set(re.findall(r"λ (\w+)\.", line))
-        for group in re.findall(r"[({]([\w′ ]+) :", line):
-            bound |= set(group.split())
-        clause = re.match(r"\s*%s (.*?) = " % re.escape(name), line)
-        if clause:
-            bound |= {word for word in WORD.findall(clause[1]) if word.islower()}
-        words = {word for word in WORD.findall(line) if word not in bound and not word.startswith(".")}
-        for known in [known for known in list(module.decls) + list(module.names) if "_" in known]:
-            if all(piece in words for piece in known.split("_") if piece):
-                words.add(known)
-        out |= {found(module, word) for word in words}
-    return out - {None, (key, name)}
-
-
-def closure(roots):
-    seen, todo = set(), list(roots)
-    while todo:
-        at = todo.pop()
-        if at not in seen:
-            seen.add(at)
-            if at[0] in modules:
-                todo += rests_on(*at)
-    return seen
-
-
-def cited(line, crates):
-    """The names that a line of PROMISES cites: crate: `Module.name`, `name`, .."""
+def spans(line):
+    """What a line cites: (crate, module, name, dotted), the crate and module as they stand at that point of the line: crate: `Module.name`, `name`, .."""
     crate = key = None
     for word in re.finditer(r"(\w+): (?=`)|`([^`]+)`", line):
         if word[1]:
-            crate, key = (word[1], None) if word[1] in crates else (None, None)
+            if word[1] in crates:
+                crate, key = word[1], None
             continue
-        dotted = re.match(r"([A-Z]\w*)\.(\S+)$", word[2])
+        dotted = re.match(r"([A-Z]\w*)\.([^\s.]+)$", word[2])
         if crate and dotted:
             key = (crate, dotted[1])
         name = dotted[2] if dotted else word[2]
         if crate and not dotted and (crate, name) in modules and not (key and home_of(key, name)):
             key = (crate, name)
+        yield crate, key, name, dotted and dotted[1]
+
+
+def cited(line):
+    """The declarations that a line of PROMISES cites. A module alone stands for all that it declares."""
+    for crate, key, name, dotted in spans(line):
+        if not dotted and key == (crate, name) and not home_of(key, name):
             for each in modules[key].decls:
                 yield key, each
         elif key and home_of(key, name):
@@ -188,7 +83,7 @@ def cited(line, crates):
 
 
 def roots_of_parts(text):
-    crates, roots = {crate for crate, _ in modules}, [set() for _ in PARTS]
+    roots = [set() for _ in PARTS]
     roots[0] |= set(DEMANDS)
     place = {where: i for i, part in enumerate(PARTS) for where in part[1].split()}
     section_of = {section: i for i, part in enumerate(PARTS) for section in part[2] or []}
@@ -196,7 +91,7 @@ def roots_of_parts(text):
     for line in text.split("\n"):
         if line.startswith("## "):
             section = line[3:]
-        names = set(cited(line, crates))
+        names = set(cited(line))
         if section == ENTRIES and line.startswith("| "):
             # An entry has four columns. The steps below the entries have two: nobody has to believe them.
             if line.count(" | ") < 3:
@@ -251,9 +146,10 @@ def the_list(text):
                 total += module.length
             else:
                 named |= {(key, name) for name in by_file[key]}
-                spans = sorted({module.decls[name][1]: name for name in by_file[key]}.items())
-                rows.append((path, len(lines), "of it " + ", ".join(f"`{name}`" for _, name in spans)))
-                total += len(lines)
+                listed = [name for _, name in sorted((module.decls[name][1], name) for name in by_file[key]) if not is_letter(name)]
+                if listed:
+                    rows.append((path, len(lines), "of it " + ", ".join(f"`{name}`" for name in listed)))
+                    total += len(lines)
         code = collections.defaultdict(list)
         for key, name in sorted(reached):
             if key[1].startswith("declared.") and "the-variants" not in key[1] and (key, name) not in types:
@@ -270,8 +166,116 @@ def the_list(text):
     return out, sums
 
 
+# Are the names there?
+
+
+def declared_in(crate, name):
+    """Whether a crate (or, without one, any) declares the name, in specs/ or in its code, or has a module of that name."""
+    for at in {crate} if crate else crates:
+        if (at, name) in code or (at, name) in modules:
+            return True
+        if any(name in module.decls or name in module.makes or name in module.fields for key, module in modules.items() if key[0] == at):
+            return True
+    return False
+
+
+def path_there(name):
+    """A path from the top, or the end of one."""
+    return os.path.exists(name) or any(glob.glob(f"{top}/**/{name}", recursive=True) for top in set(os.listdir()) - {"target"})
+
+
+def is_there(crate, key, name, dotted):
+    """Whether a page may cite this. What is no name, a command or some bytes, is not looked for."""
+    if dotted:
+        return bool(key and home_of(key, name)) or (not crate and any(home_of((at, dotted), name) for at in crates))
+    name = re.sub(r"\(.*\)$", "", name)
+    if re.search(r"[\s&$#^\[≡]|^[\d{<]", name) or name in LANGUAGE or is_letter(name):
+        return True
+    if name in crates or "/" in name or re.search(r"\.(rt|antt|md|sh|py|c|h|rs|a|vcd|txt)$", name):
+        return name in crates or path_there(name)
+    if "::" in name:
+        first, *rest = name.split("::")
+        return first == "std" or all(declared_in(first if first in crates else None, each) for each in ([] if first in crates else [first]) + rest)
+    if name in C_NAMES or (name.startswith("_") and "groovepawn" + name in C_NAMES):
+        return True
+    if key and home_of(key, name):
+        return True
+    if not crate:
+        return declared_in(None, name)
+    return name in CODE_ANYWHERE or (crate, name) in modules or any(name in module.fields for at, module in modules.items() if at[0] == crate)
+
+
+def check_names(path, text):
+    for number, line in enumerate(text.split("\n"), 1):
+        for crate, key, name, dotted in spans(line):
+            if path == PROMISES and not crate and (dotted or re.fullmatch(r"[\w-]+-[\w-]+", name)) and not line.startswith("#"):
+                yield f"{path}:{number}: `{dotted + '.' if dotted else ''}{name}` is cited without its crate, so the list leaves it out"
+            if not is_there(crate, key, name, dotted):
+                where = ".".join(key) if key else crate or "any crate"
+                yield f"{path}:{number}: `{dotted + '.' if dotted else ''}{name}` is not there, looked for in {where}"
+
+
+def section(text, title):
+    return text.split(f"\n## {title}\n")[1].split("\n## ")[0]
+
+
+def functions_of(cell, public):
+    """The public functions that the first cell of a row names: `crate::name(..)`, `Type::name(..)`, `groovepawn_a`, `_b`, or `name` (crate c)."""
+    of = re.search(r"\(crate (\w+)\)", cell)
+    for span in re.findall(r"`([^`]+)`", cell):
+        *before, name = re.sub(r"\(.*", "", span).split("::")
+        name = "groovepawn" + name if name.startswith("_") else name
+        fits = [
+            each
+            for each in public
+            if each.name == name and (not of or each.crate == of[1]) and all(part in (each.crate, each.module, each.type) for part in before)
+        ]
+        if len(fits) == 1 and (of or before or fits[0].crate == "groovepawn"):
+            yield fits[0]
+        else:
+            yield span
+
+
+def entry_rows(promises):
+    return [line for line in section(promises, ENTRIES).split("\n") if line.startswith("| ") and line.count(" | ") == 3 and not line.startswith("| Entry")]
+
+
+def check_together(promises):
+    """"All of them together": the promise of each entry, or where it is an equation the definition, can be had from one module."""
+    together = {home_of(TOGETHER, name) for name in modules[TOGETHER].names}
+    for row in entry_rows(promises):
+        ends = [len(list(spans(" | ".join(row.split(" | ")[:cells])))) for cells in range(1, 4)]
+        homes = [key and home_of(key, name) for _, key, name, _ in spans(row)]
+        promises_of, definitions = (set(filter(None, homes[a:b])) for a, b in ((ends[1], ends[2]), (ends[0], ends[1])))
+        for home in promises_of or (set() if definitions & together else definitions):
+            if home not in together:
+                yield f"{PROMISES}: {home[0][0]} `{home[0][1]}.{home[1]}` is the promise of an entry, and {TOGETHER[0]} `{TOGETHER[1]}` has it not"
+
+
+def check_functions(promises, decisions):
+    public, listed = public_functions(), set()
+    entries = entry_rows(promises)
+    others = [line for line in section(decisions, NO_ENTRIES).split("\n") if line.startswith("| `")]
+    for path, rows in ((PROMISES, entries), (DECISIONS, others)):
+        for row in rows:
+            for function in functions_of(row.split(" | ")[0], public):
+                listed.add(function)
+                if isinstance(function, str):
+                    yield f"{path}: `{function}` is listed and is no public function, or its crate is not said"
+    for row in others:
+        first, *_, last = row.split(" | ")
+        for function in functions_of(first, public):
+            text = "" if isinstance(function, str) else "".join(open(path).read() for path in glob.glob(f"crates/{function.crate}/src/**/*.rt", recursive=True))
+            for name in re.findall(r"`([A-Z]\w+)`", last):
+                if not isinstance(function, str) and not re.search(r"\b%s\b" % name, text):
+                    yield f"{DECISIONS}: `{name}` is said of {function.name}, and nothing in crates/{function.crate}/src names it"
+    for function in sorted(set(public) - listed, key=str):
+        name = "::".join(filter(None, (function.crate, function.type, function.name)))
+        yield f"`{name}` is public, and is neither an entry of {PROMISES} nor in {DECISIONS}'s list"
+
+
 def main():
-    text = open(PROMISES).read()
+    text, decisions = open(PROMISES).read(), open(DECISIONS).read()
     a, b = text.index(HEAD), text.index(END)
     rest = text[b:]
     out, sums = the_list(rest)
@@ -281,8 +285,12 @@ def main():
         print(f"{total:5d}  {title}")
     if "--write" in sys.argv:
         open(PROMISES, "w").write(text[:a] + new + rest)
-    elif text[a:b] != new:
-        sys.exit("the reading list is not the one that the promises make: tools/reading-list.py --write")
+        return
+    faults = [] if text[a:b] == new else ["the reading list is not the one that the promises make: tools/reading-list.py --write"]
+    blank = "\n" * text[:b].count("\n")
+    faults += [*check_names(PROMISES, blank + rest), *check_names(DECISIONS, decisions), *check_functions(text, decisions), *check_together(text)]
+    if faults:
+        sys.exit("\n".join(faults))
 
 
 main()
