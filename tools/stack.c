@@ -11,13 +11,17 @@
 #include <stdio.h>
 #include <string.h>
 
-enum { STACK = 1 << 21, PAINT = 0xA5, RULES = 256, STATES = 65536, EVENTS = 16384, TEXT = 497013 };
+enum { STACK = 1 << 21, PAINT = 0xA5, RULES = 256 };
+enum { STATES = GROOVEPAWN_MOST_STATES, EVENTS = GROOVEPAWN_MOST_EVENTS_OF_A_WAVE, TEXT = GROOVEPAWN_MOST_TEXT_BYTES };
 
 static _Alignas(4096) uint8_t stack[STACK];
-static uint8_t file[5974], joined[5974], cleaned[5974], struck[957], marks[STATES], quiet[EVENTS], restless[EVENTS], events[EVENTS], released[EVENTS], text[TEXT];
+static uint8_t file[GROOVEPAWN_MOST_FILE_BYTES], joined[GROOVEPAWN_MOST_FILE_BYTES], cleaned[GROOVEPAWN_MOST_FILE_BYTES];
+static uint8_t struck[GROOVEPAWN_MOST_STRUCK_BYTES], marks[STATES], quiet[EVENTS], restless[EVENTS], events[EVENTS], released[EVENTS], text[TEXT];
 static size_t length, text_length;
-static uint16_t state[5], index_of_file[128], bays[40], station[6];
-static uint32_t totals[2];
+enum { NUMBERS = GROOVEPAWN_STATE_LEN, INDEX = GROOVEPAWN_INDEX_LEN, BAYS = GROOVEPAWN_MOST_BAYS };
+enum { STATION = GROOVEPAWN_STATION_LEN, TOTALS = GROOVEPAWN_TOTALS_LEN };
+static uint16_t state[NUMBERS], index_of_file[INDEX], bays[BAYS * NUMBERS], station[STATION];
+static uint32_t totals[TOTALS];
 static uint16_t work[5][STATES];
 static uint8_t reading;
 
@@ -57,25 +61,25 @@ static void prepare_fast(void) {
     answer = groovepawn_prepare_fast(reading, file, length, marks, STATES, work[0], STATES, work[1], STATES, work[2], STATES, work[3], STATES, work[4],
                                      STATES);
 }
-static void input(void) { answer = groovepawn_input(reading, file, length, marks, STATES, state, 5, 0); }
-static void output(void) { answer = groovepawn_output(reading, file, length, marks, STATES, state, 5, 15, 0); }
-static void run(void) { answer = groovepawn_run(reading, file, length, marks, STATES, state, 5, quiet, EVENTS, released, EVENTS); }
+static void input(void) { answer = groovepawn_input(reading, file, length, marks, STATES, state, NUMBERS, 0); }
+static void output(void) { answer = groovepawn_output(reading, file, length, marks, STATES, state, NUMBERS, 15, 0); }
+static void run(void) { answer = groovepawn_run(reading, file, length, marks, STATES, state, NUMBERS, quiet, EVENTS, released, EVENTS); }
 static void join(void) { answer = groovepawn_join(file, length, any, sizeof any, joined, sizeof joined); }
 static void clean(void) { answer = groovepawn_clean(reading, file, length, cleaned, sizeof cleaned, struck, sizeof struck); }
-static void why(void) { answer = groovepawn_why(reading, file, length, marks, STATES, state, 5, 0, 0); }
+static void why(void) { answer = groovepawn_why(reading, file, length, marks, STATES, state, NUMBERS, 0, 0); }
 static void ticks(void) { answer = groovepawn_ticks(12345, 100, 1); }
 static void wave_write(void) { text_length = (answer = groovepawn_wave_write(file, length, restless, EVENTS, text, TEXT)) >> 8; }
 static void wave_read(void) { answer = groovepawn_wave_read(file, length, text, text_length, events, EVENTS); }
-static void build(void) { answer = groovepawn_index(file, length, index_of_file, 128); }
-static void input_indexed(void) { answer = groovepawn_input_indexed(reading, file, length, index_of_file, 128, marks, STATES, state, 5, 0); }
-static void output_indexed(void) { answer = groovepawn_output_indexed(reading, file, length, index_of_file, 128, marks, STATES, state, 5, 15, 0); }
+static void build(void) { answer = groovepawn_index(file, length, index_of_file, INDEX); }
+static void input_indexed(void) { answer = groovepawn_input_indexed(reading, file, length, index_of_file, INDEX, marks, STATES, state, NUMBERS, 0); }
+static void output_indexed(void) { answer = groovepawn_output_indexed(reading, file, length, index_of_file, INDEX, marks, STATES, state, NUMBERS, 15, 0); }
 
-static void bays_new(void) { answer = groovepawn_bays_new(bays, 40); }
-static void bay_input(void) { answer = groovepawn_bay_input(reading, file, length, marks, STATES, bays, 40, 7, 0); }
-static void bay_output(void) { answer = groovepawn_bay_output(reading, file, length, marks, STATES, bays, 40, 7, 15, 0); }
-static void meter_new(void) { answer = groovepawn_meter_new(station, 6, totals, 2, 65530); }
-static void meter_input(void) { answer = groovepawn_meter_input(reading, file, length, marks, STATES, station, 6, 4, 0); }
-static void meter_output(void) { answer = groovepawn_meter_output(reading, file, length, marks, STATES, station, 6, totals, 2, 4, 15, 0); }
+static void bays_new(void) { answer = groovepawn_bays_new(bays, BAYS * NUMBERS); }
+static void bay_input(void) { answer = groovepawn_bay_input(reading, file, length, marks, STATES, bays, BAYS * NUMBERS, BAYS - 1, 0); }
+static void bay_output(void) { answer = groovepawn_bay_output(reading, file, length, marks, STATES, bays, BAYS * NUMBERS, BAYS - 1, 15, 0); }
+static void meter_new(void) { answer = groovepawn_meter_new(station, STATION, totals, TOTALS, 65530); }
+static void meter_input(void) { answer = groovepawn_meter_input(reading, file, length, marks, STATES, station, STATION, 4, 0); }
+static void meter_output(void) { answer = groovepawn_meter_output(reading, file, length, marks, STATES, station, STATION, totals, TOTALS, 4, 15, 0); }
 
 static const struct { const char *name; void (*call)(void); } calls[] = {
     {"groovepawn_prepare", prepare}, {"groovepawn_prepare_fast", prepare_fast}, {"groovepawn_index", build},
