@@ -1,5 +1,7 @@
 // One location's entry of the index.
 use policy::Layout;
+use policy::limits::BOUND_SIZE;
+use policy::limits::RULE_HEAD;
 use policy::rules_level;
 ghost use mathlib.Core.Path.{_≡_};
 ghost use Rattle.policy.specs.File.{rulesOf};
@@ -26,7 +28,7 @@ pub(crate) fn entry_at(file: &[u8], layout: Layout, location: usize, first: usiz
     let end = layout.rules_end;
     let number = rules_level(
         &file[start..end],
-        first * (7 + 4 * layout.clocks),
+        first * (RULE_HEAD + BOUND_SIZE * layout.clocks),
         layout.rules - first,
         layout.clocks,
         location,

@@ -6,7 +6,9 @@ use entry::entry_at;
 use policy::Layout;
 use policy::Own;
 use policy::check;
+use policy::limits::BOUND_SIZE;
 use policy::limits::LOCATIONS;
+use policy::limits::RULE_HEAD;
 ghost use mathlib.Core.Path.{_≡_};
 ghost use mathlib.Core.List.{_++_};
 ghost use Prim.Native.Nat.{_≤_, _<_};
@@ -69,7 +71,7 @@ pub fn own_at(file: &[u8], layout: Layout, index: &[u16], location: u16) -> Own
 {
     let at = 2 * location as usize;
     Own {
-        start: index[at] as usize * (7 + 4 * layout.clocks),
+        start: index[at] as usize * (RULE_HEAD + BOUND_SIZE * layout.clocks),
         count: index[at + 1] as usize,
     }
 }

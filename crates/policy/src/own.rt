@@ -1,5 +1,7 @@
 // A location's own rules. Sources never fall from one rule to the next, so they stand together.
 use crate::bytes::byte_within;
+use crate::limits::BOUND_SIZE;
+use crate::limits::RULE_HEAD;
 ghost use mathlib.Core.Path.{_≡_};
 ghost use Prim.Native.Nat.{_+_, _*_, _≤_, _<_, _^_};
 ghost use lib.ListN.{length};
@@ -17,7 +19,7 @@ fn rules_below(rules: &[u8], count: usize, clocks: usize, location: usize) -> us
     requires { ⌜ (count ≤ 256) × (clocks ≤ 4) × (count * ruleSize clocks ≤ length (now rules)) ⌝ }
     ensures { λ r. ⌜ r ≡ below location (rulesFrom clocks (now (rules .entry)) 0 count) ⌝ }
 {
-    let size = 7 + 4 * clocks;
+    let size = RULE_HEAD + BOUND_SIZE * clocks;
     let mut at = 0;
     let mut i = 0;
     while i < count {
@@ -35,7 +37,7 @@ pub fn rules_level(rules: &[u8], at: usize, count: usize, clocks: usize, locatio
     requires { ⌜ (at < 2 ^ 16) × (count ≤ 256) × (clocks ≤ 4) × (at + count * ruleSize clocks ≤ length (now rules)) ⌝ }
     ensures { λ r. ⌜ r ≡ level location (rulesFrom clocks (now (rules .entry)) at count) ⌝ }
 {
-    let size = 7 + 4 * clocks;
+    let size = RULE_HEAD + BOUND_SIZE * clocks;
     let mut next = at;
     let mut i = 0;
     while i < count {
@@ -53,7 +55,7 @@ pub fn own_rules(rules: &[u8], count: usize, clocks: usize, location: usize) -> 
     ensures { λ r. ⌜ r ≡ ownOf clocks location (rulesFrom clocks (now (rules .entry)) 0 count) ⌝ }
 {
     let first = rules_below(rules, count, clocks, location);
-    let start = first * (7 + 4 * clocks);
+    let start = first * (RULE_HEAD + BOUND_SIZE * clocks);
     Own {
         start,
         count: rules_level(rules, start, count - first, clocks, location),

@@ -2,8 +2,12 @@
 use crate::bytes::byte_within;
 use crate::bytes::pair_at;
 use crate::bytes::pair_within;
+use crate::limits::BOUND_SIZE;
 use crate::limits::CLOCKS;
+use crate::limits::NO_UPPER_BOUND;
+use crate::limits::RULE_HEAD;
 use crate::limits::RULES;
+use crate::limits::VIOLATION;
 use crate::sections::section_refusal;
 ghost use mathlib.Core.Path.{_≡_};
 ghost use Prim.Native.Nat.{_+_, _*_, _≤_, _<_, _^_};
@@ -67,7 +71,7 @@ fn head_good(section: &[u8], at: usize, shape: Shape, before: usize) -> bool
     if target < shape.locations {
         return true;
     }
-    target == 255
+    target == VIOLATION
 }
 
 // The bounds from `at` on keep the rules, one for each clock.
@@ -78,8 +82,8 @@ fn bounds_good(section: &[u8], at: usize, ceilings: [u16; CLOCKS], clocks: usize
 {
     let mut i = 0;
     while i < clocks {
-        let low = pair_within(section, at + 4 * i) as u16;
-        let high = pair_within(section, at + 4 * i + 2) as u16;
+        let low = pair_within(section, at + BOUND_SIZE * i) as u16;
+        let high = pair_within(section, at + BOUND_SIZE * i + 2) as u16;
         let ceiling = ceilings[i];
         if high < low {
             return false;
@@ -88,7 +92,7 @@ fn bounds_good(section: &[u8], at: usize, ceilings: [u16; CLOCKS], clocks: usize
             return false;
         }
         if ceiling <= high {
-            if high != 65535 {
+            if high != NO_UPPER_BOUND {
                 return false;
             }
         }
@@ -107,7 +111,7 @@ fn rule_refusal(section: &[u8], at: usize, shape: Shape, before: usize) -> u8
         return 6;
     }
     let ceilings = shape.ceilings;
-    if bounds_good(section, at + 7, ceilings, shape.clocks) {
+    if bounds_good(section, at + RULE_HEAD, ceilings, shape.clocks) {
         0
     } else {
         7
@@ -120,7 +124,7 @@ fn rules_refusal(section: &[u8], n: usize, shape: Shape) -> u8
     requires { ⌜ n * ruleSize (shape .clocks) ≤ length (now section) ⌝ }
     ensures { λ r. ⌜ r ≡ rulesRefusal (shape .inputs) (shape .outputs) (take (shape .clocks) (shape .ceilings)) (shape .locations) 0 (rulesFrom (shape .clocks) (now (section .entry)) 0 n) ⌝ }
 {
-    let size = 7 + 4 * shape.clocks;
+    let size = RULE_HEAD + BOUND_SIZE * shape.clocks;
     let mut at = 0;
     let mut before = 0;
     let mut i = 0;
@@ -141,7 +145,7 @@ pub(crate) fn rules_section_refusal(file: &[u8], at: usize, shape: Shape) -> u8
     ensures { λ r. ⌜ r ≡ rulesSectionRefusal (now (file .entry)) ⌝ }
 {
     let n = pair_at(file, at);
-    let size = 7 + 4 * shape.clocks;
+    let size = RULE_HEAD + BOUND_SIZE * shape.clocks;
     let r = section_refusal(file, at, 2, n, 0, RULES, size);
     if r != 0 {
         return r;
