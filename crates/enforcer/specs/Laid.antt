@@ -6,9 +6,10 @@ use mathlib.Core.Option.{Option, none, some}
 use Prim.Native.Nat.{ℕ, zero, suc, _+_, _-_, _*_, _^_, _≤_, _<_}
 use native.Mathlib.Nat.{add-zero, div-one, mod-one, pow-le-pow-right}
 use native.Mathlib.Omega.{arith}
-use lib.Dec.{eqb}
+use lib.Dec.{eqb, ltb}
 use lib.ListN.{length, getD, take, replicate, length-append}
 use lib.Seq.{append-snoc, take-at, getD-take, getD-append-add}
+use borrow.Author.Tests.{ltb-true, ltb-false}
 use Rattle.streams.specs.Stream.{Event}
 use Rattle.policy.specs.Rules.{Policy, Place, inputValues, outputValues, stopped, advance, tested, looked, step}
 use Rattle.policy.specs.File.{part, ruleSize, rulesFrom, rulesOf, ceilingsOf, clocksAt, clockCount, ruleCount, rulesStart, policyOf}
@@ -18,7 +19,7 @@ use Rattle.policy.specs.Number.{four, states, numberFrom, locationFrom, clocksF
 use Rattle.policy.specs.Numbered.{number-take, number-ceilings, location-ceilings, clocks-ceilings, clocks-length, numberOf-below}
 use Rattle.policy.specs.Sound.{WellFormed, Inside}
 use Rattle.policy.specs.Frame.{Framed, frame, inputs-length, outputs-length, pairs-length}
-use Rattle.policy.specs.Checked.{checked-file, well-sound}
+use Rattle.policy.specs.Checked.{checked-file, well-sound, well-ceiling}
 use Rattle.policy.specs.Stays.{Of, advance-take, step-inside}
 use Rattle.policy.specs.Parts.{rules-part}
 use Rattle.policy.specs.Own.{level, own, ownOf, level-own, own-ends, own-reads}
@@ -158,6 +159,19 @@ module _ {f : List ℕ} {l : Layout} (k : Laid f l) where
 
   laid-ceiling : (i : ℕ) → i < l .clocks → getD (l .ceilings) i 0 ≡ getD (policyOf (l .reading) f .ceilings) i 0
   laid-ceiling i g = sym (getD-take (l .clocks) (l .ceilings) i 0 g) ∙ ap (λ (cs : List ℕ). getD cs i 0) laid-ceilings
+
+  -- Locations and ceilings are within their limits, whatever the clock.
+  pub laid-locations : l .locations ≤ 64
+  laid-locations = omega (arith, k .locations, framed .locations)
+
+  pub laid-most : (i : ℕ) → getD (l .ceilings) i 0 ≤ 1001
+  laid-most i = go (ltb i (l .clocks)) refl
+    where
+      go : (t : Bool) → ltb i (l .clocks) ≡ t → getD (l .ceilings) i 0 ≤ 1001
+      go true e =
+          let h = ltb-true i (l .clocks) e in
+          omega (arith, laid-ceiling i h, well-ceiling (policyOf (l .reading) f) laid-well i (omega (arith, laid-clocks)) .1)
+      go false e = omega (arith, unused-ceiling i (ltb-false i (l .clocks) e))
 
   -- The rule section, as the part of the file between its ends, reads as the rules.
   pub laid-rules : rulesFrom (l .clocks) (part f (l .«rules_start») (l .«rules_end» - l .«rules_start»)) 0 (l .rules) ≡ rulesOf f

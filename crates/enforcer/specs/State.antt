@@ -26,8 +26,11 @@ clocksGood [] vs = all (eqb 0) vs
 clocksGood (c ∷ cs) [] = false
 clocksGood (c ∷ cs) (v ∷ vs) = leb v c && clocksGood cs vs
 
+abbrev pub inRange : ℕ → List ℕ → State → Bool
+inRange locations ceilings s = ltb (s .location) locations && clocksGood ceilings (s .clocks)
+
 unfoldable pub stateGood : Policy → State → Bool
-stateGood p s = ltb (s .location) (p .locations) && clocksGood (p .ceilings) (s .clocks)
+stateGood p s = inRange (p .locations) (p .ceilings) s
 
 -- "with the byte 1 standing for live"
 abbrev pub isMarked : List ℕ → ℕ → Bool

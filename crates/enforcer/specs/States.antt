@@ -1,13 +1,13 @@
 -- What the refusals up to 10 and 16 make sure of: the file's layout, a mark for each state, and a state in range; and that the first of them is the answer.
 use mathlib.Core.Path.{_≡_, refl, sym, ap, ap₂, _∙_}
-use mathlib.Core.Bool.{true, _&&_, and-eq-true-iff, false≢true}
+use mathlib.Core.Bool.{Bool, true, false, _&&_, and-eq-true-iff, false≢true}
 use mathlib.Core.List.{List, [], _∷_, _++_}
 use mathlib.Core.Logic.{_↔_}
 use mathlib.Core.Option.{Option}
-use Prim.Native.Nat.{ℕ, zero, suc, _+_, _-_, _≤_, zero-le}
+use Prim.Native.Nat.{ℕ, zero, suc, _+_, _-_, _≤_, _<_, zero-le}
 use native.Mathlib.Omega.{arith}
 use lib.Dec.{leb, ltb, eqb, leb·suc-zero, eqb·zero-suc}
-use lib.ListN.{length, getD, take, replicate}
+use lib.ListN.{length, getD, take, replicate, length-append, length-replicate, getD-replicate}
 use borrow.Author.Tests.{leb-true, ltb-true, le-leb, lt-ltb}
 use Rattle.streams.specs.Answer.{refused, _orElse_, unless}
 use Rattle.streams.specs.AnswerLaws.{none-refused, none-unless}
@@ -21,10 +21,10 @@ use Rattle.policy.specs.Layout.{checkedUnder}
 use Rattle.policy.specs.LayoutLaws.{under-says}
 use Rattle.policy.specs.declared.Layout.{Layout}
 use Rattle.policy.specs.declared.Checked.{Checked}
-use Rattle.enforcer.specs.State.{placeIn, stateOf, clocksGood, stateGood, isMarked}
+use Rattle.enforcer.specs.State.{placeIn, stateOf, clocksGood, inRange, stateGood, isMarked}
 use Rattle.enforcer.specs.Entries.{chosen, marksRefusal, stateRefusal}
 use Rattle.enforcer.specs.Ready.{Laid, Standing}
-use Rattle.enforcer.specs.Laid.{Numbered, stateNumber, laid-of, laid-well, laid-place, laid-number}
+use Rattle.enforcer.specs.Laid.{Numbered, stateNumber, laid-of, laid-well, laid-locations, laid-most, laid-place, laid-number}
 use Rattle.enforcer.specs.declared.state.State.{State}
 
 -- Of refusals in their order the answer is the first that is given.
@@ -97,6 +97,38 @@ pub laid-good : {f : List ℕ} {l : Layout} → Laid f l → (s : State) → len
 unfolding stateGood policyOf
 laid-good {f} k s e =
     rw (k .locations, k .ceilings, padded-good (ceilingsOf f) (s .clocks) (4 - length (ceilingsOf f)) (omega (arith, laid-well k .clocks)))
+
+-- Clock values in range are in range under greater ceilings.
+good-more : (cs ds vs : List ℕ) → length cs ≡ length ds → ((i : ℕ) → i < length cs → getD cs i 0 ≤ getD ds i 0) → clocksGood cs vs ≡ true →
+    clocksGood ds vs ≡ true
+unfolding clocksGood
+good-more [] [] vs l h e = e
+good-more [] (d ∷ ds) vs l h e = absurd (omega arith)
+good-more (c ∷ cs) [] vs l h e = absurd (omega arith)
+good-more (c ∷ cs) (d ∷ ds) [] l h e = absurd (false≢true e)
+good-more (c ∷ cs) (d ∷ ds) (v ∷ vs) l h e =
+    let k = and-eq-true-iff (leb v c) _ .0 e in
+    let a = leb-true v c (k .0) in
+    let b : c ≤ d = h 0 (omega arith) in
+    and-eq-true-iff (leb v d) _ .1 (le-leb v d (omega arith), good-more cs ds vs (omega arith) (λ i g. h (suc i) (omega arith)) (k .1))
+
+ceilings-four : {f : List ℕ} {l : Layout} → Laid f l → length (l .ceilings) ≡ 4
+unfolding policyOf
+ceilings-four {f} k = rw (k .ceilings) (simp (length-append, length-replicate) (omega (arith, laid-well k .clocks)))
+
+-- "Locations: 1 to 64", "a two-byte ceiling each, 1 to 1,001": no state is in range in a policy that is not within the state's own limits.
+pub own-limits : {f : List ℕ} {l : Layout} → Laid f l → (s : State) → length (s .clocks) ≡ 4 →
+    inRange 64 (replicate 4 1001) s ≡ false → stateGood (policyOf (l .reading) f) s ≡ false
+own-limits {f} {l} k s vs out = go (stateGood (policyOf (l .reading) f) s) refl
+  where
+    go : (t : Bool) → stateGood (policyOf (l .reading) f) s ≡ t → t ≡ false
+    go false e = refl
+    go true e =
+        let g = and-eq-true-iff (ltb (s .location) (l .locations)) _ .0 (sym (laid-good k s vs) ∙ e) in
+        let a = ltb-true (s .location) (l .locations) (g .0) in
+        let b = laid-locations k in
+        let c = good-more (l .ceilings) (replicate 4 1001) (s .clocks) (ceilings-four k) (λ i h. rw (getD-replicate {A = ℕ} 4 i 1001 0 (omega (arith, ceilings-four k))) (laid-most k i)) (g .1) in
+        absurd (false≢true (sym out ∙ and-eq-true-iff (ltb (s .location) 64) _ .1 (lt-ltb (s .location) 64 (omega arith), c)))
 
 -- A state that is not out of range has a number, by the layout, and its mark is the mark of the place.
 pub good-numbered : {f : List ℕ} {l : Layout} → Laid f l → (marks : List ℕ) (s : State) → stateGood (policyOf (l .reading) f) s ≡ true →

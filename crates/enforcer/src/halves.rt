@@ -47,24 +47,18 @@ pub fn marks_refusal(checked: Checked, marks: &[u8]) -> u8
     }
 }
 
-// The location and the clock values are in range. An unused clock has the ceiling 0.
+// The state is within its own limits, which no policy goes beyond, and in range in this policy, where an unused clock has the ceiling 0.
 fn state_good(file: &[u8], layout: Layout, state: State) -> bool
     requires { ⌜ Laid (now file) layout ⌝ }
     ensures { λ r. ⌜ r ≡ stateGood (policyOf (layout .reading) (now (file .entry))) state ⌝ }
 {
-    if layout.locations <= state.location as usize {
+    let most = State::limits();
+    let highest = [most.ceiling as u16; State::CLOCKS];
+    if !state.in_range(most.locations, highest) {
         return false;
     }
     let ceilings = layout.ceilings;
-    let clocks = state.clocks;
-    let mut i = 0;
-    while i < State::CLOCKS {
-        if ceilings[i] < clocks[i] {
-            return false;
-        }
-        i += 1;
-    }
-    true
+    state.in_range(layout.locations, ceilings)
 }
 
 // 16 where the state is not in range or not marked, else 0.
@@ -80,6 +74,7 @@ pub fn state_refusal(file: &[u8], layout: Layout, marks: &[u8], state: State) ->
     if marks[number] == 1 { 0 } else { 16 }
 }
 
+// The input that is passed to the controller. 22, 1 to 10, 16, 15, 17.
 pub fn input_half(reading: u8, file: &[u8], marks: &[u8], state: State, x: u8) -> HalfAnswer
     ensures { λ r. ⌜ InputPromise reading (now (file .entry)) (now (marks .entry)) state x r ⌝ }
 {
@@ -151,7 +146,7 @@ pub fn output_by(
 }
 
 impl State {
-    // The state takes the x that was passed to the controller and its answer y, and hands back the next state.
+    // The state takes the x that was passed to the controller and its answer y, and hands back the next state. 22, 1 to 10, 16, 15, 17.
     pub fn output(self, reading: u8, file: &[u8], marks: &[u8], x: u8, y: u8) -> Output
         ensures { λ r. ⌜ OutputPromise reading (now (file .entry)) (now (marks .entry)) self x y r ⌝ }
     {
