@@ -3,7 +3,7 @@ use crate::halves::HalfAnswer;
 use crate::state::State;
 ghost use Rattle.enforcer.specs.Promises.{OutputPromise};
 
-// The same in place: the lent state becomes the next one, and only the answer is handed back.
+// The same in place: the lent state becomes the next one, and only the answer is handed back. 22, 1 to 10, 16, 15, 17; with a refusal the state stays.
 pub fn output_half(
     state: &mut State,
     reading: u8,

@@ -1,4 +1,4 @@
-// The rule matcher, over the part of the file that the rules are.
+// The rule matcher. `first_rule` is handed the part of the file that a location's rules are; the bounds of one rule are read where it stands, in that part or in the file.
 use crate::state::State;
 use policy::bytes::byte_within;
 use policy::bytes::pair_within;

@@ -90,6 +90,7 @@ fn release(
     }
 }
 
+// 22, 1 to 10, 14, 16, then 15 for all events before the first is released, 17. Only 17 comes with events released, and the rest of the slice untouched.
 pub fn run(
     reading: u8,
     file: &[u8],

@@ -30,6 +30,7 @@ pub fn early_refusal(reading: u8, file: &[u8], checked: Checked, index: &[u16], 
     marks_refusal(checked, marks)
 }
 
+// 22, 1 to 9, 28, 10, 16, 15, 17.
 pub fn input_indexed(
     reading: u8,
     file: &[u8],
@@ -54,7 +55,7 @@ pub fn input_indexed(
     input_by(file, layout, own, marks, state, x)
 }
 
-// By value: the next state is handed back, and where it refuses the state it was given.
+// By value: the next state is handed back, and where it refuses the state it was given. 22, 1 to 9, 28, 10, 16, 15, 17.
 pub fn output_indexed(
     reading: u8,
     file: &[u8],

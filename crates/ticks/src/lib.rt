@@ -49,6 +49,7 @@ impl Milliseconds {
         }
     }
 
+    // 18 for a tick length of 0, then 19 for a count above 1,000.
     pub fn to_ticks(self, tick: Milliseconds, rounding: Rounding) -> Conversion
         ensures { λ r. ⌜ Converted self tick rounding r ⌝ }
     {
