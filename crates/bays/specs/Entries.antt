@@ -1,20 +1,26 @@
 -- What the entries of the bays answer, for any bytes, marks, list, bay and values.
 use mathlib.Core.Bool.{Bool, cond}
-use mathlib.Core.List.{List}
-use Prim.Native.Nat.{ℕ}
+use mathlib.Core.List.{List, [], _++_}
+use Prim.Native.Nat.{ℕ, zero, suc}
 use lib.Dec.{ltb}
-use lib.ListN.{length, replicate}
 use Rattle.streams.specs.Answer.{Answer, refused, _orElse_, unless}
 use Rattle.enforcer.specs.Entries.{OutputAnswer, marksRefusal, inputOf, outputOf}
+use Rattle.enforcer.specs.Code.{startState}
+use Rattle.bays.specs.Five.{stateWords}
 use Rattle.bays.specs.Bays.{bayCount, bayState, withState}
 
 -- "25 for a count of 0 or above 8, when the list is made"
 unfoldable pub newRefusal : List ℕ → ℕ
 newRefusal states = unless (ltb 0 (bayCount states)) 25
 
--- "making a new list starts every bay afresh": at location 0 with every clock 0, so every number is 0. A refusal writes nothing.
+-- The numbers of so many bays at the start.
+unfoldable pub started : ℕ → List ℕ
+started zero = []
+started (suc n) = started n ++ stateWords startState
+
+-- "making a new list starts every bay afresh". A refusal writes nothing.
 unfoldable pub newStates : List ℕ → List ℕ
-newStates states = cond (ltb 0 (bayCount states)) (replicate (length states) 0) states
+newStates states = cond (ltb 0 (bayCount states)) (started (bayCount states)) states
 
 -- What the output half answers, and what the list holds then.
 pub record BayAnswer : Type 0 where

@@ -3,11 +3,10 @@ use mathlib.Core.Path.{_≡_, refl, sym, ap, _∙_}
 use mathlib.Core.Bool.{Bool, true, false, cond}
 use mathlib.Core.List.{List}
 use mathlib.Core.Option.{Option, none, some, bind-eq-some-iff, Option·some-injective}
-use Prim.Native.Nat.{ℕ, zero, suc, _+_, _*_, _≤_, _<_}
+use Prim.Native.Nat.{ℕ, zero, suc, _≤_, _<_}
 use native.Mathlib.Omega.{arith}
 use lib.Dec.{ltb}
-use lib.ListN.{length, getD, replicate, drop, length-append, length-replicate, getD-replicate}
-use lib.Seq.{getD-take, getD-drop}
+use lib.ListN.{length, length-append, length-replicate}
 use borrow.Author.Tests.{ltb-true, ltb-false, lt-ltb}
 use Rattle.streams.specs.Answer.{Answer, refused, gives, unless}
 use Rattle.streams.specs.AnswerLaws.{none-refused}
@@ -24,9 +23,9 @@ use Rattle.enforcer.specs.Tick.{ReleasedTick, outputChoice, outputTick, moved}
 use Rattle.enforcer.specs.Entries.{OutputAnswer, chosen, outputFrom, marksRefusal, stateRefusal, inputOf, outputRefusal, outputOf}
 use Rattle.enforcer.specs.Code.{startState}
 use Rattle.bays.specs.Bays.{baysIn, bayCount, numbersOf, bayState, withState}
-use Rattle.bays.specs.Entries.{BayAnswer, newRefusal, newStates, noBay, bayInputOf, bayOutputOf}
+use Rattle.bays.specs.Entries.{BayAnswer, newRefusal, started, newStates, noBay, bayInputOf, bayOutputOf}
 use Rattle.bays.specs.Promises.{NewPromise}
-use Rattle.bays.specs.Parts.{fits, with-same, with-length, with-state, with-other}
+use Rattle.bays.specs.Parts.{fits, with-same, with-length, with-state, with-other, started-length, started-bay, five-each}
 use Rattle.bays.specs.There.{input-there, output-there, input-none, output-none}
 use Rattle.enforcer.specs.declared.state.State.{State}
 
@@ -173,22 +172,15 @@ module _ (reading : ℕ) (file marks states : List ℕ) (bay x y : ℕ) where
 -- "making a new list starts every bay afresh": every bay of it is at the start.
 pub afresh : (states : List ℕ) (bay : ℕ) → bay < bayCount states → bayState (newStates states) bay ≡ startState
 unfolding newStates
-afresh states bay is =
-    let k = fits (length states) bay is .0 in
-    let e = lt-ltb 0 (bayCount states) (omega arith) in
-    let at : (i : ℕ) → i < 5 → getD (numbersOf (replicate (length states) 0) bay) i 0 ≡ 0 =
-    λ i h. getD-take 5 (drop (bay * 5) (replicate (length states) 0)) i 0 h ∙ getD-drop (bay * 5) (replicate (length states) 0) i 0
-    ∙ getD-replicate (length states) (bay * 5 + i) 0 0 (omega arith)
-    in
-    rw e (rw (at 0 (omega arith), at 1 (omega arith), at 2 (omega arith), at 3 (omega arith), at 4 (omega arith)))
+afresh states bay is = rw (lt-ltb 0 (bayCount states) (omega arith), started-bay (bayCount states) bay is)
 
 pub afresh-count : (states : List ℕ) → bayCount (newStates states) ≡ bayCount states
 unfolding newStates
-afresh-count states = go (ltb 0 (bayCount states))
+afresh-count states = go (ltb 0 (bayCount states)) refl
   where
-    go : (t : Bool) → bayCount (cond t (replicate (length states) 0) states) ≡ bayCount states
-    go true = ap baysIn (length-replicate (length states) 0)
-    go false = refl
+    go : (t : Bool) → ltb 0 (bayCount states) ≡ t → bayCount (cond t (started (bayCount states)) states) ≡ bayCount states
+    go true e = ap baysIn (started-length (bayCount states) ∙ five-each (length states) (ltb-true 0 (bayCount states) e))
+    go false e = refl
 
 -- A list that is not refused has a bay.
 pub made : {before after : List ℕ} → NewPromise before 0 after → 0 < bayCount before

@@ -2,14 +2,16 @@
 use mathlib.Core.Path.{_≡_, refl, sym, ap, ap₂, _∙_}
 use mathlib.Core.Bool.{Bool, true, false, cond, _&&_, and-eq-true-iff}
 use mathlib.Core.List.{List, _++_, append-assoc}
-use Prim.Native.Nat.{ℕ, _+_, _-_, _*_, _/_, _%_, _≤_, _<_}
+use Prim.Native.Nat.{ℕ, zero, suc, _+_, _-_, _*_, _/_, _%_, _≤_, _<_}
 use native.Mathlib.Omega.{arith}
 use lib.Dec.{leb, ltb, eqb}
 use lib.ListN.{length, getD, take, drop, length-append, length-drop, take-append-drop}
 use lib.Seq.{length-take-le, take-at, drop-at, take-append-le, drop-append-le, drop-append-add, drop-drop, getD-take, getD-drop, ext-getD}
 use borrow.Author.Tests.{ltb-true, ltb-false, leb-true, eqb-true}
+use Rattle.enforcer.specs.Code.{startState}
 use Rattle.bays.specs.Five.{stateWords, words-back, words-in}
 use Rattle.bays.specs.Bays.{baysIn, numbersOf, bayState, withState}
+use Rattle.bays.specs.Entries.{started}
 use Rattle.enforcer.specs.declared.state.State.{State}
 
 -- A bay below the count has its five numbers, and the list is five for each bay.
@@ -114,3 +116,36 @@ pub same-list :
     (a b : List ℕ) → length a ≡ length b → length a % 5 ≡ 0 → ((bay : ℕ) → bay * 5 + 5 ≤ length a → numbersOf a bay ≡ numbersOf b bay) → a ≡ b
 same-list a b l m f =
     ext-getD 0 a b l (λ i h. at a i ∙ ap (λ (z : List ℕ). getD z (i % 5) 0) (f (i / 5) (omega arith)) ∙ sym (at b i))
+
+-- A list with every bay at the start: five numbers a bay, and each bay has the start's.
+pub started-length : (n : ℕ) → length (started n) ≡ n * 5
+unfolding started
+started-length zero = refl
+started-length (suc n) = length-append (started n) (stateWords startState) ∙ omega (arith, started-length n)
+
+pub started-bay : (n bay : ℕ) → bay < n → numbersOf (started n) bay ≡ stateWords startState
+unfolding started
+started-bay zero bay h = absurd (omega arith)
+started-bay (suc n) bay h = go (started-bay n bay) (ltb bay n) refl
+  where
+    go : (bay < n → numbersOf (started n) bay ≡ stateWords startState) → (t : Bool) → ltb bay n ≡ t →
+        numbersOf (started n ++ stateWords startState) bay ≡ stateWords startState
+    go f true e =
+        let l = ltb-true bay n e in
+        front (started n) (stateWords startState) bay (omega (arith, started-length n)) ∙ f l
+    go f false e =
+        let l = ltb-false bay n e in
+        let here : bay ≡ n = omega arith in
+        rw here (ap (take 5) (drop-at (started n) (stateWords startState) (n * 5) (started-length n)))
+
+-- The numbers of a list that has bays are five for each of them.
+pub five-each : (n : ℕ) → 0 < baysIn n → baysIn n * 5 ≡ n
+unfolding baysIn
+five-each n = go (eqb (n % 5) 0 && leb n 40) refl
+  where
+    go : (t : Bool) → (eqb (n % 5) 0 && leb n 40) ≡ t → 0 < cond t (n / 5) 0 → cond t (n / 5) 0 * 5 ≡ n
+    go true e h =
+        let k = and-eq-true-iff (eqb (n % 5) 0) (leb n 40) .0 e in
+        let z = eqb-true (n % 5) 0 (k .0) in
+        omega arith
+    go false e h = absurd (omega arith)

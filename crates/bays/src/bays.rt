@@ -1,5 +1,5 @@
 // A new list, and the two halves of a bay's tick.
-use crate::five::NUMBERS;
+use crate::five::STATE_NUMBERS;
 use crate::five::put_state;
 use crate::five::state_of;
 use enforcer::HalfAnswer;
@@ -7,10 +7,9 @@ use enforcer::State;
 use enforcer::input_half;
 use enforcer::marks_refusal;
 ghost use mathlib.Core.Path.{_≡_};
-ghost use Prim.Native.Nat.{_≤_, _<_};
-ghost use lib.ListN.{length, replicate};
+ghost use Prim.Native.Nat.{_<_};
 ghost use Rattle.bays.specs.Bays.{baysIn, bayCount, bayState, withState};
-ghost use Rattle.bays.specs.Entries.{noBay};
+ghost use Rattle.bays.specs.Entries.{started, noBay};
 ghost use Rattle.bays.specs.Promises.{NewPromise, BayInputPromise, BayOutputPromise};
 
 // How many bays a list has at the most.
@@ -20,35 +19,13 @@ const BAYS: usize = 8;
 fn bays_in(numbers: usize) -> usize
     ensures { λ r. ⌜ r ≡ baysIn numbers ⌝ }
 {
-    if numbers % NUMBERS != 0 {
+    if numbers % STATE_NUMBERS != 0 {
         return 0;
     }
-    if BAYS * NUMBERS < numbers {
+    if BAYS * STATE_NUMBERS < numbers {
         return 0;
     }
-    numbers / NUMBERS
-}
-
-fn clear(states: &mut [u16])
-    requires { ⌜ length (now states) ≤ 40 ⌝ }
-    ensures { λ _. ⌜ now (states .exit) ≡ replicate (length (now (states .entry))) 0 ⌝ }
-{
-    let mut i = 0;
-    while i < states.len() {
-        states[i] = 0;
-        i += 1;
-    }
-}
-
-// Every bay is at the start, or 25 is refused: the start state is five zeros.
-pub fn bays_new(states: &mut [u16]) -> u8
-    ensures { λ r. ⌜ NewPromise (now (states .entry)) r (now (states .exit)) ⌝ }
-{
-    if bays_in(states.len()) == 0 {
-        return 25;
-    }
-    clear(states);
-    0
+    numbers / STATE_NUMBERS
 }
 
 // What is refused where there is no such bay: 22 and 1 to 10, then 24.
@@ -64,8 +41,8 @@ fn bay_state(states: &[u16], bay: usize) -> State
     requires { ⌜ bay < bayCount (now states) ⌝ }
     ensures { λ r. ⌜ r ≡ bayState (now (states .entry)) bay ⌝ }
 {
-    let from = bay * NUMBERS;
-    let to = from + NUMBERS;
+    let from = bay * STATE_NUMBERS;
+    let to = from + STATE_NUMBERS;
     state_of(&states[from..to])
 }
 
@@ -74,11 +51,36 @@ fn put_bay(states: &mut [u16], bay: usize, next: State)
     requires { ⌜ bay < bayCount (now states) ⌝ }
     ensures { λ _. ⌜ now (states .exit) ≡ withState (now (states .entry)) bay next ⌝ }
 {
-    let start = bay * NUMBERS;
-    let end = start + NUMBERS;
+    let start = bay * STATE_NUMBERS;
+    let end = start + STATE_NUMBERS;
     put_state(&mut states[start..end], next);
 }
 
+// Every bay of the list is at the start.
+fn start_all(states: &mut [u16], bays: usize)
+    requires { ⌜ (0 < bays) × (bays ≡ bayCount (now states)) ⌝ }
+    ensures { λ _. ⌜ now (states .exit) ≡ started bays ⌝ }
+{
+    let mut bay = 0;
+    while bay < bays {
+        put_bay(states, bay, State::start());
+        bay += 1;
+    }
+}
+
+// A new list: every bay is at the start, or 25 is refused and nothing is written.
+pub fn bays_new(states: &mut [u16]) -> u8
+    ensures { λ r. ⌜ NewPromise (now (states .entry)) r (now (states .exit)) ⌝ }
+{
+    let bays = bays_in(states.len());
+    if bays == 0 {
+        return 25;
+    }
+    start_all(states, bays);
+    0
+}
+
+// 22, 1 to 10, 24, 16, 15, 17.
 pub fn bay_input(
     reading: u8,
     file: &[u8],
@@ -95,6 +97,7 @@ pub fn bay_input(
     input_half(reading, file, marks, bay_state(states, bay), x)
 }
 
+// 22, 1 to 10, 24, 16, 15, 17. With a refusal the list stays as it was.
 pub fn bay_output(
     reading: u8,
     file: &[u8],

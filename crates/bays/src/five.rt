@@ -7,7 +7,7 @@ ghost use Rattle.bays.specs.Five.{stateIn, stateWords};
 ghost use Rattle.bays.specs.Odd.{oddRefusal};
 
 // How many numbers a state is.
-pub const NUMBERS: usize = State::CLOCKS + 1;
+pub const STATE_NUMBERS: usize = State::CLOCKS + 1;
 
 // What is refused where the numbers are too many or too few: 22 and 1 to 10 come first, then 14 where there is no room for what is to be written.
 pub fn odd_refusal(reading: u8, file: &[u8], marks: &[u8], room: bool) -> u8

@@ -10,7 +10,7 @@ mod why_call;
 pub use bay_calls::groovepawn_bay_input;
 pub use bay_calls::groovepawn_bay_output;
 pub use bay_calls::groovepawn_bays_new;
-use bays::five::NUMBERS;
+use bays::five::STATE_NUMBERS;
 use bays::five::odd_refusal;
 use bays::five::put_state;
 use bays::five::state_of;
@@ -98,7 +98,7 @@ pub extern "C" fn groovepawn_input(
 ) -> u32
     ensures { λ r. ⌜ InputCall reading (now (file .entry)) (now (marks .entry)) (now (state .entry)) x r ⌝ }
 {
-    if state.len() != NUMBERS {
+    if state.len() != STATE_NUMBERS {
         return odd_refusal(reading, file, marks, true) as u32;
     }
     answer_word(input_half(reading, file, marks, state_of(state), x))
@@ -115,7 +115,7 @@ pub extern "C" fn groovepawn_output(
 ) -> u32
     ensures { λ r. ⌜ OutputCall reading (now (file .entry)) (now (marks .entry)) (now (state .entry)) x y r (now (state .exit)) ⌝ }
 {
-    if state.len() != NUMBERS {
+    if state.len() != STATE_NUMBERS {
         return odd_refusal(reading, file, marks, true) as u32;
     }
     let given = state_of(state);
@@ -137,7 +137,7 @@ pub extern "C" fn groovepawn_run(
 ) -> u64
     ensures { λ r. ⌜ RunCall reading (now (file .entry)) (now (marks .entry)) (now (state .entry)) (now (events .entry)) (now (released .entry)) r (now (state .exit)) (now (released .exit)) ⌝ }
 {
-    if state.len() != NUMBERS {
+    if state.len() != STATE_NUMBERS {
         return odd_refusal(reading, file, marks, events.len() <= released.len()) as u64;
     }
     let given = state_of(state);
@@ -182,7 +182,7 @@ pub extern "C" fn groovepawn_input_indexed(
 ) -> u32
     ensures { λ r. ⌜ InputIndexedCall reading (now (file .entry)) (now (index .entry)) (now (marks .entry)) (now (state .entry)) x r ⌝ }
 {
-    if state.len() != NUMBERS {
+    if state.len() != STATE_NUMBERS {
         return odd_indexed(reading, file, index, marks) as u32;
     }
     answer_word(input_indexed(reading, file, index, marks, state_of(state), x))
@@ -200,7 +200,7 @@ pub extern "C" fn groovepawn_output_indexed(
 ) -> u32
     ensures { λ r. ⌜ OutputIndexedCall reading (now (file .entry)) (now (index .entry)) (now (marks .entry)) (now (state .entry)) x y r (now (state .exit)) ⌝ }
 {
-    if state.len() != NUMBERS {
+    if state.len() != STATE_NUMBERS {
         return odd_indexed(reading, file, index, marks) as u32;
     }
     let given = state_of(state);

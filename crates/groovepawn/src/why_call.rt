@@ -1,5 +1,5 @@
 // Reasons for a controller in C.
-use bays::five::NUMBERS;
+use bays::five::STATE_NUMBERS;
 use bays::five::odd_refusal;
 use bays::five::state_of;
 use reasons::why;
@@ -17,7 +17,7 @@ pub extern "C" fn groovepawn_why(
 ) -> u64
     ensures { λ r. ⌜ WhyCall reading (now (file .entry)) (now (marks .entry)) (now (state .entry)) x y r ⌝ }
 {
-    if state.len() != NUMBERS {
+    if state.len() != STATE_NUMBERS {
         return odd_refusal(reading, file, marks, true) as u64;
     }
     word(why(reading, file, marks, state_of(state), x, y))

@@ -1,5 +1,5 @@
 // A station with a meter as six numbers: a state, and the register as last accepted. The totals are two: billed and unbilled.
-use bays::five::NUMBERS;
+use bays::five::STATE_NUMBERS;
 use bays::five::put_state;
 use bays::five::state_of;
 use enforcer::State;
@@ -12,9 +12,9 @@ ghost use lib.ListN.{length};
 ghost use Rattle.meter.specs.Meter.{stationState, stationWords, pulsesOf, fits, risen};
 
 // Where the last register stands: after the state.
-pub(crate) const LAST: usize = NUMBERS;
+pub(crate) const LAST: usize = STATE_NUMBERS;
 
-pub(crate) const STATION: usize = NUMBERS + 1;
+pub(crate) const STATION: usize = STATE_NUMBERS + 1;
 
 pub(crate) const TOTALS: usize = 2;
 
@@ -25,7 +25,7 @@ pub(crate) fn station_state(station: &[u16]) -> State
     requires { ⌜ length (now station) ≡ 6 ⌝ }
     ensures { λ r. ⌜ r ≡ stationState (now (station .entry)) ⌝ }
 {
-    state_of(&station[..NUMBERS])
+    state_of(&station[..STATE_NUMBERS])
 }
 
 pub(crate) fn put_station(station: &mut [u16], next: State, register: u16)
@@ -33,7 +33,7 @@ pub(crate) fn put_station(station: &mut [u16], next: State, register: u16)
     ensures { λ _. ⌜ now (station .exit) ≡ stationWords next register ⌝ }
 {
     station[LAST] = register;
-    put_state(&mut station[..NUMBERS], next);
+    put_state(&mut station[..STATE_NUMBERS], next);
 }
 
 pub(crate) fn clear_totals(totals: &mut [u32])

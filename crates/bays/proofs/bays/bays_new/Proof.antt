@@ -1,12 +1,11 @@
 -- `bays::bays::bays_new` meets its contract.
-use Prim.Native.Nat.{_<_}
+use mathlib.Core.Path.{ap, _∙_}
 use native.Mathlib.Omega.{arith}
 use lib.ListN.{length}
 use denote.Ref.{now}
 use borrow.Author.Tests.{lt-ltb, le-ltb}
 use Rattle.bays.specs.Bays.{baysIn}
-use Rattle.bays.specs.Entries.{newRefusal, newStates}
-use Rattle.bays.specs.Parts.{fits}
+use Rattle.bays.specs.Entries.{started, newRefusal, newStates}
 use borrow.Author.Needs.{needs}
 use Rattle.bays.proofs.bays.bays_new.Statement.{statement}
 use Rattle.bays.proofs.bays.bays_new.Tie as tie
@@ -21,12 +20,8 @@ returns c =
     let e = le-ltb 0 n (omega (arith, c .before .bays-in .ensures, c .if1 .taken)) in
     record { said = rw e; states = rw e }
 
--- the list has a bay
-some : (c : tie.Else1) → 0 < baysIn (length (now (c .before .before .before .args .states)))
-some c = omega (arith, c .before .bays-in .ensures, c .if1 .left)
-
-clear-requires : tie.Need-clear-requires
-clear-requires c κs = fits (length (now (c .before .before .before .before .args .states))) 0 (some (c .before)) .1
+start-all-requires : tie.Need-start-all-requires
+start-all-requires c κs = (omega (arith, c .before .if1 .left), c .before .before .bays-in .ensures)
 
 same-length : tie.Need-same-length
 same-length c = search needs
@@ -35,8 +30,9 @@ returns-2 : tie.Need-returns-2
 unfolding newRefusal newStates
 returns-2 c =
     let d = c .before .before .before .before in
-    let e = lt-ltb 0 (baysIn (length (now (d .before .before .before .args .states)))) (some d) in
-    record { said = rw e; states = rw e (c .before .before .clear .ensures) }
+    let n = baysIn (length (now (d .before .before .before .args .states))) in
+    let e = lt-ltb 0 n (omega (arith, d .before .bays-in .ensures, d .if1 .left)) in
+    record { said = rw e; states = rw e (c .before .before .start-all .ensures ∙ ap started (d .before .bays-in .ensures)) }
 
 pub bays-new-spec : {M : Type 1} → statement M
-bays-new-spec = tie.close (tie.spec bays-in-requires returns clear-requires same-length returns-2)
+bays-new-spec = tie.close (tie.spec bays-in-requires returns start-all-requires same-length returns-2)
