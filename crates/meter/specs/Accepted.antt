@@ -2,23 +2,23 @@
 -- total.
 use mathlib.Core.Path.{_≡_, refl, sym, ap, _∙_}
 use mathlib.Core.Bool.{Bool, true, false, cond, _&&_}
-use mathlib.Core.List.{List, [], _∷_}
+use mathlib.Core.List.{List, _∷_}
 use Prim.Native.Nat.{ℕ, zero, suc}
 use native.Mathlib.Omega.{arith}
-use lib.ListN.{length}
+use lib.ListN.{length, drop}
 use lib.Seq.{take-at}
 use Rattle.streams.specs.Answer.{Answer, refused, gives}
 use Rattle.enforcer.specs.Entries.{OutputAnswer, inputOf, outputOf}
 use Rattle.bays.specs.Five.{stateWords, stateIn, words-in}
 use Rattle.bays.specs.Halves.{output-four}
 use Rattle.bays.specs.Odd.{oddRefusal}
-use Rattle.meter.specs.Meter.{isStation, areTotals, stationState, lastReading, stationWords, pulsesOf, withPulse, isOn, risen, fits}
+use Rattle.meter.specs.Meter.{isStation, areTotals, stationState, lastReading, withStation, pulsesOf, withPulse, isOn, risen, fits}
 use Rattle.meter.specs.Entries.{MeterAnswer, kept, settled, metered, past, meterRefusal, weightP, weightD, meterInputOf, meterOutputOf}
 use Rattle.enforcer.specs.declared.state.State.{State}
 
 -- The state in a station's numbers is the one that was put there.
-pub station-back : (s : State) (register : ℕ) → length (s .clocks) ≡ 4 → stationState (stationWords s register) ≡ s
-station-back s register e = ap stateIn (take-at (stateWords s) (register ∷ []) 5 (omega arith)) ∙ words-in s e
+pub station-back : (station : List ℕ) (s : State) (register : ℕ) → length (s .clocks) ≡ 4 → stationState (withStation station s register) ≡ s
+station-back station s register e = ap stateIn (take-at (stateWords s) (register ∷ drop 6 station) 5 (omega arith)) ∙ words-in s e
 
 not-given : {n y : ℕ} → _≡_ {A = Answer ℕ} (refused n) (gives y) → ⊥
 not-given e = let z : _≡_ {A = ℕ} 0 1 = cc in omega arith
@@ -48,7 +48,7 @@ module _ (reading : ℕ) (file marks station : List ℕ) where
 
     pub record Accepted (z : ℕ) (a : MeterAnswer) : Type 0 where
       pub released : half .answer ≡ gives z
-      pub next : a .station ≡ stationWords (half .state) register
+      pub next : a .station ≡ withStation station (half .state) register
       pub sums : a .totals ≡ risen totals (isOn (weightD reading file) z) (pulsesOf register (lastReading station))
       pub room : fits totals (isOn (weightD reading file) z) (pulsesOf register (lastReading station)) ≡ true
 
@@ -64,7 +64,7 @@ module _ (reading : ℕ) (file marks station : List ℕ) where
         last : (y : ℕ) → half .answer ≡ gives y → (t : Bool) → fits totals (isOn (weightD reading file) y) n ≡ t →
             let a =
             cond t
-            (record { answer = gives y; station = stationWords (half .state) register; totals = risen totals (isOn (weightD reading file) y) n })
+            (record { answer = gives y; station = withStation station (half .state) register; totals = risen totals (isOn (weightD reading file) y) n })
             (kept station totals 27)
             in
             a .answer ≡ gives z → Accepted z a
@@ -85,7 +85,7 @@ module _ (reading : ℕ) (file marks station : List ℕ) where
 
         second : (t : Bool) →
             let a =
-            cond t (metered station totals register (weightD reading file) (half .state) (half .answer)) (kept station totals (oddRefusal reading file marks (areTotals totals)))
+            cond t (metered station totals register (weightD reading file) (half .state) (half .answer)) (kept station totals (oddRefusal reading file marks false))
             in
             a .answer ≡ gives z → Accepted z a
         second true e = third (half .answer) refl e
@@ -95,7 +95,7 @@ module _ (reading : ℕ) (file marks station : List ℕ) where
             let a =
             past m (kept station totals)
             (cond (isStation station && areTotals totals) (metered station totals register (weightD reading file) (half .state) (half .answer))
-            (kept station totals (oddRefusal reading file marks (areTotals totals))))
+            (kept station totals (oddRefusal reading file marks false)))
             in
             a .answer ≡ gives z → Accepted z a
         first zero e = second (isStation station && areTotals totals) e
@@ -104,4 +104,4 @@ module _ (reading : ℕ) (file marks station : List ℕ) where
     -- The state after it is the one that the output half handed back.
     pub accepted-state : {z : ℕ} {a : MeterAnswer} → Accepted z a → stationState (a .station) ≡ half .state
     accepted-state h =
-        ap stationState (h .next) ∙ station-back (half .state) register (output-four reading file marks (stationState station) x y refl)
+        ap stationState (h .next) ∙ station-back station (half .state) register (output-four reading file marks (stationState station) x y refl)

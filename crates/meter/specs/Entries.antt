@@ -1,26 +1,28 @@
 -- What the entries of the meter answer, for any bytes, marks, numbers and values, and what the lent slices hold then. Of the library they name its
 -- entries' answers, `inputOf` and `outputOf`, and what comes before 26 and before 14 in the order; what these are made of is not asked.
-use mathlib.Core.Bool.{Bool, true, cond, _&&_}
-use mathlib.Core.List.{List, [], _∷_}
+use mathlib.Core.Bool.{Bool, true, false, cond, _&&_}
+use mathlib.Core.List.{List, _∷_}
 use Prim.Native.Nat.{ℕ, zero, suc}
+use lib.ListN.{drop}
 use Rattle.streams.specs.Answer.{Answer, refused, gives, _orElse_, unless}
 use Rattle.policy.specs.File.{policyOf}
 use Rattle.policy.specs.Check.{refusalUnder, among}
+use Rattle.policy.specs.Signals.{weightOf}
 use Rattle.enforcer.specs.Entries.{inputOf, outputOf}
 use Rattle.enforcer.specs.Code.{startState}
 use Rattle.bays.specs.Odd.{oddRefusal}
-use Rattle.meter.specs.Meter.{isStation, areTotals, stationState, lastReading, stationWords, pulsesOf, weightOf, withPulse, isOn, risen, fits}
+use Rattle.meter.specs.Meter.{isStation, areTotals, stationState, lastReading, withStation, pulsesOf, withPulse, isOn, risen, fits}
 use Rattle.enforcer.specs.declared.state.State.{State}
 
--- "The first reading is given when the totals are set up, both at 0." 14 for other lengths, and nothing is written.
+-- "The first reading is given when the totals are set up, both at 0." 14: "the slice to be written is too short", and nothing is written.
 unfoldable pub newRefusal : List ℕ → List ℕ → ℕ
 newRefusal station totals = unless (isStation station && areTotals totals) 14
 
 unfoldable pub newStation : List ℕ → List ℕ → ℕ → List ℕ
-newStation station totals register = cond (isStation station && areTotals totals) (stationWords startState register) station
+newStation station totals register = cond (isStation station && areTotals totals) (withStation station startState register) station
 
 unfoldable pub newTotals : List ℕ → List ℕ → List ℕ
-newTotals station totals = cond (isStation station && areTotals totals) (0 ∷ 0 ∷ []) totals
+newTotals station totals = cond (isStation station && areTotals totals) (0 ∷ 0 ∷ drop 2 totals) totals
 
 -- What the second half answers, and what the station and the totals are then.
 pub record MeterAnswer : Type 0 where
@@ -37,7 +39,7 @@ kept station totals n = record { answer = refused n; station = station; totals =
 unfoldable pub settled : (station totals : List ℕ) → State → (register : ℕ) → (on : Bool) → (y : ℕ) → MeterAnswer
 settled station totals s register on y =
     cond (fits totals on (pulsesOf register (lastReading station)))
-    (record { answer = gives y; station = stationWords s register; totals = risen totals on (pulsesOf register (lastReading station)) })
+    (record { answer = gives y; station = withStation station s register; totals = risen totals on (pulsesOf register (lastReading station)) })
     (kept station totals 27)
 
 -- What follows from what the output half answers. D is looked for in the output that it released.
@@ -70,7 +72,7 @@ module _ (reading : ℕ) (file : List ℕ) where
 
   module _ (marks : List ℕ) where
     module _ (station : List ℕ) where
-      -- The first half: P is set or cleared in x, and then it is the input half. It changes nothing. Numbers that are not six are no station: 16 in its
+      -- The first half: P is set or cleared in x, and then it is the input half. It changes nothing. Fewer than six numbers are no station: 16 in its
       -- place in the order.
       unfoldable pub meterInputOf : ℕ → ℕ → Answer ℕ
       meterInputOf register x =
@@ -79,10 +81,10 @@ module _ (reading : ℕ) (file : List ℕ) where
           (inputOf reading file marks (stationState station) (withPulse weightP (pulsesOf register (lastReading station)) x))
           (refused (oddRefusal reading file marks true)))
 
-      -- The second half: the output half, and then the pulses. 14 for totals that are not two comes before 16.
+      -- The second half: the output half, and then the pulses. It writes both slices: 14 where one of them is too short, in its place in the order.
       unfoldable pub meterOutputOf : List ℕ → ℕ → ℕ → ℕ → MeterAnswer
       meterOutputOf totals register x y =
           past meterRefusal (kept station totals)
           (cond (isStation station && areTotals totals)
           (let o = outputOf reading file marks (stationState station) x y in metered station totals register weightD (o .state) (o .answer))
-          (kept station totals (oddRefusal reading file marks (areTotals totals))))
+          (kept station totals (oddRefusal reading file marks false)))

@@ -1,19 +1,19 @@
 -- "Each tick brings the meter's 16-bit register." A station with a meter is six numbers, its state and the last accepted reading; its totals are two,
--- the billed one and the unbilled one.
+-- the billed one and the unbilled one. The slices may be longer: what stands past them stays.
 use mathlib.Core.Bool.{Bool, cond, not}
-use mathlib.Core.List.{List, [], _∷_, _++_}
-use Prim.Native.Nat.{ℕ, _+_, _-_, _*_, _%_}
+use mathlib.Core.List.{List, _∷_, _++_}
+use Prim.Native.Nat.{ℕ, _+_, _-_, _%_}
 use lib.Dec.{leb, eqb}
 use lib.Bits.{bitAnd, bitOr}
-use lib.ListN.{length, getD, take}
+use lib.ListN.{length, getD, take, drop}
 use Rattle.bays.specs.Five.{stateWords, stateIn}
 use Rattle.enforcer.specs.declared.state.State.{State}
 
 abbrev pub isStation : List ℕ → Bool
-isStation station = eqb (length station) 6
+isStation station = leb 6 (length station)
 
 abbrev pub areTotals : List ℕ → Bool
-areTotals totals = eqb (length totals) 2
+areTotals totals = leb 2 (length totals)
 
 abbrev pub stationState : List ℕ → State
 stationState station = stateIn (take 5 station)
@@ -21,8 +21,9 @@ stationState station = stateIn (take 5 station)
 abbrev pub lastReading : List ℕ → ℕ
 lastReading station = getD station 5 0
 
-abbrev pub stationWords : State → ℕ → List ℕ
-stationWords s register = stateWords s ++ (register ∷ [])
+-- The slice with this state and reading.
+abbrev pub withStation : List ℕ → State → ℕ → List ℕ
+withStation station s register = stateWords s ++ (register ∷ drop 6 station)
 
 abbrev pub billed : List ℕ → ℕ
 billed totals = getD totals 0 0
@@ -33,11 +34,6 @@ unbilled totals = getD totals 1 0
 -- "The pulses of a tick are this reading less the last, modulo 65,536".
 unfoldable pub pulsesOf : ℕ → ℕ → ℕ
 pulsesOf register last = (register + (65536 - last)) % 65536
-
--- What the signal with this tag adds to a value: "Bit 0 is the first signal". 0 where no signal has the tag.
-unfoldable pub weightOf : ℕ → List ℕ → ℕ
-weightOf tag [] = 0
-weightOf tag (t ∷ ts) = cond (eqb t tag) 1 (2 * weightOf tag ts)
 
 -- "Input tag P is set, before the input half, exactly when pulses is not 0": so it is cleared where there are none, whatever x had there. The other bits
 -- of x stay.
@@ -50,7 +46,7 @@ isOn weight value = not (eqb (bitAnd value weight) 0)
 
 -- "The billed total rises by the pulses whenever the released output with tag D is on; the others go into an unbilled total."
 unfoldable pub risen : List ℕ → Bool → ℕ → List ℕ
-risen totals on n = cond on ((billed totals + n) ∷ unbilled totals ∷ []) (billed totals ∷ (unbilled totals + n) ∷ [])
+risen totals on n = cond on ((billed totals + n) ∷ unbilled totals ∷ drop 2 totals) (billed totals ∷ (unbilled totals + n) ∷ drop 2 totals)
 
 -- No "total would pass 4,294,967,295".
 unfoldable pub fits : List ℕ → Bool → ℕ → Bool

@@ -2,46 +2,46 @@
 -- other bit is as it was read.
 use mathlib.Core.Path.{_≡_, refl, sym, ap, subst, _∙_}
 use mathlib.Core.Bool.{Bool, true, false, cond, not, _&&_, and-eq-true-iff, false≢true}
-use mathlib.Core.List.{List, [], _∷_}
-use Prim.Native.Nat.{ℕ, zero, suc, _-_, _*_, _^_, _<_}
-use native.Mathlib.Nat.{mul-comm, pow-suc}
+use mathlib.Core.List.{List}
+use Prim.Native.Nat.{ℕ, zero, suc, _-_, _^_, _<_}
 use native.Mathlib.Omega.{arith}
 use lib.Dec.{eqb}
 use lib.Bits.{bitAnd, bitOr}
-use lib.ListN.{length}
-use borrow.Author.Tests.{eqb-true}
+use borrow.Author.Tests.{eqb-true, eqb-false, not-true}
 use Rattle.streams.specs.AnswerLaws.{none-refused, none-unless}
 use Rattle.policy.specs.File.{policyOf}
-use Rattle.policy.specs.Check.{refusalUnder, all, among}
+use Rattle.policy.specs.Check.{refusalUnder, among}
 use Rattle.policy.specs.CheckLaws.{under-none}
-use Rattle.policy.specs.Checked.{all-at, checked-file}
-use Rattle.resting.specs.Table.{tab}
-use Rattle.resting.specs.Marks.{length-tab, getD-tab}
-use Rattle.meter.specs.Meter.{weightOf, withPulse, isOn}
+use Rattle.policy.specs.Checked.{checked-file}
+use Rattle.policy.specs.Signals.{weight-none, weight-bit}
+use Rattle.meter.specs.Meter.{withPulse, isOn}
 use Rattle.meter.specs.Entries.{tagP, tagD, meterRefusal, weightP}
-use Rattle.meter.specs.Signals.{weight-none}
 
 pub record PulseSet (weight pulses x z : ℕ) : Type 0 where
   pub own : isOn weight z ≡ not (eqb pulses 0)
   pub others : bitAnd z (255 - weight) ≡ bitAnd x (255 - weight)
 
--- One test for a bit and a value, computed for the four bits and every byte.
+-- One test for a bit and a value. It is computed over the four bits and every byte; at each of them it is the rule.
 abbrev bitGood : ℕ → ℕ → Bool
 bitGood w x =
     isOn w (bitOr x w) && (not (isOn w (bitAnd x (255 - w)))
     && (eqb (bitAnd (bitOr x w) (255 - w)) (bitAnd x (255 - w)) && eqb (bitAnd (bitAnd x (255 - w)) (255 - w)) (bitAnd x (255 - w))))
 
-bits-good : (i : ℕ) → i < 4 → all (bitGood (2 ^ i)) (tab (λ k. k) 256) ≡ true
-unfolding all tab
-bits-good zero h = refl
-bits-good (suc zero) h = refl
-bits-good (suc (suc zero)) h = refl
-bits-good (suc (suc (suc zero))) h = refl
-bits-good (suc (suc (suc (suc i)))) h = absurd (omega arith)
+-- A test passes at every number below n.
+abbrev everyBelow : (ℕ → Bool) → ℕ → Bool
+everyBelow test zero = true
+everyBelow test (suc n) = test n && everyBelow test n
 
-not-on : (t : Bool) → not t ≡ true → t ≡ false
-not-on true e = absurd (false≢true e)
-not-on false e = refl
+every-at : (test : ℕ → Bool) (n : ℕ) → everyBelow test n ≡ true → (i : ℕ) → i < n → test i ≡ true
+every-at test zero e i h = absurd (omega arith)
+every-at test (suc n) e i h = go (and-eq-true-iff (test n) (everyBelow test n) .0 e) (λ k. every-at test n k i) (eqb i n) refl
+  where
+    go : (test n ≡ true) × (everyBelow test n ≡ true) → (everyBelow test n ≡ true → i < n → test i ≡ true) → (t : Bool) → eqb i n ≡ t → test i ≡ true
+    go k f true q = ap test (eqb-true i n q) ∙ k .0
+    go k f false q = let l = eqb-false i n q in f (k .1) (omega arith)
+
+tested : everyBelow (λ i. everyBelow (bitGood (2 ^ i)) 256) 4 ≡ true
+tested = refl
 
 pub pulse-set : (i : ℕ) → i < 4 → (pulses x : ℕ) → x < 256 → PulseSet (2 ^ i) pulses x (withPulse (2 ^ i) pulses x)
 unfolding withPulse
@@ -51,34 +51,19 @@ pulse-set i h n x l = let k = go (eqb n 0) in record { own = k .0; others = k .1
     w = 2 ^ i
 
     k : bitGood w x ≡ true
-    k =
-        ap (bitGood w) (sym (getD-tab 256 (λ j. j) x l))
-        ∙ all-at (bitGood w) (tab (λ j. j) 256) (bits-good i h) x (let e = length-tab 256 (λ j. j) in omega arith)
+    k = every-at (bitGood w) 256 (every-at (λ j. everyBelow (bitGood (2 ^ j)) 256) 4 tested i h) x l
 
     a : (isOn w (bitOr x w) ≡ true) × (isOn w (bitAnd x (255 - w)) ≡ false) × (bitAnd (bitOr x w) (255 - w) ≡ bitAnd x (255 - w)) × (bitAnd (bitAnd x (255 - w)) (255 - w) ≡ bitAnd x (255 - w))
     a =
         let p = and-eq-true-iff (isOn w (bitOr x w)) _ .0 k in
         let q = and-eq-true-iff (not (isOn w (bitAnd x (255 - w)))) _ .0 (p .1) in
         let r = and-eq-true-iff (eqb (bitAnd (bitOr x w) (255 - w)) (bitAnd x (255 - w))) _ .0 (q .1) in
-        (p .0, not-on _ (q .0), eqb-true _ _ (r .0), eqb-true _ _ (r .1))
+        (p .0, not-true _ (q .0), eqb-true _ _ (r .0), eqb-true _ _ (r .1))
 
     go : (t : Bool) →
         let z = cond t (bitAnd x (255 - w)) (bitOr x w) in (isOn w z ≡ not t) × (bitAnd z (255 - w) ≡ bitAnd x (255 - w))
     go true = (a .1, a .3)
     go false = (a .0, a .2)
-
--- A signal's weight is one bit, by its place among the signals.
-weight-bit : (tag : ℕ) (ts : List ℕ) → (weightOf tag ts ≡ 0 → ⊥) → (i : ℕ) × (i < length ts) × (weightOf tag ts ≡ 2 ^ i)
-unfolding weightOf
-weight-bit tag [] h = absurd (h refl)
-weight-bit tag (t ∷ ts) h = go (eqb t tag) (weight-bit tag ts) h
-  where
-    go : (b : Bool) → ((weightOf tag ts ≡ 0 → ⊥) → (i : ℕ) × (i < length ts) × (weightOf tag ts ≡ 2 ^ i)) →
-        (cond b 1 (2 * weightOf tag ts) ≡ 0 → ⊥) → (i : ℕ) × (i < suc (length ts)) × (cond b 1 (2 * weightOf tag ts) ≡ 2 ^ i)
-    go true f z = (0, omega arith, refl)
-    go false f z =
-        let k = f (λ e. z (omega arith)) in
-        (suc (k .0), omega (arith, k .1), ap (λ (n : ℕ). 2 * n) (k .2) ∙ mul-comm 2 (2 ^ k .0) ∙ sym (pow-suc 2 (k .0)))
 
 -- So it is in every policy that is not refused before 10.
 pub P-set : (reading : ℕ) (file : List ℕ) → meterRefusal reading file ≡ 0 → (pulses x : ℕ) → x < 256 →

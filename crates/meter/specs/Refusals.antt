@@ -12,7 +12,7 @@ use Rattle.policy.specs.CheckLaws.{under-le}
 use Rattle.enforcer.specs.Entries.{OutputAnswer, inputOf, outputOf}
 use Rattle.enforcer.specs.Refusals as Half
 use Rattle.bays.specs.Odd.{oddRefusal, odd-some, odd-le}
-use Rattle.meter.specs.Meter.{isStation, areTotals, stationState, lastReading, stationWords, pulsesOf, withPulse, isOn, risen, fits}
+use Rattle.meter.specs.Meter.{isStation, areTotals, stationState, lastReading, withStation, pulsesOf, withPulse, isOn, risen, fits}
 use Rattle.meter.specs.Entries.{kept, settled, metered, past, tagP, tagD, meterRefusal, weightP, weightD, meterInputOf, meterOutputOf}
 
 module _ (reading : ℕ) (file : List ℕ) where
@@ -63,22 +63,22 @@ module _ (reading : ℕ) (file : List ℕ) where
               go : (t : Bool) →
                   UpTo 27
                   (cond t
-                  (record { answer = gives z; station = stationWords (o .state) register; totals = risen totals (isOn (weightD reading file) z) n })
+                  (record { answer = gives z; station = withStation station (o .state) register; totals = risen totals (isOn (weightD reading file) z) n })
                   (kept station totals 27) .answer)
               go true = tt
               go false = (omega arith, omega arith)
 
           second : (t : Bool) →
               UpTo 27
-              (cond t (metered station totals register (weightD reading file) (o .state) (o .answer)) (kept station totals (oddRefusal reading file marks (areTotals totals))) .answer)
+              (cond t (metered station totals register (weightD reading file) (o .state) (o .answer)) (kept station totals (oddRefusal reading file marks false)) .answer)
           second true = third (o .answer) (Half.output-up-to reading file marks (stationState station) x y)
-          second false = odd-up-to (areTotals totals)
+          second false = odd-up-to false
 
           first : (n : ℕ) → n ≤ 27 →
               UpTo 27
               (past n (kept station totals)
               (cond (isStation station && areTotals totals)
-              (metered station totals register (weightD reading file) (o .state) (o .answer)) (kept station totals (oddRefusal reading file marks (areTotals totals))))
+              (metered station totals register (weightD reading file) (o .state) (o .answer)) (kept station totals (oddRefusal reading file marks false)))
               .answer)
           first zero l = second (isStation station && areTotals totals)
           first (suc n) l = (omega arith, l)

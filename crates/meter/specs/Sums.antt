@@ -5,13 +5,14 @@ use mathlib.Core.Bool.{Bool, true, false, cond, _&&_}
 use mathlib.Core.List.{List, [], _∷_, _++_}
 use Prim.Native.Nat.{ℕ, zero, suc, _+_, _-_, _*_, _/_, _%_, _≤_, _<_}
 use native.Mathlib.Omega.{arith}
-use lib.ListN.{length, getD}
+use lib.ListN.{length, getD, drop}
+use lib.Seq.{getD-at}
 use Rattle.streams.specs.Answer.{Answer, refused, gives, unless}
 use Rattle.enforcer.specs.Entries.{OutputAnswer, outputOf}
 use Rattle.enforcer.specs.Code.{startState}
 use Rattle.bays.specs.Halves.{output-four}
 use Rattle.bays.specs.Odd.{oddRefusal}
-use Rattle.meter.specs.Meter.{isStation, areTotals, stationState, lastReading, stationWords, billed, unbilled, pulsesOf, isOn, risen, fits}
+use Rattle.meter.specs.Meter.{isStation, areTotals, stationState, lastReading, withStation, billed, unbilled, pulsesOf, isOn, risen, fits}
 use Rattle.meter.specs.Entries.{MeterAnswer, kept, settled, metered, past, meterRefusal, weightD, newRefusal, newStation, newTotals, meterOutputOf}
 use Rattle.enforcer.specs.declared.state.State.{State}
 
@@ -35,7 +36,7 @@ pub data MeterTurned (station totals : List ℕ) (register : ℕ) : MeterAnswer 
   stays : {n : ℕ} → MeterTurned station totals register (kept station totals n)
   moves : {y : ℕ} (on : Bool) (s : State) → length (s .clocks) ≡ 4 → fits totals on (pulsesOf register (lastReading station)) ≡ true →
       MeterTurned station totals register
-      (record { answer = gives y; station = stationWords s register; totals = risen totals on (pulsesOf register (lastReading station)) })
+      (record { answer = gives y; station = withStation station s register; totals = risen totals on (pulsesOf register (lastReading station)) })
 
 module _ (reading : ℕ) (file marks station totals : List ℕ) (register x y : ℕ) where
   pub turned : MeterTurned station totals register (meterOutputOf reading file marks station totals register x y)
@@ -48,7 +49,7 @@ module _ (reading : ℕ) (file marks station totals : List ℕ) (register x y : 
       last : (on : Bool) (z : ℕ) (t : Bool) → fits totals on (pulsesOf register (lastReading station)) ≡ t →
           MeterTurned station totals register
           (cond t
-          (record { answer = gives z; station = stationWords (o .state) register; totals = risen totals on (pulsesOf register (lastReading station)) })
+          (record { answer = gives z; station = withStation station (o .state) register; totals = risen totals on (pulsesOf register (lastReading station)) })
           (kept station totals 27))
       last on z true e = moves on (o .state) (output-four reading file marks (stationState station) x y refl) e
       last on z false e = stays
@@ -59,7 +60,7 @@ module _ (reading : ℕ) (file marks station totals : List ℕ) (register x y : 
 
       second : (t : Bool) →
           MeterTurned station totals register
-          (cond t (metered station totals register (weightD reading file) (o .state) (o .answer)) (kept station totals (oddRefusal reading file marks (areTotals totals))))
+          (cond t (metered station totals register (weightD reading file) (o .state) (o .answer)) (kept station totals (oddRefusal reading file marks false)))
       second true = third (o .answer)
       second false = stays
 
@@ -67,7 +68,7 @@ module _ (reading : ℕ) (file marks station totals : List ℕ) (register x y : 
           MeterTurned station totals register
           (past n (kept station totals)
           (cond (isStation station && areTotals totals)
-          (metered station totals register (weightD reading file) (o .state) (o .answer)) (kept station totals (oddRefusal reading file marks (areTotals totals)))))
+          (metered station totals register (weightD reading file) (o .state) (o .answer)) (kept station totals (oddRefusal reading file marks false))))
       first zero = second (isStation station && areTotals totals)
       first (suc n) = stays
 
@@ -93,13 +94,8 @@ FewerOne (refused n) c k = Unit {0}
 FewerOne (gives y) c k = (c ≤ k) × (k < c + 65536)
 
 -- The register follows after four clock values and the location.
-after-four : (cs : List ℕ) (r : ℕ) → length cs ≡ 4 → getD (cs ++ (r ∷ [])) 4 0 ≡ r
-after-four (a ∷ b ∷ c ∷ d ∷ []) r e = refl
-after-four (a ∷ b ∷ c ∷ d ∷ _ ∷ _) r e = absurd (omega arith)
-after-four (a ∷ b ∷ c ∷ []) r e = absurd (omega arith)
-after-four (a ∷ b ∷ []) r e = absurd (omega arith)
-after-four (a ∷ []) r e = absurd (omega arith)
-after-four [] r e = absurd (omega arith)
+after-four : (station cs : List ℕ) (r : ℕ) → length cs ≡ 4 → getD (cs ++ (r ∷ drop 6 station)) 4 0 ≡ r
+after-four station cs r e = getD-at cs r (drop 6 station) 0 4 e
 
 abbrev pub both : List ℕ → ℕ
 both totals = billed totals + unbilled totals
@@ -122,7 +118,7 @@ one-tick station totals c k _ (moves on s f h) e =
     let b = risen-both totals on n in
     let r : (n + c) % 65536 ≡ k % 65536 = rw e (advance-round c k) in
     record {
-      last = after-four (s .clocks) (k % 65536) f;
+      last = after-four station (s .clocks) (k % 65536) f;
       whole = λ q. let z : n + c ≡ k = rw e (advance c k (q .0) (q .1)) in omega arith;
       round = omega arith;
     }

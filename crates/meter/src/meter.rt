@@ -15,18 +15,18 @@ use bays::five::odd_refusal;
 use enforcer::HalfAnswer;
 use enforcer::State;
 use enforcer::input_half;
-ghost use mathlib.Core.Path.{_≡_};
+ghost use Prim.Native.Nat.{_≤_};
 ghost use lib.ListN.{length};
 ghost use Rattle.meter.specs.Promises.{MeterNewPromise, MeterInputPromise, MeterOutputPromise, SettledPromise, ReleasePromise};
 
-// The station is at the start, with the first reading, and both totals are 0. 14 where there are not six numbers, or not two totals.
+// The station is at the start, with the first reading, and both totals are 0. 14 where a slice is too short: fewer than six numbers, or than two totals.
 pub fn meter_new(station: &mut [u16], totals: &mut [u32], register: u16) -> u8
     ensures { λ r. ⌜ MeterNewPromise (now (station .entry)) (now (totals .entry)) register r (now (station .exit)) (now (totals .exit)) ⌝ }
 {
-    if station.len() != STATION {
+    if station.len() < STATION {
         return 14;
     }
-    if totals.len() != TOTALS {
+    if totals.len() < TOTALS {
         return 14;
     }
     put_station(station, State::start(), register);
@@ -34,6 +34,7 @@ pub fn meter_new(station: &mut [u16], totals: &mut [u32], register: u16) -> u8
     0
 }
 
+// 22, 1 to 9, 26, 10, 16 (also for fewer than six numbers), 15, 17.
 pub fn meter_input(
     reading: u8,
     file: &[u8],
@@ -51,7 +52,7 @@ pub fn meter_input(
     if signals.dispense == 0 {
         return HalfAnswer::Refused(no_signals(reading, file));
     }
-    if station.len() != STATION {
+    if station.len() < STATION {
         return HalfAnswer::Refused(odd_refusal(reading, file, marks, true));
     }
     let n = pulses(register, station[LAST]);
@@ -68,7 +69,7 @@ fn settle(
     billed: bool,
     y: u8,
 ) -> HalfAnswer
-    requires { ⌜ (length (now station) ≡ 6) × (length (now totals) ≡ 2) ⌝ }
+    requires { ⌜ (6 ≤ length (now station)) × (2 ≤ length (now totals)) ⌝ }
     ensures { λ r. ⌜ SettledPromise (now (station .entry)) (now (totals .entry)) next register billed y r (now (station .exit)) (now (totals .exit)) ⌝ }
 {
     let n = pulses(register, station[LAST]);
@@ -80,7 +81,7 @@ fn settle(
     HalfAnswer::Value(y)
 }
 
-// The output half of a station with a meter, past 26, 14 and numbers that are not six. D has this weight in an output.
+// The output half of a station with a meter, past 26 and slices that are too short. D has this weight in an output.
 fn release(
     reading: u8,
     file: &[u8],
@@ -92,7 +93,7 @@ fn release(
     y: u8,
     weight: u8,
 ) -> HalfAnswer
-    requires { ⌜ (length (now station) ≡ 6) × (length (now totals) ≡ 2) ⌝ }
+    requires { ⌜ (6 ≤ length (now station)) × (2 ≤ length (now totals)) ⌝ }
     ensures { λ r. ⌜ ReleasePromise reading (now (file .entry)) (now (marks .entry)) (now (station .entry)) (now (totals .entry)) register x y weight r (now (station .exit)) (now (totals .exit)) ⌝ }
 {
     let given = station_state(station);
@@ -108,6 +109,7 @@ fn release(
     }
 }
 
+// 22, 1 to 9, 26, 10, 14, 16, 15, 17, 27. With a refusal both slices stay as they were.
 pub fn meter_output(
     reading: u8,
     file: &[u8],
@@ -127,11 +129,11 @@ pub fn meter_output(
     if signals.dispense == 0 {
         return HalfAnswer::Refused(no_signals(reading, file));
     }
-    if totals.len() != TOTALS {
+    if station.len() < STATION {
         return HalfAnswer::Refused(odd_refusal(reading, file, marks, false));
     }
-    if station.len() != STATION {
-        return HalfAnswer::Refused(odd_refusal(reading, file, marks, true));
+    if totals.len() < TOTALS {
+        return HalfAnswer::Refused(odd_refusal(reading, file, marks, false));
     }
     release(
         reading,

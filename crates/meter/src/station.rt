@@ -1,15 +1,15 @@
-// A station with a meter as six numbers: a state, and the register as last accepted. The totals are two: billed and unbilled.
+// A station with a meter as six numbers: a state, and the register as last accepted. The totals are two: billed and unbilled. What stands past them stays.
 use bays::five::STATE_NUMBERS;
 use bays::five::put_state;
 use bays::five::state_of;
 use enforcer::State;
 ghost use mathlib.Core.Path.{_≡_};
 ghost use mathlib.Core.Bool.{true};
-ghost use mathlib.Core.List.{[], _∷_};
-ghost use Prim.Native.Nat.{_+_};
+ghost use mathlib.Core.List.{_∷_};
+ghost use Prim.Native.Nat.{_+_, _≤_};
 ghost use lib.Dec.{leb};
-ghost use lib.ListN.{length};
-ghost use Rattle.meter.specs.Meter.{stationState, stationWords, pulsesOf, fits, risen};
+ghost use lib.ListN.{length, drop};
+ghost use Rattle.meter.specs.Meter.{stationState, withStation, pulsesOf, fits, risen};
 
 // Where the last register stands: after the state.
 pub(crate) const LAST: usize = STATE_NUMBERS;
@@ -22,23 +22,23 @@ pub(crate) const TOTALS: usize = 2;
 const MOST: u32 = 4294967295;
 
 pub(crate) fn station_state(station: &[u16]) -> State
-    requires { ⌜ length (now station) ≡ 6 ⌝ }
+    requires { ⌜ 6 ≤ length (now station) ⌝ }
     ensures { λ r. ⌜ r ≡ stationState (now (station .entry)) ⌝ }
 {
     state_of(&station[..STATE_NUMBERS])
 }
 
 pub(crate) fn put_station(station: &mut [u16], next: State, register: u16)
-    requires { ⌜ length (now station) ≡ 6 ⌝ }
-    ensures { λ _. ⌜ now (station .exit) ≡ stationWords next register ⌝ }
+    requires { ⌜ 6 ≤ length (now station) ⌝ }
+    ensures { λ _. ⌜ now (station .exit) ≡ withStation (now (station .entry)) next register ⌝ }
 {
     station[LAST] = register;
     put_state(&mut station[..STATE_NUMBERS], next);
 }
 
 pub(crate) fn clear_totals(totals: &mut [u32])
-    requires { ⌜ length (now totals) ≡ 2 ⌝ }
-    ensures { λ _. ⌜ now (totals .exit) ≡ 0 ∷ 0 ∷ [] ⌝ }
+    requires { ⌜ 2 ≤ length (now totals) ⌝ }
+    ensures { λ _. ⌜ now (totals .exit) ≡ 0 ∷ 0 ∷ drop 2 (now (totals .entry)) ⌝ }
 {
     totals[0] = 0;
     totals[1] = 0;
@@ -60,7 +60,7 @@ fn fits_in(total: u32, pulses: u16) -> bool
 
 // The total that the pulses would go into stays within its limit.
 pub(crate) fn has_room(totals: &[u32], billed: bool, pulses: u16) -> bool
-    requires { ⌜ length (now totals) ≡ 2 ⌝ }
+    requires { ⌜ 2 ≤ length (now totals) ⌝ }
     ensures { λ r. ⌜ r ≡ fits (now (totals .entry)) billed pulses ⌝ }
 {
     if billed {
@@ -70,7 +70,7 @@ pub(crate) fn has_room(totals: &[u32], billed: bool, pulses: u16) -> bool
 }
 
 pub(crate) fn add_pulses(totals: &mut [u32], billed: bool, pulses: u16)
-    requires { ⌜ (length (now totals) ≡ 2) × (fits (now totals) billed pulses ≡ true) ⌝ }
+    requires { ⌜ (2 ≤ length (now totals)) × (fits (now totals) billed pulses ≡ true) ⌝ }
     ensures { λ _. ⌜ now (totals .exit) ≡ risen (now (totals .entry)) billed pulses ⌝ }
 {
     if billed {

@@ -8,6 +8,7 @@ pub mod CheckLaws
 pub mod Sound
 pub mod Numbered
 pub mod Frame
+pub mod Signals
 pub mod Checked
 pub mod Stays
 pub mod Reached

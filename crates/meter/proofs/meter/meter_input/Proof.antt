@@ -4,13 +4,12 @@ use mathlib.Core.Logic.{_⊎_}
 use Prim.Native.Nat.{ℕ, _+_}
 use lib.ListN.{length}
 use denote.Ref.{now}
-use borrow.Author.Tests.{eq-eqb, ne-eqb}
+use borrow.Author.Tests.{le-leb, lt-leb}
 use Rattle.streams.specs.Answer.{refused}
-use Rattle.policy.specs.File.{byteAt}
+use Rattle.policy.specs.Signals.{inputWeight, outputWeight}
 use Rattle.enforcer.specs.Entries.{inputOf}
 use Rattle.meter.specs.Meter.{withPulse}
 use Rattle.meter.specs.Entries.{tagP, tagD}
-use Rattle.meter.specs.Signals.{weightAt}
 use Rattle.meter.specs.There.{input-lacks, input-odd, input-there}
 use Rattle.meter.specs.declared.signals.Signals.{Signals}
 use borrow.Author.Needs.{needs}
@@ -49,7 +48,7 @@ returns-2 c =
 
 -- Both signals are there.
 some : (c : tie.Else2) →
-    let f = now (c .before .before .before .before .before .before .before .before .args .file) in (weightAt f 0 tagP ≡ 0 → ⊥) × (weightAt f (1 + byteAt f 0) tagD ≡ 0 → ⊥)
+    let f = now (c .before .before .before .before .before .before .before .before .args .file) in (inputWeight f tagP ≡ 0 → ⊥) × (outputWeight f tagD ≡ 0 → ⊥)
 some c =
     let s = c .before .before .before .before .signals-of .ensures in (
       λ z. c .before .before .if1 .left (ap (λ (r : Signals). r .pulse) s ∙ z),
@@ -67,7 +66,7 @@ returns-3 c =
       said =
           ap refused (c .odd-refusal .ensures)
           ∙ sym (input-odd (a .reading) (now (a .file)) (now (a .marks)) (now (a .station)) (k .0) (k .1) (a .register) (a .x)
-          (ne-eqb (length (now (a .station))) 6 (c .before .if3 .taken)));
+          (lt-leb 6 (length (now (a .station))) (c .before .if3 .taken)));
     }
 
 shared-slice-read-pulses : tie.Need-shared-slice-read-pulses
@@ -98,7 +97,7 @@ returns-4 c =
           c .input-half .ensures .said
           ∙ ap₂ (λ (s : State) (z : ℕ). inputOf (a .reading) (now (a .file)) (now (a .marks)) s z) (c .before .station-state .ensures) x
           ∙ sym (input-there (a .reading) (now (a .file)) (now (a .marks)) (now (a .station)) (k .0) (k .1) (a .register) (a .x)
-          (eq-eqb (length (now (a .station))) 6 (c .before .before .before .before .before .if3 .left)));
+          (le-leb 6 (length (now (a .station))) (c .before .before .before .before .before .if3 .left)));
     }
 
 pub meter-input-spec : {M : Type 1} → statement M

@@ -2,9 +2,9 @@
 use mathlib.Core.Path.{ap, _∙_}
 use lib.ListN.{length}
 use denote.Ref.{now}
-use borrow.Author.Tests.{eq-eqb, ne-eqb}
+use borrow.Author.Tests.{le-leb, lt-leb}
 use Rattle.enforcer.specs.declared.state.State.{State}
-use Rattle.meter.specs.Meter.{stationWords}
+use Rattle.meter.specs.Meter.{withStation}
 use Rattle.meter.specs.Entries.{newRefusal, newStation, newTotals}
 use borrow.Author.Needs.{needs}
 use Rattle.meter.proofs.meter.meter_new.Statement.{statement}
@@ -12,14 +12,14 @@ use Rattle.meter.proofs.meter.meter_new.Tie as tie
 
 returns : tie.Need-returns
 unfolding newRefusal newStation newTotals
-returns c = let e = ne-eqb (length (now (c .before .before .before .args .station))) 6 (c .if1 .taken) in record { said = rw e; placed = rw e; cleared = rw e }
+returns c = let e = lt-leb 6 (length (now (c .before .before .before .args .station))) (c .if1 .taken) in record { said = rw e; placed = rw e; cleared = rw e }
 
 returns-2 : tie.Need-returns-2
 unfolding newRefusal newStation newTotals
 returns-2 c =
     let a = c .before .before .before .before .args in
-    let e = eq-eqb (length (now (a .station))) 6 (c .before .if1 .left) in
-    let g = ne-eqb (length (now (a .totals))) 2 (c .if2 .taken) in
+    let e = le-leb 6 (length (now (a .station))) (c .before .if1 .left) in
+    let g = lt-leb 2 (length (now (a .totals))) (c .if2 .taken) in
     record { said = rw (e, g); placed = rw (e, g); cleared = rw (e, g) }
 
 start-requires : tie.Need-start-requires
@@ -41,11 +41,11 @@ returns-3 : tie.Need-returns-3
 unfolding newRefusal newStation newTotals
 returns-3 c =
     let a = c .before .before .before .before .before .before .before .before .before .before .before .before .before .args in
-    let e = eq-eqb (length (now (a .station))) 6 (c .before .before .before .before .before .before .before .before .before .before .if1 .left) in
-    let g = eq-eqb (length (now (a .totals))) 2 (c .before .before .before .before .before .before .before .before .before .if2 .left) in
+    let e = le-leb 6 (length (now (a .station))) (c .before .before .before .before .before .before .before .before .before .before .if1 .left) in
+    let g = le-leb 2 (length (now (a .totals))) (c .before .before .before .before .before .before .before .before .before .if2 .left) in
     record {
       said = rw (e, g);
-      placed = rw (e, g) (c .before .before .before .before .before .before .put-station .ensures ∙ ap (λ (s : State). stationWords s (a .register)) (c .before .before .before .before .before .before .before .start .ensures));
+      placed = rw (e, g) (c .before .before .before .before .before .before .put-station .ensures ∙ ap (λ (s : State). withStation (now (a .station)) s (a .register)) (c .before .before .before .before .before .before .before .start .ensures));
       cleared = rw (e, g) (c .before .before .clear-totals .ensures);
     }
 

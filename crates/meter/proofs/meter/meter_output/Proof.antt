@@ -4,13 +4,12 @@ use mathlib.Core.Logic.{_⊎_}
 use Prim.Native.Nat.{_+_}
 use lib.ListN.{length}
 use denote.Ref.{now}
-use borrow.Author.Tests.{eq-eqb, ne-eqb}
-use Rattle.policy.specs.File.{byteAt}
+use borrow.Author.Tests.{le-leb, lt-leb}
+use Rattle.policy.specs.Signals.{inputWeight, outputWeight}
 use Rattle.enforcer.specs.Entries.{outputOf}
 use Rattle.meter.specs.Meter.{stationState}
 use Rattle.meter.specs.Entries.{kept, metered, tagP, tagD}
-use Rattle.meter.specs.Signals.{weightAt}
-use Rattle.meter.specs.There.{output-lacks, output-no-totals, output-no-station, output-there}
+use Rattle.meter.specs.There.{output-lacks, output-odd, output-there}
 use Rattle.meter.specs.declared.signals.Signals.{Signals}
 use borrow.Author.Needs.{needs}
 use Rattle.meter.proofs.meter.meter_output.Statement.{statement}
@@ -47,7 +46,7 @@ returns-2 c =
 
 -- Both signals are there.
 some : (c : tie.Else2) →
-    let f = now (c .before .before .before .before .before .before .before .before .before .args .file) in (weightAt f 0 tagP ≡ 0 → ⊥) × (weightAt f (1 + byteAt f 0) tagD ≡ 0 → ⊥)
+    let f = now (c .before .before .before .before .before .before .before .before .before .args .file) in (inputWeight f tagP ≡ 0 → ⊥) × (outputWeight f tagD ≡ 0 → ⊥)
 some c =
     let s = c .before .before .before .before .signals-of .ensures in (
       λ z. c .before .before .if1 .left (ap (λ (r : Signals). r .pulse) s ∙ z),
@@ -64,8 +63,8 @@ returns-3 c =
     record {
       said =
           ap (kept (now (a .station)) (now (a .totals))) (c .odd-refusal .ensures)
-          ∙ sym (output-no-totals (a .reading) (now (a .file)) (now (a .marks)) (now (a .station)) (k .0) (k .1) (now (a .totals)) (a .register) (a .x) (a .y)
-          (ne-eqb (length (now (a .totals))) 2 (c .before .if3 .taken)));
+          ∙ sym (output-odd (a .reading) (now (a .file)) (now (a .marks)) (now (a .station)) (k .0) (k .1) (now (a .totals)) (a .register) (a .x) (a .y)
+          (rw (lt-leb 6 (length (now (a .station))) (c .before .if3 .taken))));
     }
 
 odd-refusal-requires-2 : tie.Need-odd-refusal-requires-2
@@ -78,8 +77,8 @@ returns-4 c =
     record {
       said =
           ap (kept (now (a .station)) (now (a .totals))) (c .odd-refusal2 .ensures)
-          ∙ sym (output-no-station (a .reading) (now (a .file)) (now (a .marks)) (now (a .station)) (k .0) (k .1) (now (a .totals)) (a .register) (a .x) (a .y)
-          (eq-eqb (length (now (a .totals))) 2 (c .before .before .if3 .left)) (ne-eqb (length (now (a .station))) 6 (c .before .if4 .taken)));
+          ∙ sym (output-odd (a .reading) (now (a .file)) (now (a .marks)) (now (a .station)) (k .0) (k .1) (now (a .totals)) (a .register) (a .x) (a .y)
+          (rw (le-leb 6 (length (now (a .station))) (c .before .before .if3 .left), lt-leb 2 (length (now (a .totals))) (c .before .if4 .taken))));
     }
 
 release-requires : tie.Need-release-requires
@@ -102,7 +101,7 @@ returns-5 c =
           c .before .before .before .before .release .ensures .said
           ∙ ap (λ (s : Signals). metered (now (a .station)) (now (a .totals)) (a .register) (s .dispense) (o .state) (o .answer)) (e .before .before .before .before .signals-of .ensures)
           ∙ sym (output-there (a .reading) (now (a .file)) (now (a .marks)) (now (a .station)) (k .0) (k .1) (now (a .totals)) (a .register) (a .x) (a .y)
-          (rw (eq-eqb (length (now (a .station))) 6 (c .before .before .before .before .before .before .before .if4 .left), eq-eqb (length (now (a .totals))) 2 (c .before .before .before .before .before .before .before .before .if3 .left))));
+          (rw (le-leb 6 (length (now (a .station))) (c .before .before .before .before .before .before .before .before .if3 .left), le-leb 2 (length (now (a .totals))) (c .before .before .before .before .before .before .before .if4 .left))));
     }
 
 pub meter-output-spec : {M : Type 1} → statement M

@@ -3,9 +3,9 @@ use mathlib.Core.Path.{_≡_, sym, ap, ap₂, _∙_}
 use mathlib.Core.List.{List, _++_}
 use Prim.Native.Nat.{ℕ}
 use native.Mathlib.Omega.{arith}
-use lib.ListN.{length, set, drop, length-set, length-append}
+use lib.ListN.{length, set, drop, length-set, length-append, length-drop}
 use denote.Ref.{now}
-use Rattle.meter.specs.Meter.{stationWords}
+use Rattle.meter.specs.Meter.{withStation}
 use lib.Seq.{length-take-le}
 use borrow.Author.Needs.{needs}
 use Rattle.meter.proofs.Laws.{sixth}
@@ -30,7 +30,7 @@ put-state-requires c κs =
 
 stored : (c : tie.After-put-state) →
     let a = c .before .before .before .args in
-    c .put-state .last .0 ++ drop 5 (set (now (a .station)) 5 (a .register)) ≡ stationWords (a .next) (a .register)
+    c .put-state .last .0 ++ drop 5 (set (now (a .station)) 5 (a .register)) ≡ withStation (now (a .station)) (a .next) (a .register)
 stored c =
     let s = c .before .before .before in
     ap₂ {C = List ℕ} _++_ (c .put-state .ensures) (sixth (now (s .args .station)) (s .args .register) (s .pre))
@@ -39,7 +39,7 @@ same-length : tie.Need-same-length
 same-length c =
     let s = c .before .before .before .before .before in
     let l : length (s .args .next .clocks) ≡ 4 = search needs in
-    ap (length {A = ℕ}) (stored (c .before .before)) ∙ simp length-append (omega (arith, s .pre))
+    ap (length {A = ℕ}) (stored (c .before .before)) ∙ simp (length-append, length-drop) (omega (arith, s .pre))
 
 returns : tie.Need-returns
 returns c = stored (c .before .before)

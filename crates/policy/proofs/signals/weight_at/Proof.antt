@@ -1,4 +1,4 @@
--- `meter::signals::weight_at` meets its contract. The invariant: the weight of the signal at i is 2 ^ i, and times the weight among the tags from i on it
+-- `policy::signals::weight_at` meets its contract. The invariant: the weight of the signal at i is 2 ^ i, and times the weight among the tags from i on it
 -- is the weight among all.
 use mathlib.Core.Path.{_≡_, refl, sym, ap, _∙_}
 use mathlib.Core.Bool.{cond}
@@ -10,12 +10,11 @@ use lib.ListN.{getD, drop}
 use denote.Ref.{now}
 use borrow.Author.Needs.{needs}
 use borrow.Author.Tests.{eq-eqb, ne-eqb}
 use Rattle.policy.specs.File.{byteAt}
-use Rattle.meter.specs.Meter.{weightOf}
-use Rattle.meter.specs.Signals.{tagsAt}
-use Rattle.meter.proofs.Laws.{weight-turn, no-more, file-ends, four-seen}
-use Rattle.meter.proofs.signals.weight_at.Statement.{statement}
-use Rattle.meter.proofs.signals.weight_at.Tie as tie
+use Rattle.policy.specs.Signals.{weightOf, tagsAt}
+use Rattle.policy.proofs.SignalLaws.{weight-turn, no-more, file-ends, four-seen}
+use Rattle.policy.proofs.signals.weight_at.Statement.{statement}
+use Rattle.policy.proofs.signals.weight_at.Tie as tie
 
 abbrev Inv-loop : tie.InvT-loop
 Inv-loop file at tag count start weight₀ i₀ weight i =
