@@ -9,9 +9,10 @@ use crate::policy::Policy;
 use crate::random::Random;
 use crate::refusal::Refusal;
 
-/// A station as it is lent: the state, then the last accepted register.
+/// What of a station as it is lent is looked at and written: the state, then the
+/// last accepted register. More numbers may follow, and stay.
 pub const STATION_LENGTH: usize = STATE_LENGTH + 1;
-/// How many totals there are: billed, unbilled.
+/// How many totals there are: billed, unbilled. More numbers may follow.
 pub const TOTALS: usize = 2;
 
 /// What a tick may change: the station and the totals.
@@ -19,13 +20,19 @@ pub type Lent<'a> = (&'a mut [u16], &'a mut [u32]);
 
 /// "The first reading is given when the totals are set up, both at 0."
 pub fn new(station: &mut [u16], totals: &mut [u32], register: u16) -> Result<(), Refusal> {
-    if station.len() != STATION_LENGTH || totals.len() != TOTALS {
-        return Err(Refusal::SliceTooShort);
-    }
-    station.fill(0);
+    check_room(station, totals)?;
+    station[..STATE_LENGTH].fill(0);
     station[STATE_LENGTH] = register;
-    totals.fill(0);
+    totals[..TOTALS].fill(0);
     Ok(())
+}
+
+/// "the slice to be written is too short"
+fn check_room(station: &[u16], totals: &[u32]) -> Result<(), Refusal> {
+    match station.len() < STATION_LENGTH || totals.len() < TOTALS {
+        true => Err(Refusal::SliceTooShort),
+        false => Ok(()),
+    }
 }
 
 /// The bits of the input P and of the output D.
@@ -73,13 +80,11 @@ pub fn input_half(basis: Basis, station: &[u16], register: u16, x: u8) -> Result
     enforce::input_half(basis, state, x)
 }
 
-/// The state and the last register; a station that is not six numbers has no
+/// The state and the last register; a station of fewer than six numbers has no
 /// state.
 fn parted(station: &[u16]) -> Result<(&[u16], u16), Refusal> {
-    match station.len() {
-        STATION_LENGTH => Ok((&station[..STATE_LENGTH], station[STATE_LENGTH])),
-        _ => Err(Refusal::BadState),
-    }
+    let last = *station.get(STATE_LENGTH).ok_or(Refusal::BadState)?;
+    Ok((&station[..STATE_LENGTH], last))
 }
 
 /// "The billed total rises by the pulses whenever the released output with tag
@@ -92,9 +97,7 @@ pub fn output_half(
     y: u8,
 ) -> Result<u8, Refusal> {
     let wires = wires(basis)?;
-    if totals.len() != TOTALS {
-        return Err(Refusal::SliceTooShort);
-    }
+    check_room(station, totals)?;
     let (state, last) = parted(station)?;
     let mut next = state.to_vec();
     let released = enforce::output_half(basis, &mut next, x, y)?;
@@ -102,7 +105,7 @@ pub fn output_half(
     let risen = u64::from(*total) + u64::from(pulses(last, register));
     *total = u32::try_from(risen).map_err(|_| Refusal::TotalTooLarge)?;
     next.push(register);
-    station.copy_from_slice(&next);
+    station[..STATION_LENGTH].copy_from_slice(&next);
     Ok(released)
 }
 

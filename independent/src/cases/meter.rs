@@ -55,8 +55,8 @@ fn without_a_signal(random: &mut Random, mut policy: Policy) -> Policy {
 }
 
 fn meter_new_call(random: &mut Random) -> Call {
-    let length = random.pick(&[STATION_LENGTH, STATION_LENGTH, STATION_LENGTH, 0, 5, 7, 8]);
-    let totals = random.pick(&[TOTALS, TOTALS, TOTALS, 0, 1, 3, 4]);
+    let length = random.pick(&[STATION_LENGTH, STATION_LENGTH, 7, 8, 11, 0, 5]);
+    let totals = random.pick(&[TOTALS, TOTALS, 3, 4, 4, 0, 1]);
     Call::MeterNew {
         station: some_numbers(random, length),
         totals: some_totals(random, totals),
@@ -87,9 +87,9 @@ fn meter_call(random: &mut Random, subject: &Subject) -> Call {
         2 => last.wrapping_sub(1),
         _ => random.next() as u16,
     };
-    let totals = match random.percent(90) {
+    let totals = match random.percent(60) {
         true => TOTALS,
-        false => random.pick(&[0, 1, 3, 4]),
+        false => random.pick(&[3, 4, 3, 4, 0, 1]),
     };
     let totals = some_totals(random, totals);
     let tags = (&subject.policy.inputs, &subject.policy.outputs);
@@ -100,6 +100,11 @@ fn meter_call(random: &mut Random, subject: &Subject) -> Call {
     }
     station.truncate(7);
     station.push(last);
+    // Numbers past the station: they stay, whatever they are.
+    if random.percent(30) {
+        let past = random.between(1, 5) as usize;
+        station.extend(some_numbers(random, past));
+    }
     match y {
         None => call!(MeterInput, asked, station, register),
         Some(y) => call!(MeterOutput, asked, station, totals, register, y),

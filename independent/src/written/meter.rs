@@ -32,10 +32,11 @@ fn new(station: usize, totals: usize, register: u16, answer: u64) -> Written {
         register,
     };
     let name = format!("a station of {station} numbers and {totals} totals");
-    let (after, sums) = match answer {
-        0 => (vec![0, 0, 0, 0, 0, register], vec![0, 0]),
-        _ => (vec![0xEEEE; station], vec![77; totals]),
-    };
+    let (mut after, mut sums) = (vec![0xEEEE; station], vec![77; totals]);
+    if answer == 0 {
+        after[..6].copy_from_slice(&last(register));
+        sums[..2].copy_from_slice(&[0, 0]);
+    }
     written(&name, call, answer, vec![], after).with_totals(&sums)
 }
 
@@ -45,12 +46,14 @@ fn set_up() -> Vec<Written> {
         new(6, 2, 65_530, 0),
         new(6, 2, 65_535, 0),
         new(5, 2, 1, 14),
-        new(7, 2, 1, 14),
+        new(7, 2, 1, 0),
         new(0, 2, 1, 14),
         new(6, 1, 1, 14),
-        new(6, 3, 1, 14),
+        new(6, 3, 1, 0),
         new(6, 0, 1, 14),
         new(5, 3, 1, 14),
+        new(7, 1, 1, 14),
+        new(12, 4, 65_535, 0),
     ]
 }
 
@@ -94,6 +97,14 @@ fn pulses() -> Vec<Written> {
             gives(0),
         ),
         input("no P to edit", NO_PULSE, &[1], &last(5), (5, 1), gives(0)),
+        input(
+            "seven numbers: the sixth is the register",
+            METERED,
+            &[1],
+            &[0, 0, 0, 0, 0, 7, 8],
+            (7, 0),
+            gives(0),
+        ),
     ]
 }
 
@@ -224,6 +235,27 @@ fn totals() -> Vec<Written> {
             &[2, 0],
         )
         .under(2),
+        output(
+            "what stands past the station and the totals stays",
+            Tick {
+                station: &[0, 0, 0, 0, 0, 65_530, 8, 9],
+                totals: &[100, 20, 7],
+                ..metered(4, 2, 2)
+            },
+            gives(2),
+            &[0, 0, 0, 0, 0, 4, 8, 9],
+            &[110, 20, 7],
+        ),
+        output(
+            "the numbers past the totals are no totals",
+            Tick {
+                totals: &[u32::MAX - 10, 20, u32::MAX, u32::MAX],
+                ..metered(4, 2, 2)
+            },
+            gives(2),
+            &last(4),
+            &[u32::MAX, 20, u32::MAX, u32::MAX],
+        ),
     ]
 }
 
@@ -308,27 +340,28 @@ fn refused() -> Vec<Written> {
         };
         all.push(refusal(&name, tick, 26));
     }
-    for station in [
-        &[0; 5][..],
-        &[0; 7],
-        &[],
-        &[1, 0, 0, 0, 0, 9],
-        &[0, 1, 0, 0, 0, 9],
+    // Only the second half writes the station.
+    for (station, second) in [
+        (&[0; 5][..], 14),
+        (&[], 14),
+        (&[1, 0, 0, 0, 0, 9], 16),
+        (&[0, 1, 0, 0, 0, 9], 16),
+        (&[0, 1, 0, 0, 0, 9, 0], 16),
     ] {
-        let name = format!("16: {station:?}");
+        let name = format!("{station:?}");
         all.push(input(&name, METERED, &[1], station, (6, 0), 16));
         let tick = Tick {
             station,
             ..metered(4, 0, 0)
         };
-        all.push(refusal(&name, tick, 16));
+        all.push(refusal(&name, tick, second));
     }
-    for totals in [&[1][..], &[1, 2, 3], &[], &[0, 0, 0, 0]] {
+    for totals in [&[1][..], &[]] {
         let tick = Tick {
             totals,
             ..metered(4, 0, 0)
         };
-        all.push(refusal("14: totals that are not two", tick, 14));
+        all.push(refusal("14: fewer than two totals", tick, 14));
     }
     let nothing = "01 50 01 44 00 01 00 00 00";
     all.push(input("17: no rule", nothing, &[1], &last(5), (6, 0), 17));
@@ -371,6 +404,7 @@ fn in_order() -> Vec<Written> {
         refusal("10 before 14", wrong(METERED, &[], &[], &odd), 10),
         input("10 before 16", METERED, &[], &odd, (1, 255), 10),
         refusal("14 before 16", wrong(METERED, &[1], &[], &odd), 14),
+        refusal("14 for a station", wrong(METERED, &[1], full, &[9; 5]), 14),
         refusal("16 before 15", wrong(METERED, &[1], full, &odd), 16),
         refusal("15 before 27", wrong(METERED, &[1], full, &[0; 6]), 15),
         refusal(

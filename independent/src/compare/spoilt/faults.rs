@@ -74,6 +74,9 @@ faults! {
     RegisterMovesOnRefusal
     MarksBeforeMeterSignals
     FirstRegisterIsNone
+    LongerStationRefused
+    NumbersPastTheTotalsCleared
+    ShortStationIsNoState
     FourWorkSlices
     StartBeforeWork
     WorkBeforeMarks
