@@ -59,8 +59,7 @@ loop-again : tie.Need-loop-again Inv-loop μ-loop
 loop-again c =
     let p = c .before .before in
     let l = p .before .before .before .before .loop in
-    let states = now (p .before .before .before .before .before .before .args .states) in
-    (
+    let states = now (p .before .before .before .before .before .before .args .states) in (
       search needs,
       p .put-bay .ensures ∙ ap₂ (λ (z : List ℕ) (t : State). withState z (l .bay) t) (l .inv .1) (p .before .start .ensures) ∙ more states (l .bay),
       p .put-bay .kept .0 ∙ l .inv .2,
