@@ -6,13 +6,17 @@ use Prim.Native.Nat.{ℕ, _+_, _≤_, _<_}
 use native.Mathlib.Omega.{arith}
 use lib.Dec.{ltb, eqb}
 use lib.ListN.{length, getD, set, length-set}
-use lib.Seq.{getD-set-same, getD-set-other}
+use lib.Seq.{getD-set-same, getD-set-other, ext-getD}
 use borrow.Author.Tests.{lt-ltb, le-ltb, ltb-true, ltb-false, eqb-true, eqb-false}
 
 -- Of the first n entries each is what f says, the others are as they were, and so is the length.
 pub record Changed (f : ℕ → ℕ) (n : ℕ) (xs ys : List ℕ) : Type 0 where
   pub size : length ys ≡ length xs
   pub at : (z : ℕ) → getD ys z 0 ≡ cond (ltb z n) (f z) (getD xs z 0)
+
+-- One list alone is so changed.
+pub changed-one : {f : ℕ → ℕ} {n : ℕ} {xs ys zs : List ℕ} → Changed f n xs ys → Changed f n xs zs → ys ≡ zs
+changed-one {ys = ys} {zs = zs} c d = ext-getD 0 ys zs (c .size ∙ sym (d .size)) (λ z h. c .at z ∙ sym (d .at z))
 
 pub changed-none : (f : ℕ → ℕ) (xs : List ℕ) → Changed f 0 xs xs
 changed-none f xs = record { size = refl; at = λ z. rw (le-ltb z 0 (omega arith)) }

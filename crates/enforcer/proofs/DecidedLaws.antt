@@ -16,7 +16,7 @@ use Rattle.enforcer.specs.Tick.{reaches}
 use Rattle.enforcer.specs.Code.{eventXY, decider, stepFrom}
 use Rattle.enforcer.specs.State.{place}
 use Rattle.enforcer.specs.Ready.{Laid, HereOf}
-use Rattle.enforcer.specs.Laid.{laid-well}
+use Rattle.enforcer.specs.Laid.{laid-well, here-seen}
 use Rattle.enforcer.specs.RuleAhead.{RuleAt, own-here, own-ahead, ahead-at}
 use Rattle.enforcer.specs.Ways.{leads}
 use Rattle.enforcer.specs.Decided.{ruleSaid, Decided}
@@ -51,7 +51,7 @@ module _ {f : List ℕ} {l : Layout} (k : Laid f l) where
     found = decider (rulesFrom (l .clocks) (part f from (h .own .count * ruleSize (l .clocks))) 0 (h .own .count)) (place (l .clocks) (h .seen)) e
 
     own-found : found ≡ decider (rulesFrom (l .clocks) f from (h .own .count)) (looked stopped (policyOf (l .reading) f) (place (l .clocks) s)) e
-    own-found = rw (g .seen, rules-part f (l .clocks) from (h .own .count))
+    own-found = rw (here-seen k g, rules-part f (l .clocks) from (h .own .count))
 
     own-decides : Option·map (λ i. ruleFrom (l .clocks) f (from + i * ruleSize (l .clocks))) found
         ≡ decides (policyOf (l .reading) f .rules) (looked stopped (policyOf (l .reading) f) (place (l .clocks) s)) e

@@ -11,7 +11,8 @@ use Rattle.policy.specs.Rules.{Rule, Place, stopped, hold, looked}
 use Rattle.policy.specs.File.{boundsFrom, ruleFrom, policyOf}
 use Rattle.policy.specs.declared.Layout.{Layout}
 use Rattle.enforcer.specs.State.{place}
-use Rattle.enforcer.specs.Ready.{HereOf}
+use Rattle.enforcer.specs.Ready.{Laid, HereOf}
+use Rattle.enforcer.specs.Laid.{here-seen}
 use Rattle.enforcer.specs.declared.state.State.{State}
 use Rattle.enforcer.specs.declared.reach.Here.{Here}
 use Rattle.choice.specs.Sets.{cond-same}
@@ -26,12 +27,12 @@ unfolding ruleFrom
 rule-holds s h b e = rw (eq-eqb _ _ (h .ours .source)) e
 
 -- So it does for the state that bounds see.
-pub rule-seen : {f : List ℕ} {l : Layout} {s : State} {h : Here} → HereOf f l s h → {at : ℕ} → RuleAt f l (s .location) at → (b : Bool) →
+pub rule-seen : {f : List ℕ} {l : Layout} → Laid f l → {s : State} {h : Here} → HereOf f l s h → {at : ℕ} → RuleAt f l (s .location) at → (b : Bool) →
     hold (boundsFrom f (at + 7) (l .clocks)) (take (l .clocks) (h .seen .clocks)) ≡ b →
     holds (looked stopped (policyOf (l .reading) f) (place (l .clocks) s)) (ruleFrom (l .clocks) f at) ≡ b
-rule-seen {f} {l} {s} {h} k {at} r b e =
-    ap (λ (z : Place). holds z (ruleFrom (l .clocks) f at)) (sym (k .seen))
-    ∙ rule-holds (h .seen) (subst (λ (a : ℕ). RuleAt f l a at) (sym (ap (λ (z : Place). z .location) (k .seen))) r) b e
+rule-seen {f} {l} k {s} {h} o {at} r b e =
+    ap (λ (z : Place). holds z (ruleFrom (l .clocks) f at)) (sym (here-seen k o))
+    ∙ rule-holds (h .seen) (subst (λ (a : ℕ). RuleAt f l a at) (sym (ap (λ (z : Place). z .location) (here-seen k o))) r) b e
 
 -- What a rule takes, by the tests of the code.
 module _ (s : Place) (r : Rule) (x left : ℕ) where

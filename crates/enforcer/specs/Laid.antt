@@ -32,9 +32,10 @@ use Rattle.index.specs.Sections.{Sections, sections-filled, sections-rules}
 use Rattle.enforcer.specs.State.{placeIn, stateOf, isMarked, place}
 use Rattle.enforcer.specs.Tick.{arrives, reaches}
 use Rattle.enforcer.specs.Code.{eventXY, stateAt, seenBy, stepFrom}
-use Rattle.enforcer.specs.Ready.{Laid, Standing}
+use Rattle.enforcer.specs.Ready.{Laid, Standing, HereOf}
 use Rattle.enforcer.specs.declared.state.State.{State}
 use Rattle.enforcer.specs.declared.next.Step.{Step}
+use Rattle.enforcer.specs.declared.reach.Here.{Here}
 
 -- The number of a state, as the code works it out.
 abbrev pub stateNumber : Layout → State → ℕ
@@ -209,6 +210,9 @@ module _ {f : List ℕ} {l : Layout} (k : Laid f l) where
           ap (λ (vs : List ℕ). record { location = s .location; clocks = vs })
           (advance-take stopped 0 (l .clocks) (l .ceilings) (s .clocks) ∙ ap (λ (cs : List ℕ). advance stopped 0 cs (take (l .clocks) (s .clocks))) laid-ceilings)
       go false = refl
+
+  pub here-seen : {s : State} {h : Here} → HereOf f l s h → place (l .clocks) (h .seen) ≡ looked stopped (policyOf (l .reading) f) (place (l .clocks) s)
+  here-seen {s} o = ap (place (l .clocks)) (o .seen) ∙ laid-seen s
 
   -- The place that a state is, and its number, by the layout alone.
   pub laid-place : (s : State) → place (l .clocks) s ≡ placeIn (policyOf (l .reading) f) s

@@ -15,12 +15,13 @@ use Rattle.policy.specs.Sound.{WellFormed}
 use Rattle.policy.specs.Own.{own}
 use Rattle.policy.specs.Number.{states}
 use Rattle.enforcer.specs.State.{isMarked}
+use Rattle.enforcer.specs.Only.{marked-one}
 use Rattle.enforcer.specs.Tick.{mayStand}
 use Rattle.choice.specs.Sets.{agreed, cond-same, has, has-or, has-some, has-not-empty, allBelow}
 use Rattle.choice.specs.Outs.{outs}
 use Rattle.enforcer.specs.Ways.{room, holds, takes, leads, gathered, allowed}
 use Rattle.enforcer.specs.WaysLaws.{gathered-keeps, gathered-own, allowed-any}
-use Rattle.choice.specs.Changed.{Changed, changed-by, changed-not}
+use Rattle.choice.specs.Changed.{Changed, changed-one, changed-by, changed-not}
 
 -- No number below n passes if none does.
 none-any : (n : ℕ) → any (λ x. ltb 0 0) n ≡ false
@@ -38,15 +39,32 @@ module _ (s : Place) where
     pub within : bitAnd value care ≡ value
     pub same : (x left : ℕ) → agreed care value set x left ≡ takes s r x left
 
-  -- Whether the rule r takes something of the first n sets, and if so, what.
+  -- Whether the rule r takes something of the first n sets, and if so, what: its own care bits, value and outputs. If not, the three numbers are 0.
   pub record Parted (r : Rule) (n : ℕ) (left : List ℕ) (some : Bool) (care value set : ℕ) : Type 0 where
     pub says : some ≡ any (λ x. ltb 0 (takes s r x (getD left x 0))) n
     pub parts : some ≡ true → Parts r care value set
+    pub its-care : care ≡ cond some (r .inCare) 0
+    pub its-value : value ≡ cond some (r .inValue) 0
+    pub its-set : set ≡ cond some (outs (r .outCare) (r .outValue)) 0
+
+  -- One answer alone meets it.
+  pub parted-one : {r : Rule} {n : ℕ} {left : List ℕ} {a b : Bool} {care value set care' value' set' : ℕ} →
+      Parted r n left a care value set → Parted r n left b care' value' set' → (a ≡ b) × (care ≡ care') × (value ≡ value') × (set ≡ set')
+  parted-one {r} k j =
+      let e = k .says ∙ sym (j .says) in (
+        e,
+        k .its-care ∙ rw e (sym (j .its-care)),
+        k .its-value ∙ rw e (sym (j .its-value)),
+        k .its-set ∙ rw e (sym (j .its-set)),
+      )
+
+  parted-nothing : {r : Rule} {n : ℕ} {left : List ℕ} → false ≡ any (λ x. ltb 0 (takes s r x (getD left x 0))) n → Parted r n left false 0 0 0
+  parted-nothing d = record { says = d; parts = λ q. absurd (false≢true q); its-care = refl; its-value = refl; its-set = refl }
 
   -- A rule whose bounds do not hold takes nothing.
-  pub parted-bounds : {r : Rule} {n : ℕ} {left : List ℕ} {care value set : ℕ} → holds s r ≡ false → Parted r n left false care value set
+  pub parted-bounds : {r : Rule} {n : ℕ} {left : List ℕ} → holds s r ≡ false → Parted r n left false 0 0 0
   unfolding takes
-  parted-bounds {r} {n} e = record { says = rw (e, none-any n); parts = λ q. absurd (false≢true q) }
+  parted-bounds {r} {n} e = parted-nothing (rw (e, none-any n))
 
   -- One whose bounds hold takes what its bytes say.
   pub parts-so : {r : Rule} → holds s r ≡ true → r .inCare < 16 → bitAnd (r .inValue) (r .inCare) ≡ r .inValue →
@@ -54,11 +72,18 @@ module _ (s : Place) where
   unfolding takes
   parts-so e few within = record { few = few; within = within; same = λ x l. rw e }
 
-  pub parted-so : {r : Rule} {n : ℕ} {left : List ℕ} {some : Bool} → holds s r ≡ true → r .inCare < 16 → bitAnd (r .inValue) (r .inCare) ≡ r .inValue →
-      some ≡ any (λ x. ltb 0 (agreed (r .inCare) (r .inValue) (outs (r .outCare) (r .outValue)) x (getD left x 0))) n →
-      Parted r n left some (r .inCare) (r .inValue) (outs (r .outCare) (r .outValue))
-  unfolding takes
-  parted-so e few within d = record { says = rw e d; parts = λ q. parts-so e few within }
+  module _ {r : Rule} {n : ℕ} {left : List ℕ} (e : holds s r ≡ true) where
+    -- Nothing of that is left,
+    pub parted-taken : false ≡ any (λ x. ltb 0 (agreed (r .inCare) (r .inValue) (outs (r .outCare) (r .outValue)) x (getD left x 0))) n → Parted r n left false 0 0 0
+    unfolding takes
+    parted-taken d = parted-nothing (rw e d)
+
+    -- or something.
+    pub parted-so : r .inCare < 16 → bitAnd (r .inValue) (r .inCare) ≡ r .inValue →
+        true ≡ any (λ x. ltb 0 (agreed (r .inCare) (r .inValue) (outs (r .outCare) (r .outValue)) x (getD left x 0))) n →
+        Parted r n left true (r .inCare) (r .inValue) (outs (r .outCare) (r .outValue))
+    unfolding takes
+    parted-so few within d = record { says = rw e d; parts = λ q. parts-so e few within; its-care = refl; its-value = refl; its-set = refl }
 
   module _ {r : Rule} {n : ℕ} {left : List ℕ} {care value set : ℕ} (k : Parted r n left false care value set) where
     pub parted-none : (x : ℕ) → x < n → takes s r x (getD left x 0) ≡ 0
@@ -78,6 +103,10 @@ module _ (s : Place) where
   pub record Took (r : Rule) (n : ℕ) (left rest : List ℕ) (some : Bool) : Type 0 where
     pub changed : Changed (λ x. bitXor (getD left x 0) (takes s r x (getD left x 0))) n left rest
     pub says : some ≡ any (λ x. ltb 0 (takes s r x (getD left x 0))) n
+
+  -- One answer alone meets it, and one later content of the sets.
+  pub took-one : {r : Rule} {n : ℕ} {left rest also : List ℕ} {a b : Bool} → Took r n left rest a → Took r n left also b → (rest ≡ also) × (a ≡ b)
+  took-one k j = (changed-one (k .changed) (j .changed), k .says ∙ sym (j .says))
 
   pub took-not : {r : Rule} {n : ℕ} {left : List ℕ} {care value set : ℕ} → Parted r n left false care value set → Took r n left left false
   took-not k = record { changed = parted-not k; says = k .says }
@@ -216,35 +245,53 @@ module _ (s : Place) (p : Policy) (marks : List ℕ) where
 
 -- Where the rules lead, whatever is marked.
 module _ (s : Place) (p : Policy) where
-  -- The rule r leads to the state with the number `to`, or nowhere.
+  -- The rule r leads to the state with the number `to`, or nowhere; then the number is 0.
   pub record Led (r : Rule) (some : Bool) (to : ℕ) : Type 0 where
     pub mark : (marks : List ℕ) → leads s p marks r ≡ (some && isMarked marks to)
     pub below : some ≡ true → to < states p
+    pub nowhere : some ≡ false → to ≡ 0
+
+  -- One answer alone meets it.
+  pub led-one : {r : Rule} {a b : Bool} {m n : ℕ} → Led r a m → Led r b n → (a ≡ b) × (m ≡ n)
+  led-one {a = a} {b = b} w v = marked-one a b (λ marks. sym (w .mark marks) ∙ v .mark marks) (w .nowhere) (v .nowhere)
 
   -- So it does, if its bounds hold.
   pub record Held (r : Rule) (some : Bool) (to : ℕ) : Type 0 where
     pub mark : (marks : List ℕ) → (holds (looked stopped p s) r && leads s p marks r) ≡ (some && isMarked marks to)
     pub below : some ≡ true → to < states p
+    pub nowhere : some ≡ false → to ≡ 0
 
-  pub held-not : {r : Rule} {to : ℕ} → holds (looked stopped p s) r ≡ false → Held r false to
-  held-not e = record { mark = λ marks. rw e; below = λ q. absurd (false≢true q) }
+  -- One answer alone meets it.
+  pub held-one : {r : Rule} {a b : Bool} {m n : ℕ} → Held r a m → Held r b n → (a ≡ b) × (m ≡ n)
+  held-one {a = a} {b = b} w v = marked-one a b (λ marks. sym (w .mark marks) ∙ v .mark marks) (w .nowhere) (v .nowhere)
+
+  pub held-not : {r : Rule} → holds (looked stopped p s) r ≡ false → Held r false 0
+  held-not e = record { mark = λ marks. rw e; below = λ q. absurd (false≢true q); nowhere = λ q. refl }
 
   pub held-led : {r : Rule} {some : Bool} {to : ℕ} → holds (looked stopped p s) r ≡ true → Led r some to → Held r some to
-  held-led e w = record { mark = λ marks. rw e (w .mark marks); below = w .below }
+  held-led e w = record { mark = λ marks. rw e (w .mark marks); below = w .below; nowhere = w .nowhere }
 
-  -- What the rule r takes of the first n sets, and where it leads if it takes something.
+  -- What the rule r takes of the first n sets, and where it leads if it takes something; where it leads nowhere, the number is 0.
   pub record RuleTurned (r : Rule) (n : ℕ) (left rest : List ℕ) (some : Bool) (to : ℕ) : Type 0 where
     pub went : (marks : List ℕ) → Went s p marks r n left rest (some && isMarked marks to)
     pub below : some ≡ true → to < states p
+    pub nowhere : some ≡ false → to ≡ 0
+
+  -- One answer alone meets it, and one later content of the sets.
+  pub turned-one : {r : Rule} {n : ℕ} {left rest also : List ℕ} {a b : Bool} {m k : ℕ} →
+      RuleTurned r n left rest a m → RuleTurned r n left also b k → (rest ≡ also) × (a ≡ b) × (m ≡ k)
+  turned-one {a = a} {b = b} w v =
+      let e = marked-one a b (λ marks. w .went marks .says ∙ sym (v .went marks .says)) (w .nowhere) (v .nowhere) in
+      (changed-one (w .went [] .changed) (v .went [] .changed), e .0, e .1)
 
   pub turned-as : {r : Rule} {n m : ℕ} {left rest : List ℕ} {some : Bool} {to : ℕ} → n ≡ m → RuleTurned r n left rest some to → RuleTurned r m left rest some to
   turned-as {r} {left = left} {rest = rest} {some = some} {to = to} e w = subst (λ (k : ℕ). RuleTurned r k left rest some to) e w
 
-  pub turned-not : {r : Rule} {n : ℕ} {left rest : List ℕ} {to : ℕ} → Took (looked stopped p s) r n left rest false → RuleTurned r n left rest false to
-  turned-not k = record { went = λ marks. record { changed = k .changed; says = rw (← k .says) }; below = λ q. absurd (false≢true q) }
+  pub turned-not : {r : Rule} {n : ℕ} {left rest : List ℕ} → Took (looked stopped p s) r n left rest false → RuleTurned r n left rest false 0
+  turned-not k = record { went = λ marks. record { changed = k .changed; says = rw (← k .says) }; below = λ q. absurd (false≢true q); nowhere = λ q. refl }
 
   pub turned-took : {r : Rule} {n : ℕ} {left rest : List ℕ} {some : Bool} {to : ℕ} → Took (looked stopped p s) r n left rest true → Led r some to → RuleTurned r n left rest some to
-  turned-took k w = record { went = λ marks. record { changed = k .changed; says = rw (← k .says, w .mark marks) }; below = w .below }
+  turned-took k w = record { went = λ marks. record { changed = k .changed; says = rw (← k .says, w .mark marks) }; below = w .below; nowhere = w .nowhere }
 
   -- What is known with the rules rs still to come, if the states of the kind F are found: no rule passed leads to another.
   pub record Passing (F : ℕ → Type 0) (rs : List Rule) (left : List ℕ) : Type 0 where

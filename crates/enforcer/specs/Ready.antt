@@ -1,16 +1,17 @@
 -- What the tick's functions ask: a file that was checked, its layout, marks for each state, and a state in range.
-use mathlib.Core.Path.{_≡_}
+use mathlib.Core.Path.{_≡_, sym, ap₂, _∙_}
 use mathlib.Core.List.{List}
 use Prim.Native.Nat.{ℕ, _≤_}
 use lib.ListN.{length}
-use Rattle.policy.specs.Rules.{stopped, looked}
 use Rattle.policy.specs.File.{policyOf, rulesOf, inputCount, outputCount, clockCount, locationCount, ruleCount, rulesStart, rulesEnd, ceilingsOf}
 use Rattle.policy.specs.Number.{four, states}
 use Rattle.policy.specs.Check.{refusalOf}
 use Rattle.policy.specs.Sound.{Inside}
 use Rattle.policy.specs.Own.{ownOf}
 use Rattle.policy.specs.declared.Layout.{Layout}
+use Rattle.policy.specs.declared.own.Own.{Own}
 use Rattle.enforcer.specs.State.{place}
+use Rattle.enforcer.specs.Code.{seenBy}
 use Rattle.enforcer.specs.declared.state.State.{State}
 use Rattle.enforcer.specs.declared.reach.Here.{Here}
 
@@ -36,7 +37,11 @@ pub record Standing (f : List ℕ) (l : Layout) (marks : List ℕ) (s : State) :
 -- The state's own rules are known, and the state that their bounds see.
 pub record HereOf (f : List ℕ) (l : Layout) (s : State) (h : Here) : Type 0 where
   pub own : h .own ≡ ownOf (l .clocks) (s .location) (rulesOf f)
-  pub seen : place (l .clocks) (h .seen) ≡ looked stopped (policyOf (l .reading) f) (place (l .clocks) s)
+  pub seen : h .seen ≡ seenBy l s
+
+-- One answer alone meets it.
+pub here-one : {f : List ℕ} {l : Layout} {s : State} {h g : Here} → HereOf f l s h → HereOf f l s g → h ≡ g
+here-one k j = ap₂ (λ (o : Own) (v : State). record { own = o; seen = v }) (k .own ∙ sym (j .own)) (k .seen ∙ sym (j .seen))
 
 pub record Ready (f : List ℕ) (l : Layout) (h : Here) (marks : List ℕ) (s : State) : Type 0 where
   pub standing : Standing f l marks s

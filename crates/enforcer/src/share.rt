@@ -13,6 +13,7 @@ use choice::take;
 use policy::Layout;
 use policy::bytes::byte_within;
 ghost use mathlib.Core.Path.{_≡_};
+ghost use mathlib.Core.Bool.{false};
 ghost use Prim.Native.Nat.{_≤_};
 ghost use lib.ListN.{length};
 ghost use Rattle.policy.specs.Rules.{stopped, looked};
@@ -24,12 +25,23 @@ ghost use Rattle.enforcer.specs.Ways.{takes};
 ghost use Rattle.enforcer.specs.Pass.{Parted, Took, RuleTurned, Went, Gathers};
 ghost use Rattle.enforcer.specs.RuleAhead.{RuleAt};
 
-// What a rule takes of what is left: with the inputs that agree with the care bits and the value, the outputs in the set. `some`: that is something.
+// What a rule takes of what is left: with the inputs that agree with the care bits and the value, the outputs in the set. `some`: that is something; else the three are 0.
 pub struct Share {
     pub some: bool,
     pub care: usize,
     pub value: usize,
     pub set: u16,
+}
+
+fn nothing() -> Share
+    ensures { λ r. ⌜ r ≡ record { some = false; care = 0; value = 0; set = 0 } ⌝ }
+{
+    Share {
+        some: false,
+        care: 0,
+        value: 0,
+        set: 0,
+    }
 }
 
 // What the rule at `at` takes. A rule whose bounds do not hold is left before any set is looked at.
@@ -46,18 +58,16 @@ pub fn part_of(
     ensures { λ r. ⌜ Parted (looked stopped (policyOf (layout .reading) (now (file .entry))) (place (layout .clocks) state)) (ruleFrom (layout .clocks) (now (file .entry)) at) inputs (now (left .entry)) (r .some) (r .care) (r .value) (r .set) ⌝ }
 {
     if !held(file, layout, here, state, at) {
-        return Share {
-            some: false,
-            care: 0,
-            value: 0,
-            set: 0,
-        };
+        return nothing();
     }
     let care = byte_within(file, at + 1);
     let value = byte_within(file, at + 2);
     let set = outs(byte_within(file, at + 3), byte_within(file, at + 4));
+    if !is_left(left, inputs, care, value, set) {
+        return nothing();
+    }
     Share {
-        some: is_left(left, inputs, care, value, set),
+        some: true,
         care,
         value,
         set,

@@ -1,5 +1,5 @@
 -- Bytes laid into a slice from a position on, as far as the slice reaches, and what the join lays.
-use mathlib.Core.Path.{_≡_}
+use mathlib.Core.Path.{_≡_, sym, _∙_}
 use mathlib.Core.Bool.{Bool, true, _&&_}
 use mathlib.Core.List.{List, [], _∷_, _++_}
 use Prim.Native.Nat.{ℕ, zero, suc, _+_, _*_, _≤_, _<_}
@@ -33,6 +33,10 @@ eitherFrom f p g q (suc n) = bitOr (byteAt f p) (byteAt g q) ∷ eitherFrom f (p
 pub record LaidAt (bytes before : List ℕ) (at : ℕ) (after : List ℕ) (end : ℕ) : Type 0 where
   pub ends : end ≡ at + length bytes
   pub lies : after ≡ sets before at bytes
+
+-- One slice alone and one position alone meet it.
+pub laid-one : {bytes before after also : List ℕ} {at end stop : ℕ} → LaidAt bytes before at after end → LaidAt bytes before at also stop → (after ≡ also) × (end ≡ stop)
+laid-one c d = (c .lies ∙ sym (d .lies), c .ends ∙ sym (d .ends))
 
 -- The care mask and the value at p and those at q do not contradict; nor do the rules there, in their inputs and in their outputs.
 abbrev pub careAgrees : List ℕ → ℕ → List ℕ → ℕ → Bool

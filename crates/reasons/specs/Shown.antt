@@ -24,7 +24,7 @@ use Rattle.resting.specs.Machine as Machine
 use Rattle.resting.specs.Walk.{Visits, visits-of, visits-runs, visits-rested}
 use Rattle.prepare.specs.Table.{machineOf}
 use Rattle.prepare.specs.Live.{there-numbered, numbered-there, unlimited-step}
-use Rattle.prepare.specs.Alone.{only, only-one, only-marked}
+use Rattle.enforcer.specs.Only.{only, only-one, only-marked}
 use Rattle.reasons.specs.Exact.{Exact, visits-down, calm, calm-length, calm-all, calm-visits}
 use Rattle.reasons.specs.Loops.{LastsLong}
 use Rattle.reasons.specs.Reasons.{TicksLeft, Lasting, RestsLeft}

@@ -18,7 +18,7 @@ bounds-hold-requires c κs =
 returns : tie.Need-returns
 returns c =
     let s = c .before .before .before in
-    sym (rule-seen (s .pre .1) (s .pre .2) _ (sym (c .bounds-hold .ensures)))
+    sym (rule-seen (s .pre .0) (s .pre .1) (s .pre .2) _ (sym (c .bounds-hold .ensures)))
 
 pub held-spec : {M : Type 1} → statement M
 held-spec =

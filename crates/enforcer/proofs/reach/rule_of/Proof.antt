@@ -10,7 +10,7 @@ use Rattle.policy.specs.Rules.{Place}
 use Rattle.policy.specs.File.{part, ruleSize, rulesFrom}
 use Rattle.enforcer.specs.Code.{eventXY, decider, foundSaid}
 use Rattle.enforcer.specs.State.{place}
-use Rattle.enforcer.specs.Laid.{laid-limits, own-fits, own-level}
+use Rattle.enforcer.specs.Laid.{laid-limits, own-fits, own-level, here-seen}
 use Rattle.enforcer.specs.Decider.{decider-lt}
 use Rattle.enforcer.proofs.DecidedLaws.{decided-none, decided-rule}
 use Rattle.enforcer.proofs.reach.rule_of.Statement.{statement}
@@ -25,7 +25,7 @@ fits s = omega (arith, own-fits (s .pre .0) (s .args .state .location) (s .pre .
 
 -- The state that bounds see is at the same location.
 location : (s : tie.Start) → s .args .here .seen .location ≡ s .args .state .location
-location s = ap (λ (z : Place). z .location) (s .pre .1 .seen)
+location s = ap (λ (z : Place). z .location) (here-seen (s .pre .0) (s .pre .1))
 
 -- What the search found, as it looks at the part of the file.
 searched : (c : tie.After-first-rule) →

@@ -77,7 +77,7 @@ returns c =
     gathers-led _ _ _ (parts d) (c .gather .ensures .0) _ (d .before .before .before .before .kept .ensures) (c .gather .ensures .1)
 
 returns-2 : tie.Need-returns-2
-returns-2 c = gathers-not _ _ _ _ (parted-bounds _ {care = 0} {value = 0} {set = 0} (sym (c .before .held .ensures) ∙ c .if1 .left))
+returns-2 c = gathers-not _ _ _ _ (parted-bounds _ (sym (c .before .held .ensures) ∙ c .if1 .left))
 
 pub gather-by-spec : {M : Type 1} → statement M
 gather-by-spec =

@@ -1,17 +1,26 @@
 -- `enforcer::share::part_of` meets its contract: a rule whose bounds do not hold takes nothing, and else its bytes say what it takes.
-use mathlib.Core.Path.{sym, _∙_}
+use mathlib.Core.Path.{_≡_, sym, _∙_}
+use lib.Dec.{ltb}
+use lib.ListN.{getD}
 use borrow.Author.Needs.{needs}
 use borrow.Author.Tests.{not-true, not-false}
+use denote.Ref.{now}
+use Rattle.streams.specs.Choose.{any}
 use Rattle.policy.specs.File.{ruleFrom}
-use Rattle.enforcer.specs.Pass.{parted-bounds, parted-so}
+use Rattle.choice.specs.Sets.{agreed}
+use Rattle.choice.specs.Outs.{outs}
+use Rattle.enforcer.specs.Pass.{parted-bounds, parted-taken, parted-so}
 use Rattle.enforcer.proofs.share.part_of.Statement.{statement}
 use Rattle.enforcer.proofs.share.part_of.Tie as tie
 
 held-requires : tie.Need-held-requires
 held-requires c κs = let s = c .before in (s .pre .0, s .pre .1, s .pre .2)
 
+nothing-requires : tie.Need-nothing-requires
+nothing-requires c κs = search needs
+
 returns : tie.Need-returns
-returns c = parted-bounds _ (sym (c .before .held .ensures) ∙ not-true _ (c .if1 .taken))
+returns c = rw (c .nothing .ensures) (parted-bounds _ (sym (c .before .before .held .ensures) ∙ not-true _ (c .before .if1 .taken)))
 
 add-byte-within : tie.Need-add-byte-within
 add-byte-within c = search needs
@@ -47,21 +56,42 @@ is-left-requires c κs =
     let r = d .before .before .before .before .before .pre in
     rw (d .before .byte-within .ensures .0, d .byte-within2 .ensures .0) (r .3, r .2 .ours .care, r .2 .ours .formed .inputs)
 
-returns-2 : tie.Need-returns-2
+-- Whether the rule takes something, by its bytes.
+left-so : (c : tie.After-is-left) →
+    let a = c .before .before .before .before .before .before .before .before .before .args in
+    let r = ruleFrom (a .layout .clocks) (now (a .file)) (a .at) in
+    c .is-left .result ≡ any (λ x. ltb 0 (agreed (r .inCare) (r .inValue) (outs (r .outCare) (r .outValue)) x (getD (now (a .left)) x 0))) (a .inputs)
 unfolding ruleFrom
-returns-2 c =
+left-so c =
     let d = c .before .before .before .before in
+    rw (c .before .outs .ensures, d .before .byte-within .ensures .0, d .byte-within2 .ensures .0, c .before .before .before .byte-within3 .ensures .0, c .before .before .byte-within4 .ensures .0) at (c .is-left .ensures)
+
+nothing-requires-2 : tie.Need-nothing-requires-2
+nothing-requires-2 c κs = search needs
+
+returns-2 : tie.Need-returns-2
+returns-2 c =
+    let e = c .before in
+    let l = e .before in
+    let i = l .before .before .before .before .before .before in
+    rw (c .nothing2 .ensures) (parted-taken _ (sym (i .before .held .ensures) ∙ not-false _ (i .if1 .left)) (sym (not-true _ (e .if2 .taken)) ∙ left-so l))
+
+returns-3 : tie.Need-returns-3
+unfolding ruleFrom
+returns-3 c =
+    let l = c .before in
+    let d = l .before .before .before .before in
     let i = d .before .before in
     let o = i .before .before .before .pre .2 in
-    rw (c .before .outs .ensures, d .before .byte-within .ensures .0, d .byte-within2 .ensures .0, c .before .before .before .byte-within3 .ensures .0, c .before .before .byte-within4 .ensures .0)
-    (parted-so _ (sym (i .before .held .ensures) ∙ not-false _ (i .if1 .left)) (o .ours .care) (o .ours .formed .inputs)
-    (rw (c .before .outs .ensures, d .before .byte-within .ensures .0, d .byte-within2 .ensures .0, c .before .before .before .byte-within3 .ensures .0, c .before .before .byte-within4 .ensures .0) at (c .is-left .ensures)))
+    rw (l .before .outs .ensures, d .before .byte-within .ensures .0, d .byte-within2 .ensures .0, l .before .before .before .byte-within3 .ensures .0, l .before .before .byte-within4 .ensures .0)
+    (parted-so _ (sym (i .before .held .ensures) ∙ not-false _ (i .if1 .left)) (o .ours .care) (o .ours .formed .inputs) (sym (not-false _ (c .if2 .left)) ∙ left-so l))
 
 pub part-of-spec : {M : Type 1} → statement M
 part-of-spec =
     tie.close
     (tie.spec
     held-requires
+    nothing-requires
     returns
     add-byte-within
     byte-within-requires
@@ -73,4 +103,6 @@ part-of-spec =
     byte-within-requires-4
     outs-requires
     is-left-requires
-    returns-2)
+    nothing-requires-2
+    returns-2
+    returns-3)

@@ -8,7 +8,7 @@ use denote.Ref.{now}
 use Rattle.policy.specs.Rules.{Rule, Place}
 use Rattle.policy.specs.Parts.{rules-part}
 use Rattle.enforcer.specs.Code.{eventXY, decider}
-use Rattle.enforcer.specs.Laid.{laid-limits, own-fits, own-level}
+use Rattle.enforcer.specs.Laid.{laid-limits, own-fits, own-level, here-seen}
 use borrow.Author.Needs.{needs}
 use Rattle.reasons.proofs.tell.decided.Statement.{statement}
 use Rattle.reasons.proofs.tell.decided.Tie as tie
@@ -24,7 +24,7 @@ fits c =
 
 -- The state that bounds see is at the same location.
 location : (s : tie.Start) → s .args .here .seen .location ≡ s .args .state .location
-location s = ap (λ (z : Place). z .location) (s .pre .1 .seen)
+location s = ap (λ (z : Place). z .location) (here-seen (s .pre .0) (s .pre .1))
 
 add-from : tie.Need-add-from
 add-from c = omega (arith, fits c)
@@ -69,7 +69,7 @@ returns c =
     let size = a .here .own .count * (7 + 4 * a .layout .clocks) in
     let n : from + size - from ≡ size = omega arith in
     rw n at (c .first-rule .ensures)
-    ∙ ap₂ (λ (rs : List Rule) (v : Place). decider rs v (eventXY (a .x) (a .y))) (rules-part (now (a .file)) (a .layout .clocks) from (a .here .own .count)) (s .pre .1 .seen)
+    ∙ ap₂ (λ (rs : List Rule) (v : Place). decider rs v (eventXY (a .x) (a .y))) (rules-part (now (a .file)) (a .layout .clocks) from (a .here .own .count)) (here-seen (s .pre .0) (s .pre .1))
 
 pub decided-spec : {M : Type 1} → statement M
 decided-spec =
