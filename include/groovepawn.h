@@ -163,6 +163,14 @@ extern "C" {
 #define GROOVEPAWN_LIST_LENGTH(answer) ((answer) >> 32)
 
 /*
+ * Checks the policy alone: how many states it has, and so how many marks are enough for it, under either reading.
+ * Refusals in this order: 1 to 9. Stack: 248 bytes.
+ * Returns refusal | states << 8.
+ */
+GROOVEPAWN_LOOK_AT_ANSWER
+uint64_t groovepawn_check(const uint8_t *file, size_t file_len);
+
+/*
  * Checks the policy and writes one mark for each state, under the reading named.
  * Refusals in this order: 22, 1 to 9, 10, 11. Stack: 1,136 bytes.
  * Returns refusal | verdict << 8 | states << 16 | live << 40: how many states there are and how many are live.

@@ -66,6 +66,8 @@ pub const GROOVEPAWN_STRUCK_WITH_IT: u8 = 2;
 pub const GROOVEPAWN_STRUCK_RULE: u8 = 3;
 
 extern "C" {
+    pub fn groovepawn_check(file: *const u8, file_len: usize) -> u64;
+
     pub fn groovepawn_prepare(
         reading: u8,
         file: *const u8,

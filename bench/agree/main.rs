@@ -116,6 +116,7 @@ impl Engine for Side<'_> {
 
     // What follows is not measured, so no program here has any of it.
     asks! { Model:
+        check(file: &[u8]);
         ticks(milliseconds: u32, tick_length: u32, up: u8);
         index(file: &[u8], index: &mut [u16]);
         input_indexed(indexed: Indexed, state: &[u16], x: u8);

@@ -21,7 +21,7 @@ use crate::reading::READINGS;
 use crate::subject::Subject;
 use bays::{bay_call, bays_new_call};
 use clean::clean_call;
-use engines::{around_engines, prepare_calls};
+use engines::{around_engines, check_call, prepare_calls};
 use halves::{around_edits, input_call, output_call, run_call};
 use indexes::{index_call, indexed_call};
 use joins::around_join;
@@ -61,6 +61,7 @@ fn around_policy(random: &mut Random) -> Vec<Call> {
         _ => 1,
     };
     let mut made = prepare_calls(random, &subject);
+    made.push(check_call(&subject));
     for _ in 0..calls {
         made.push(input_call(random, &subject));
         made.push(output_call(random, &subject));
@@ -90,6 +91,7 @@ fn some_numbers(random: &mut Random, length: usize) -> Vec<u16> {
 pub fn refusals_of(function: &str) -> Vec<usize> {
     let own: &[usize] = match function {
         "ticks" => return vec![0, 18, 19],
+        "check" => &[],
         "prepare" => &[10, 11, 22],
         "prepare_fast" => &[10, 11, 22, 23],
         "clean" => &[14, 22],

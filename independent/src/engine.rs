@@ -9,6 +9,7 @@ use crate::enforce;
 use crate::index::{self, Indexed};
 use crate::join;
 use crate::meter::{self, Lent};
+use crate::parse;
 use crate::refusal::Refusal;
 use crate::ticks::{self, Rounding};
 use crate::waves;
@@ -77,6 +78,9 @@ pub trait Engine {
     /// refusal | input's kind << 8 | its number << 16 | output's kind << 32 |
     /// its number << 40
     fn why(&mut self, basis: Basis, state: &[u16], x: u8, y: u8) -> u64;
+
+    /// refusal | states << 8
+    fn check(&mut self, file: &[u8]) -> u64;
 
     /// Whether, since this was last asked, a byte was changed that was not
     /// lent for writing.
@@ -201,6 +205,10 @@ impl Engine for Model {
             }
             Err(refusal) => u64::from(refusal.number()),
         }
+    }
+
+    fn check(&mut self, file: &[u8]) -> u64 {
+        packed(parse::check(file).map(|policy| policy.states()))
     }
 }
 

@@ -216,6 +216,10 @@ impl Engine for Library {
         ask!(self.groovepawn_why[reading][file, marks, state][x, y])
     }
 
+    fn check(&mut self, file: &[u8]) -> u64 {
+        ask!(self.groovepawn_check[][file][])
+    }
+
     fn strayed(&mut self) -> bool {
         std::mem::take(&mut self.strayed)
     }

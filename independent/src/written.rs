@@ -3,6 +3,7 @@
 
 mod annex;
 mod bays;
+mod check;
 mod clean;
 mod fast;
 mod files;
@@ -76,6 +77,7 @@ pub fn all() -> Vec<Written> {
         annex::all(),
         clean::all(),
         why::all(),
+        check::all(),
         wrong_files::all(),
         times::all(),
         waves::all(),

@@ -188,6 +188,7 @@ mod tests {
             "clean Bytes",
             "clean List",
             "why Answer",
+            "check Answer",
         ];
         assert_eq!(named, expected);
     }

@@ -3,6 +3,7 @@ pub mod Calls
 pub mod Bounds
 pub mod Stays
 pub mod Fields
+pub mod Check
 pub mod Waves
 pub mod Indexed
 pub mod IndexedLaws

@@ -1,6 +1,7 @@
 // The entries for a controller in C: each answer is one number, a state five. They are the location and then the four clock values.
 // What each call promises stands in specs/.
 mod bay_calls;
+mod check_call;
 mod clean_call;
 mod meter_calls;
 mod second;
@@ -14,6 +15,7 @@ use bays::five::STATE_NUMBERS;
 use bays::five::odd_refusal;
 use bays::five::put_state;
 use bays::five::state_of;
+pub use check_call::groovepawn_check;
 pub use clean_call::groovepawn_clean;
 use enforcer::HalfAnswer;
 use enforcer::Output;

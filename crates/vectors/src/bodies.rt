@@ -62,6 +62,14 @@ fn wave_record(cases: &[u8], kind: Kind, at: Cursor) -> CallOutcome {
     }
 }
 
+fn check_record(cases: &[u8], at: Cursor) -> CallOutcome {
+    let mut file = [0u8; 8192];
+    let taken = at.string(cases, &mut file);
+    let file_length = taken.count;
+    let next = taken.next;
+    calls::check(cases, next, &file[..file_length])
+}
+
 fn index_record(cases: &[u8], at: Cursor) -> CallOutcome {
     let mut file = [0u8; 8192];
     let mut index = [0u16; 136];
@@ -130,6 +138,7 @@ pub(crate) fn body(cases: &[u8], kind: Kind, at: Cursor) -> CallOutcome {
         Kind::BaysNew => bays_new_record(cases, at),
         Kind::MeterNew => meter_new_record(cases, at),
         Kind::Clean => clean_record(cases, at),
+        Kind::Check => check_record(cases, at),
         Kind::Unknown => CallOutcome {
             differs: Differs::Nothing,
             next: at.lose(),

@@ -22,6 +22,16 @@ pub(crate) fn prepare(
     }
 }
 
+pub(crate) fn check(cases: &[u8], at: Cursor, file: &[u8]) -> CallOutcome {
+    let got = groovepawn::groovepawn_check(file);
+    let answer = at.long(cases);
+    let next = answer.next;
+    CallOutcome {
+        differs: first_of(got == answer.value, true, true),
+        next,
+    }
+}
+
 pub(crate) fn input(
     cases: &[u8],
     at: Cursor,

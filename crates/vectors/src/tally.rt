@@ -4,7 +4,7 @@ use crate::numbers::Cursor;
 use libc::STDOUT_FILENO;
 
 // The kinds of records have the numbers from 1 to below this.
-pub const KINDS: usize = 21;
+pub const KINDS: usize = 22;
 
 pub enum Kind {
     Prepare,
@@ -27,6 +27,7 @@ pub enum Kind {
     PrepareFast,
     Clean,
     Why,
+    Check,
     Unknown,
 }
 
@@ -53,6 +54,7 @@ impl Kind {
             18 => Kind::PrepareFast,
             19 => Kind::Clean,
             20 => Kind::Why,
+            21 => Kind::Check,
             _ => Kind::Unknown,
         }
     }
@@ -79,6 +81,7 @@ impl Kind {
             Kind::PrepareFast => print(b"prepare_fast"),
             Kind::Clean => print(b"clean"),
             Kind::Why => print(b"why"),
+            Kind::Check => print(b"check"),
             Kind::Unknown => print(b"unknown"),
         }
     }

@@ -85,6 +85,7 @@ calls! {
     PrepareFast "prepare_fast": reading Byte, file Policy, marks Bytes before, work Work;
     Clean "clean": reading Byte, file Policy, cleaned Policy before, struck Policy before;
     Why "why": reading Byte, file Policy, marks Bytes, state Numbers, x Byte, y Byte;
+    Check "check": file Policy;
 }
 
 /// Declares the kinds of what a function is given: as it stands in a call, as

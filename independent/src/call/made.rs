@@ -73,6 +73,7 @@ impl Call {
             }
             Call::Clean { .. } => engine.clean(reading, file, &mut bytes, &mut struck),
             Call::Why { state, x, y, .. } => engine.why(basis, state, *x, *y),
+            Call::Check { .. } => engine.check(file),
         };
         Outcome {
             answer,

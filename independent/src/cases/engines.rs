@@ -1,4 +1,4 @@
-//! Calls of the two engines that prepare.
+//! Calls of the check and of the two engines that prepare.
 
 use super::some_numbers;
 use super::why::why_call;
@@ -33,6 +33,13 @@ pub fn prepare_calls(random: &mut Random, subject: &Subject) -> Vec<Call> {
             prepare_fast_call(random, subject),
         ],
         _ => vec![],
+    }
+}
+
+/// How many marks both engines need.
+pub fn check_call(subject: &Subject) -> Call {
+    Call::Check {
+        file: subject.file.clone(),
     }
 }
 

@@ -40,7 +40,8 @@ pub fn around_damage(random: &mut Random) -> Vec<Call> {
         made.push(bay_call(random, &subject).with_file(file.clone()));
         made.push(prepare_fast_call(random, &subject).with_file(file.clone()));
         made.push(clean_call(random, &subject).with_file(file.clone()));
-        made.push(why_call(random, &subject).with_file(file));
+        made.push(why_call(random, &subject).with_file(file.clone()));
+        made.push(Call::Check { file });
     }
     made
 }
@@ -52,10 +53,13 @@ pub fn around_prefixes(random: &mut Random) -> Vec<Call> {
     let reading = random.pick(&READINGS).number();
     damage::prefixes(&file[..file.len().min(150)])
         .into_iter()
-        .map(|file| Call::Prepare {
-            reading,
-            file,
-            marks: marks.clone(),
+        .flat_map(|file| {
+            let prepare = Call::Prepare {
+                reading,
+                file: file.clone(),
+                marks: marks.clone(),
+            };
+            [prepare, Call::Check { file }]
         })
         .collect()
 }

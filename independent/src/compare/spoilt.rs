@@ -41,6 +41,7 @@ macro_rules! asks {
 
 impl Engine for Spoilt {
     asks! {
+        engines::check(file: &[u8]);
         engines::prepare(reading: u8, file: &[u8], marks: &mut [u8]);
         engines::prepare_fast(reading: u8, file: &[u8], marks: &mut [u8], work: &mut Work);
         halves::input(basis: Basis, state: &[u16], x: u8);

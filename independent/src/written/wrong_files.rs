@@ -90,6 +90,7 @@ fn calls() -> Vec<Call> {
             struck: vec![FILLER; 9],
         },
         call!(Why, asked(1), state: state(), y: 1),
+        Call::Check { file: file() },
     ]
 }
 

@@ -1,4 +1,4 @@
-//! Both engines that prepare, spoilt.
+//! The check and both engines that prepare, spoilt.
 
 use super::{Fault, Spoilt};
 use crate::call::Work;
@@ -6,6 +6,15 @@ use crate::engine::{refusal_in, Engine, Model};
 use crate::parse;
 use crate::policy::Policy;
 use crate::reading::Reading;
+
+pub fn check(spoilt: &Spoilt, file: &[u8]) -> u64 {
+    match parse::check(file) {
+        Ok(policy) if spoilt.has(Fault::StatesOfOneLocation) => {
+            policy.states() / (policy.locations() as u64) << 8
+        }
+        _ => Model.check(file),
+    }
+}
 
 pub fn prepare(spoilt: &Spoilt, reading: u8, file: &[u8], marks: &mut [u8]) -> u64 {
     if spoilt.has(Fault::RefuseAlways) {

@@ -26,6 +26,7 @@ faults! {
     FileBeforeReading
     ClockGoesOnFromWhatWasRead
     CeilingNotRead
+    StatesOfOneLocation
     InventLiveCount
     EveryStateCounts
     MarkPastTheStates
