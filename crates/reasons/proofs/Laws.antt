@@ -65,10 +65,14 @@ module _ (A : List ℕ) (to r : ℕ) where
 pub filled : (A : List ℕ) (i v : ℕ) → i ≡ length A → replicate i v ++ drop i A ≡ replicate (length A) v
 filled A i v e = rw (e, drop-of-length-le A {i = length A} (omega arith), append-nil)
 
--- A slice with room for any policy, of which the part for the states is lent and comes back as B.
-module _ {f : List ℕ} {l : Layout} (k : Laid f l) (A : List ℕ) (long : length A ≡ 65536) where
+-- An array has room for any policy.
+pub room : {f : List ℕ} {l : Layout} → Laid f l → (A : List ℕ) → length A ≡ 65536 → states (policyOf (l .reading) f) ≤ length A
+room k A long = omega (arith, laid-well k .states)
+
+-- A slice with an entry for each state, of which the part for the states is lent and comes back as B.
+module _ {f : List ℕ} {l : Layout} (k : Laid f l) (A : List ℕ) (long : states (policyOf (l .reading) f) ≤ length A) where
   pub part-fits : l .states ≤ length A
-  part-fits = omega (arith, k .states, laid-well k .states)
+  part-fits = omega (arith, k .states)
 
   pub part-length : length (take (l .states) A) ≡ states (policyOf (l .reading) f)
   part-length = length-take-le _ _ part-fits ∙ k .states

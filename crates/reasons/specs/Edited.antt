@@ -16,6 +16,7 @@ use Rattle.policy.specs.Sound.{WellFormed, Inside}
 use Rattle.policy.specs.Numbered.{numberOf-below}
 use Rattle.policy.specs.Checked.{well-sound}
 use Rattle.policy.specs.Stays.{Of, step-inside}
+use Rattle.enforcer.specs.State.{stateOf}
 use Rattle.enforcer.specs.Tick.{arrives, reaches, mayStand, inputChoice, outputChoice}
 use Rattle.enforcer.specs.Code.{eventXY}
 use Rattle.enforcer.specs.Chosen.{output-chosen}
@@ -68,5 +69,13 @@ module _ (reading : ℕ) (file marks : List ℕ) (t : Place) where
   pub output-answer : (given : State) (x y : ℕ) {z : ℕ} → x < inputValues (policyOf reading file) → y < outputValues (policyOf reading file) →
       outputChoice (policyOf reading file) marks t x y ≡ some z → outputPast reading file marks given t x y .answer ≡ gives z
   output-answer given x y l u h =
+      let o = output-chosen (policyOf reading file) marks t x y h in
+      rw (lt-ltb x (inputValues (policyOf reading file)) l, lt-ltb y (outputValues (policyOf reading file)) u, o .2)
+
+  -- The state that it hands back is where the chosen output takes the place.
+  pub output-state : (given : State) (x y : ℕ) {z : ℕ} → x < inputValues (policyOf reading file) → y < outputValues (policyOf reading file) →
+      (h : outputChoice (policyOf reading file) marks t x y ≡ some z) →
+      outputPast reading file marks given t x y .state ≡ stateOf (output-chosen (policyOf reading file) marks t x y h .0)
+  output-state given x y l u h =
       let o = output-chosen (policyOf reading file) marks t x y h in
       rw (lt-ltb x (inputValues (policyOf reading file)) l, lt-ltb y (outputValues (policyOf reading file)) u, o .2)

@@ -2,17 +2,19 @@
 use mathlib.Core.Path.{_≡_}
 use mathlib.Core.Bool.{true, false}
 use mathlib.Core.List.{List}
-use mathlib.Core.Option.{some}
+use mathlib.Core.Option.{some, bind}
 use Prim.Native.Nat.{ℕ, _<_}
 use native.Mathlib.Omega.{arith}
 use Rattle.streams.specs.Answer.{Answer, refused, gives}
-use Rattle.policy.specs.Rules.{Policy, Place, inputValues, outputValues}
+use Rattle.policy.specs.Rules.{Policy, Place, inputValues, outputValues, stopped, step}
 use Rattle.policy.specs.Number.{numberOf}
 use Rattle.policy.specs.Sound.{WellFormed, Inside}
-use Rattle.enforcer.specs.State.{isMarked}
-use Rattle.enforcer.specs.Tick.{reaches, inputChoice, outputChoice}
+use Rattle.enforcer.specs.State.{isMarked, stateOf}
+use Rattle.enforcer.specs.Tick.{ReleasedTick, reaches, inputChoice, outputChoice, outputTick, tick}
 use Rattle.enforcer.specs.Ticks.{input-stands}
 use Rattle.enforcer.specs.Code.{eventXY}
+use Rattle.enforcer.specs.Chosen.{output-chosen}
+use Rattle.enforcer.specs.declared.state.State.{State}
 use Rattle.prepare.specs.Table.{marksOf}
 use Rattle.prepare.specs.Enforces.{input-found}
 use Rattle.prepare.specs.Enforcing.{AsPrepared, MarkedPlace}
@@ -38,6 +40,12 @@ pub record BothTold (p : Policy) (marks : List ℕ) (s : Place) (x y : ℕ) (r :
   pub explained : Explained p marks s x y (r .input) (r .output)
   pub few-input : countOf (r .input) < 65536
   pub few-output : countOf (r .output) < 65536
+
+-- The tick of the event as read, and the state after it.
+pub record Moves (p : Policy) (marks : List ℕ) (s : Place) (x y : ℕ) (after : State) : Type 0 where
+  pub done : ReleasedTick
+  pub is : tick p marks s (eventXY x y) ≡ some done
+  pub state : after ≡ stateOf (done .place)
 
 module _ {p : Policy} {s : Place} {x : ℕ} where
   pub input-kept : {x' : ℕ} → x ≡ x' → GivenIn p s x x' kept
@@ -65,6 +73,19 @@ module _ (p : Policy) (ok : WellFormed p) (marks : List ℕ) (by : AsPrepared p 
 
   pub released : (z : ℕ) × (outputChoice p marks s (passed .0) y ≡ some z)
   released = output-there p marks s (passed .0) y (input-stands p marks s x (passed .0) (passed .1) .1)
+
+  -- Where the event that is released takes the place, and that this is the tick.
+  abbrev pub moved-to :
+      (t : Place) × (step stopped p s (eventXY (passed .0) (released .0)) ≡ some t)
+      × (outputTick p marks s (passed .0) y ≡ some (record { event = eventXY (passed .0) (released .0); place = t }))
+  moved-to = output-chosen p marks s (passed .0) y (released .1)
+
+  abbrev pub moved-tick : ReleasedTick
+  moved-tick = record { event = eventXY (passed .0) (released .0); place = moved-to .0 }
+
+  pub moves-on : tick p marks s (eventXY x y) ≡ some moved-tick
+  unfolding tick bind
+  moves-on = rw (passed .1, moved-to .2)
 
   pub input-dead : x < inputValues p → (x ≡ passed .0 → ⊥) → (z : ℕ) → z < outputValues p → reaches p (marksOf p) s x z ≡ false
   input-dead l n z u = reaches-prepared p marks s ok by i x z (edited-input p marks s x l (passed .1) n z u)

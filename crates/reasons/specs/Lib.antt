@@ -15,6 +15,8 @@ pub mod Edited
 pub mod Halves
 pub mod Granted
 pub mod Word
+pub mod Runs
+pub mod RunLaws
 pub mod Cases
 pub mod DownCases
 pub mod RestCases

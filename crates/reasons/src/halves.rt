@@ -11,12 +11,14 @@ use enforcer::input_by;
 use enforcer::output_by;
 use enforcer::own_of;
 use policy::Layout;
+use policy::Own;
 ghost use mathlib.Core.Path.{_≡_};
 ghost use mathlib.Core.Bool.{true, false};
 ghost use Prim.Native.Nat.{ℕ, _<_};
 ghost use Rattle.policy.specs.Rules.{inputValues, outputValues};
-ghost use Rattle.policy.specs.File.{policyOf};
+ghost use Rattle.policy.specs.File.{policyOf, rulesOf};
 ghost use Rattle.policy.specs.Number.{numberOf};
+ghost use Rattle.policy.specs.Own.{ownOf};
 ghost use Rattle.policy.specs.Sound.{Inside};
 ghost use Rattle.enforcer.specs.State.{isMarked, place};
 ghost use Rattle.enforcer.specs.Tick.{reaches};
@@ -25,8 +27,14 @@ ghost use Rattle.enforcer.specs.Promises.{answerSaid};
 ghost use Rattle.prepare.specs.Table.{marksOf};
 ghost use Rattle.prepare.specs.Enforcing.{AsPrepared};
 ghost use Rattle.reasons.specs.Said.{CountsOf};
-ghost use Rattle.reasons.specs.Halves.{valueOr, GivenIn, GivenOut, BothTold};
+ghost use Rattle.reasons.specs.Halves.{valueOr, GivenIn, GivenOut, BothTold, Moves};
 ghost use Rattle.reasons.specs.Promise.{reasonSaid, bothSaid};
+
+// The reasons for a tick, and the state after it.
+pub struct Told {
+    pub reasons: Reasons,
+    pub state: State,
+}
 
 // The value of an answer, or another one.
 pub fn value_or(answer: HalfAnswer, other: u8) -> u8
@@ -83,7 +91,38 @@ fn for_output(
     }
 }
 
-// The output is judged with the input that is passed on.
+// By the rules of the state's location. The output is judged with the input that is passed on.
+pub(crate) fn tell(
+    file: &[u8],
+    layout: Layout,
+    own: Own,
+    marks: &[u8],
+    ticks: &[u32],
+    rests: &[u32],
+    state: State,
+    x: u8,
+    y: u8,
+) -> Told
+    requires { ⌜ Standing (now file) layout (now marks) state × AsPrepared (policyOf (layout .reading) (now file)) (now marks) × (isMarked (now marks) (numberOf (policyOf (layout .reading) (now file)) (place (layout .clocks) state)) ≡ true) ⌝ }
+    requires { ⌜ CountsOf (policyOf (layout .reading) (now file)) (now ticks) (now rests) × (x < inputValues (policyOf (layout .reading) (now file))) × (y < outputValues (policyOf (layout .reading) (now file))) × (own ≡ ownOf (layout .clocks) (state .location) (rulesOf (now file))) ⌝ }
+    ensures { λ r. ⌜ BothTold (policyOf (layout .reading) (now (file .entry))) (now (marks .entry)) (place (layout .clocks) state) x y (bothSaid (r .reasons)) × Moves (policyOf (layout .reading) (now (file .entry))) (now (marks .entry)) (place (layout .clocks) state) x y (r .state) ⌝ }
+{
+    let here = here_by(file, layout, own, state);
+    let passed = value_or(input_by(file, layout, own, marks, state, x), x);
+    let output = output_by(file, layout, own, marks, state, passed, y);
+    let answer = output.answer;
+    let released = value_or(answer, y);
+    let reasons = Reasons {
+        input: for_input(file, layout, here, ticks, rests, state, x, passed),
+        output: for_output(file, layout, here, ticks, rests, state, passed, y, released),
+    };
+    let next = output.state;
+    Told {
+        reasons,
+        state: next,
+    }
+}
+
 pub fn reasons(
     file: &[u8],
     layout: Layout,
@@ -99,13 +138,7 @@ pub fn reasons(
     ensures { λ r. ⌜ BothTold (policyOf (layout .reading) (now (file .entry))) (now (marks .entry)) (place (layout .clocks) state) x y (bothSaid r) ⌝ }
 {
     let own = own_of(file, layout, state);
-    let here = here_by(file, layout, own, state);
-    let passed = value_or(input_by(file, layout, own, marks, state, x), x);
-    let output = output_by(file, layout, own, marks, state, passed, y);
-    let answer = output.answer;
-    let released = value_or(answer, y);
-    Reasons {
-        input: for_input(file, layout, here, ticks, rests, state, x, passed),
-        output: for_output(file, layout, here, ticks, rests, state, passed, y, released),
-    }
+    let told = tell(file, layout, own, marks, ticks, rests, state, x, y);
+    let reasons = told.reasons;
+    reasons
 }

@@ -18,7 +18,8 @@ fn field(reason: Reason) -> u64
     kind(reason) + number(reason) * 256
 }
 
-fn both(reasons: Reasons) -> u64
+// The two reasons.
+pub(crate) fn both(reasons: Reasons) -> u64
     requires { ⌜ SmallReasons (answerSaid (WhyAnswer.Gives reasons)) ⌝ }
     ensures { λ r. ⌜ r ≡ whyWord (answerSaid (WhyAnswer.Gives reasons)) ⌝ }
 {
@@ -27,7 +28,7 @@ fn both(reasons: Reasons) -> u64
     field(input) * 256 + field(output) * 4294967296
 }
 
-// The refusal, or the two reasons.
+// The refusal, or the word of the two.
 pub fn word(answer: WhyAnswer) -> u64
     requires { ⌜ SmallReasons (answerSaid answer) ⌝ }
     ensures { λ r. ⌜ r ≡ whyWord (answerSaid answer) ⌝ }

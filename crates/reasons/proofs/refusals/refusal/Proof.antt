@@ -13,7 +13,7 @@ use Rattle.enforcer.specs.Laid.{laid-limits, laid-inputs, laid-outputs}
 use Rattle.enforcer.specs.States.{Granted, marks-by, granted-laid}
 use Rattle.reasons.specs.Entry.{otherMarks}
 use Rattle.reasons.specs.Granted.{CountsFront, by-marks, by-state, by-other, by-x, by-y, by-nothing, at-front}
-use Rattle.reasons.proofs.Laws.{part-fits, part-length, back-length, back-part}
+use Rattle.reasons.proofs.Laws.{room, part-fits, part-length, back-length, back-part}
 use borrow.Author.Needs.{needs}
 use Rattle.reasons.proofs.refusals.refusal.Statement.{statement}
 use Rattle.reasons.proofs.refusals.refusal.Tie as tie
@@ -51,7 +51,7 @@ counts c =
     let s = c .before .before .before .before .before .before .before .before .before .before .before .before in
     let k = laid (c .before .before .before .before .before .before) in
     at-front _ _ k
-    (rw (back-part (k .laid) (now (s .args .ticks)) (s .pre .1) (c .count .last .1 .1 .1 .0) (c .count .kept .1 .1 .1 .0), back-part (k .laid) (now (s .args .rests)) (s .pre .2) (c .count .last .1 .1 .1 .1 .0) (c .count .kept .1 .1 .1 .1 .0))
+    (rw (back-part (k .laid) (now (s .args .ticks)) (room (k .laid) (now (s .args .ticks)) (s .pre .1)) (c .count .last .1 .1 .1 .0) (c .count .kept .1 .1 .1 .0), back-part (k .laid) (now (s .args .rests)) (room (k .laid) (now (s .args .rests)) (s .pre .2)) (c .count .last .1 .1 .1 .1 .0) (c .count .kept .1 .1 .1 .1 .0))
     (c .count .ensures .1))
 
 -- The values counted are those of the inputs and of the outputs.
@@ -67,10 +67,10 @@ outputs-are c =
 
 -- A table has its length afterwards.
 ticks-back : (c : tie.After-count) → let a = c .before .before .before .before .before .before .before .before .before .before .before .before .args in length (c .count .last .1 .1 .1 .0 ++ drop (a .checked .layout .states) (now (a .ticks))) ≡ length (now (a .ticks))
-ticks-back c = let s = c .before .before .before .before .before .before .before .before .before .before .before .before in back-length (laid (c .before .before .before .before .before .before) .laid) (now (s .args .ticks)) (s .pre .1) (c .count .last .1 .1 .1 .0) (c .count .kept .1 .1 .1 .0)
+ticks-back c = let s = c .before .before .before .before .before .before .before .before .before .before .before .before in back-length (laid (c .before .before .before .before .before .before) .laid) (now (s .args .ticks)) (room (laid (c .before .before .before .before .before .before) .laid) (now (s .args .ticks)) (s .pre .1)) (c .count .last .1 .1 .1 .0) (c .count .kept .1 .1 .1 .0)
 
 rests-back : (c : tie.After-count) → let a = c .before .before .before .before .before .before .before .before .before .before .before .before .args in length (c .count .last .1 .1 .1 .1 .0 ++ drop (a .checked .layout .states) (now (a .rests))) ≡ length (now (a .rests))
-rests-back c = let s = c .before .before .before .before .before .before .before .before .before .before .before .before in back-length (laid (c .before .before .before .before .before .before) .laid) (now (s .args .rests)) (s .pre .2) (c .count .last .1 .1 .1 .1 .0) (c .count .kept .1 .1 .1 .1 .0)
+rests-back c = let s = c .before .before .before .before .before .before .before .before .before .before .before .before in back-length (laid (c .before .before .before .before .before .before) .laid) (now (s .args .rests)) (room (laid (c .before .before .before .before .before .before) .laid) (now (s .args .rests)) (s .pre .2)) (c .count .last .1 .1 .1 .1 .0) (c .count .kept .1 .1 .1 .1 .0)
 
 marks-refusal-requires : tie.Need-marks-refusal-requires
 marks-refusal-requires c κs = search needs
@@ -85,13 +85,13 @@ returns-2 : tie.Need-returns-2
 returns-2 c = by-state _ _ _ _ _ _ _ _ (passed (c .before .before .before)) (stated (c .before)) (c .if2 .taken)
 
 slice-relend-prefix-count : tie.Need-slice-relend-prefix-count
-slice-relend-prefix-count c = let s = c .before .before .before .before .before .before .before .before .before in part-fits (laid (c .before .before .before) .laid) (now (s .args .ticks)) (s .pre .1)
+slice-relend-prefix-count c = let s = c .before .before .before .before .before .before .before .before .before in part-fits (laid (c .before .before .before) .laid) (now (s .args .ticks)) (room (laid (c .before .before .before) .laid) (now (s .args .ticks)) (s .pre .1))
 
 slice-aggregate-count : tie.Need-slice-aggregate-count
 slice-aggregate-count c = sym (length-take-le _ _ (slice-relend-prefix-count (c .before)))
 
 slice-relend-prefix-count-2 : tie.Need-slice-relend-prefix-count-2
-slice-relend-prefix-count-2 c = let s = c .before .before .before .before .before .before .before .before .before .before in part-fits (laid (c .before .before .before .before) .laid) (now (s .args .rests)) (s .pre .2)
+slice-relend-prefix-count-2 c = let s = c .before .before .before .before .before .before .before .before .before .before in part-fits (laid (c .before .before .before .before) .laid) (now (s .args .rests)) (room (laid (c .before .before .before .before) .laid) (now (s .args .rests)) (s .pre .2))
 
 slice-aggregate-count-2 : tie.Need-slice-aggregate-count-2
 slice-aggregate-count-2 c = sym (length-take-le _ _ (slice-relend-prefix-count-2 (c .before)))
@@ -100,7 +100,7 @@ count-requires : tie.Need-count-requires
 count-requires c κs =
     let s = c .before .before .before .before .before .before .before .before .before .before .before in
     let k = laid (c .before .before .before .before .before) in
-    (k .laid, k .enough, part-length (k .laid) (now (s .args .ticks)) (s .pre .1), part-length (k .laid) (now (s .args .rests)) (s .pre .2))
+    (k .laid, k .enough, part-length (k .laid) (now (s .args .ticks)) (room (k .laid) (now (s .args .ticks)) (s .pre .1)), part-length (k .laid) (now (s .args .rests)) (room (k .laid) (now (s .args .rests)) (s .pre .2)))
 
 same-length : tie.Need-same-length
 same-length c = ticks-back (c .before .before .before .before .before)
