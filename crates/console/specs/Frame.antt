@@ -5,6 +5,7 @@ use lib.Dec.{leb}
 use lib.ListN.{length}
 use Rattle.streams.specs.Answer.{_orElse_, unless}
 use Rattle.policy.specs.File.{pairAt, part}
+use Rattle.policy.specs.Check.{readingRefusal}
 use Rattle.console.specs.declared.frame.Part.{Part}
 
 -- Of a count at `at` and the bytes that it counts: "count whole (1), within its limit (2), .. all there (1)".
@@ -43,3 +44,10 @@ module _ (input : List ℕ) where
 
   abbrev pub eventsFramed : Part
   eventsFramed = record { refusal = eventsFrameRefusal; start = eventsStart; end = eventsEnd }
+
+  -- Of a program that is told its reading: "22 for any other number, before all else".
+  abbrev pub inputRefusal : (reading : ℕ) → ℕ
+  inputRefusal reading = readingRefusal reading orElse policyFrameRefusal
+
+  abbrev pub inputFramed : (reading : ℕ) → Part
+  inputFramed reading = record { refusal = inputRefusal reading; start = 2; end = policyEnd }

@@ -1,5 +1,6 @@
 pub mod Text
 pub mod Lines
+pub mod Reading
 pub mod Frame
 pub mod Framed
 pub mod Printed

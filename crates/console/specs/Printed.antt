@@ -22,12 +22,16 @@ unlessRefused (suc n) text = refusedLine (suc n)
 unfoldable pub lent : ℕ → List ℕ
 lent n = replicate n 0
 
--- A run over the events from the start, with the marks of prepare, into a slice. "The program uses reading 1."
-abbrev pub ranInto : (policy events out : List ℕ) → RunAnswer
-ranInto policy events out = runOf 1 policy (marksOf (policyOf 1 policy)) (stateOf (start (policyOf 1 policy))) events out
+-- A run over the events from the start, with the marks of prepare, into a slice.
+abbrev pub ranInto : (reading : ℕ) (policy events out : List ℕ) → RunAnswer
+ranInto reading policy events out = runOf reading policy (marksOf (policyOf reading policy)) (stateOf (start (policyOf reading policy))) events out
 
+abbrev pub ranUnder : (reading : ℕ) (policy events : List ℕ) → RunAnswer
+ranUnder reading policy events = ranInto reading policy events (lent (length events))
+
+-- "The program uses reading 1."
 abbrev pub ranOver : (policy events : List ℕ) → RunAnswer
-ranOver policy events = ranInto policy events (lent (length events))
+ranOver policy events = ranUnder 1 policy events
 
 -- "one line for the verdict, the states and the live states, then for each event, in decimal: tick from 1, x, y, x', y'"
 abbrev pub summaryLines : Summary → (events released : List ℕ) → List ℕ

@@ -27,25 +27,25 @@ use Rattle.prepare.specs.declared.Prepared.{Prepared}
 use Rattle.prepare.specs.declared.Prepared.the-variants as Prepared
 use Rattle.console.specs.Text.{refusedLine}
 use Rattle.console.specs.Frame.{policyFrameRefusal, policyPart, eventsFrameRefusal, eventsPart}
-use Rattle.console.specs.Printed.{unlessRefused, lent, ranInto, ranOver, summaryLines, enforcedText, printed}
+use Rattle.console.specs.Printed.{unlessRefused, lent, ranInto, ranUnder, summaryLines, enforcedText, printed}
 use Rattle.console.specs.Scratch.{prepare-alike, SameRun, run-alike, run-front, start-is}
 
--- The file is the policy of the input; it passes its checks, and these are its marks.
-pub record Prepares (input file marks : List ℕ) : Type 0 where
+-- The file is the policy of the input; it passes its checks, and these are its marks under the reading.
+pub record Prepares (reading : ℕ) (input file marks : List ℕ) : Type 0 where
   pub part : file ≡ policyPart input
   pub passes : refusalOf file ≡ 0
-  pub marked : marks ≡ marksOf (policyOf 1 file)
+  pub marked : marks ≡ marksOf (policyOf reading file)
 
 -- A policy that gives a summary passes its checks, and its marks stand in front of what the slice held.
-pub prepared-marks : {file before after : List ℕ} {s : Summary} → PreparePromise 1 file before (Prepared.Gives s) after →
-    (refusalOf file ≡ 0) × (s .states ≤ length after) × (take (s .states) after ≡ marksOf (policyOf 1 file))
-prepared-marks {file} {before} {after} {s} h =
-    let p = policyOf 1 file in
-    let past = gives-past 1 file before s (sym (h .said)) in
-    let k = marks-granted 1 file before .0 (past .0) in
+pub prepared-marks : {reading : ℕ} {file before after : List ℕ} {s : Summary} → PreparePromise reading file before (Prepared.Gives s) after →
+    (refusalOf file ≡ 0) × (s .states ≤ length after) × (take (s .states) after ≡ marksOf (policyOf reading file))
+prepared-marks {reading} {file} {before} {after} {s} h =
+    let p = policyOf reading file in
+    let past = gives-past reading file before s (sym (h .said)) in
+    let k = marks-granted reading file before .0 (past .0) in
     let n : states p ≡ s .states = ap (λ (z : Summary). z .states) (past .2) in
-    let e : after ≡ marksOf p ++ drop (states p) before = h .marks ∙ marks-past 1 file before (past .0) in (
-      under-none 1 file .0 (k .0) .1,
+    let e : after ≡ marksOf p ++ drop (states p) before = h .marks ∙ marks-past reading file before (past .0) in (
+      under-none reading file .0 (k .0) .1,
       rw (← n, e, length-append, marks-length) (omega arith),
       rw (← n, e) (take-at (marksOf p) _ _ (marks-length p)),
     )
@@ -57,6 +57,28 @@ refused-text (suc n) text h = refl
 pub lent-length : (n : ℕ) → length (lent n) ≡ n
 unfolding lent
 lent-length n = length-replicate n 0
+
+-- The run that the code makes is the one that is printed, whatever its slice held.
+module _ {reading : ℕ} {input file marks : List ℕ} (p : Prepares reading input file marks) (released : List ℕ)
+    (room : length (eventsPart input) ≤ length released) {r : Ran} {after : List ℕ}
+    (ran : RunPromise reading file marks startState (eventsPart input) released r after) where
+  ran-said : ranInto reading (policyPart input) (eventsPart input) released ≡ ranSaid r after
+  ran-said = rw (← p .part, ← p .marked, start-is (policyOf reading file) (checked-file reading file (p .passes) .clocks)) (sym (ran .said))
+
+  ran-alike : SameRun (eventsPart input) (ranSaid r after) (ranUnder reading (policyPart input) (eventsPart input))
+  ran-alike =
+      subst (λ (q : RunAnswer). SameRun (eventsPart input) q (ranUnder reading (policyPart input) (eventsPart input))) ran-said
+      (run-alike reading _ _ _ (eventsPart input) released _ room (rw lent-length (le-refl (length (eventsPart input)))))
+
+  -- Its refusal, and without one what it releases.
+  pub run-over :
+      (r .refusal ≡ ranUnder reading (policyPart input) (eventsPart input) .refusal)
+      × (r .refusal ≡ 0 → take (length (eventsPart input)) after ≡ ranUnder reading (policyPart input) (eventsPart input) .out)
+  run-over = (
+    ran-alike .refusal,
+    subst (λ (q : RunAnswer). q .refusal ≡ 0 → take (length (eventsPart input)) (q .out) ≡ ranUnder reading (policyPart input) (eventsPart input) .out) ran-said
+        (run-front reading _ _ _ (eventsPart input) released _ room (lent-length (length (eventsPart input)))),
+  )
 
 module _ (input : List ℕ) where
   -- The policy's frame is refused.
@@ -78,31 +100,13 @@ module _ (input : List ℕ) where
     events-refused {n} e h = rw (← e, first-refused n _ h) (refused-text n _ h)
 
     -- It is not: the run that the code makes decides, whatever its slice held.
-    module _ {file marks : List ℕ} (p : Prepares input file marks) (framed : eventsFrameRefusal input ≡ 0)
+    module _ {file marks : List ℕ} (p : Prepares 1 input file marks) (framed : eventsFrameRefusal input ≡ 0)
         (released : List ℕ) (room : length (eventsPart input) ≤ length released) {r : Ran} {after : List ℕ}
         (ran : RunPromise 1 file marks startState (eventsPart input) released r after) where
-      ran-said : ranInto (policyPart input) (eventsPart input) released ≡ ranSaid r after
-      ran-said = rw (← p .part, ← p .marked, start-is (policyOf 1 file) (checked-file 1 file (p .passes) .clocks)) (sym (ran .said))
-
-      ran-alike : SameRun (eventsPart input) (ranSaid r after) (ranOver (policyPart input) (eventsPart input))
-      ran-alike =
-          subst (λ (q : RunAnswer). SameRun (eventsPart input) q (ranOver (policyPart input) (eventsPart input))) ran-said
-          (run-alike 1 _ _ _ (eventsPart input) released _ room (rw lent-length (le-refl (length (eventsPart input)))))
-
-      -- Its refusal, and without one what it releases.
-      pub run-over :
-          (r .refusal ≡ ranOver (policyPart input) (eventsPart input) .refusal)
-          × (r .refusal ≡ 0 → take (length (eventsPart input)) after ≡ ranOver (policyPart input) (eventsPart input) .out)
-      run-over = (
-        ran-alike .refusal,
-        subst (λ (q : RunAnswer). q .refusal ≡ 0 → take (length (eventsPart input)) (q .out) ≡ ranOver (policyPart input) (eventsPart input) .out) ran-said
-            (run-front 1 _ _ _ (eventsPart input) released _ room (lent-length (length (eventsPart input)))),
-      )
-
       pub run-refused : (r .refusal ≡ 0 → ⊥) → enforcedText input (gives s) ≡ refusedLine (r .refusal)
       unfolding enforcedText
-      run-refused h = rw (framed, ← ran-alike .refusal) (refused-text (r .refusal) _ h)
+      run-refused h = rw (framed, ← ran-alike p released room ran .refusal) (refused-text (r .refusal) _ h)
 
       pub run-released : r .refusal ≡ 0 → enforcedText input (gives s) ≡ summaryLines s (eventsPart input) after
       unfolding enforcedText
-      run-released z = rw (framed, ← ran-alike .refusal, z, ← ran-alike .lines z)
+      run-released z = let k = ran-alike p released room ran in rw (framed, ← k .refusal, z, ← k .lines z)

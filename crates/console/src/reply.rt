@@ -1,4 +1,5 @@
 // The whole reply to an input.
+use crate::frame::EVENTS;
 use crate::frame::events_frame;
 use crate::frame::policy_frame;
 use crate::lines::put_refused;
@@ -16,6 +17,12 @@ ghost use Rattle.console.specs.Printed.{enforcedText, printed};
 ghost use Rattle.console.specs.Reply.{Replied};
 ghost use Rattle.console.specs.Replies.{Prepares};
 
+// As many marks as a policy may have states.
+pub const MARKS: usize = State::STATES;
+
+// The text at the most: a verdict, 66 bytes, and for each event a line, 21 bytes.
+pub const TEXT: usize = 66 + 21 * EVENTS;
+
 // The reading that the program uses.
 const READING: u8 = 1;
 
@@ -28,7 +35,7 @@ fn reply_events(
     released: &mut [u8],
     text: &mut [u8],
 ) -> usize
-    requires { ⌜ Prepares (now input) (now file) (now marks) ⌝ }
+    requires { ⌜ Prepares 1 (now input) (now file) (now marks) ⌝ }
     requires { ⌜ (length (now released) ≡ 16384) × (length (now text) ≡ 344130) ⌝ }
     ensures { λ r. ⌜ Replied (now (text .entry)) (enforcedText (now (input .entry)) (gives summary)) r (now (text .exit)) ⌝ }
 {
@@ -73,9 +80,9 @@ fn reply(input: &[u8], marks: &mut [u8], released: &mut [u8], text: &mut [u8]) -
 // and afterwards, is nobody's concern. The text is long enough for a verdict and a line for each of 16,384 events.
 pub fn respond(
     input: &[u8],
-    marks: &mut [u8; State::STATES],
-    released: &mut [u8; 16384],
-    text: &mut [u8; 344130],
+    marks: &mut [u8; MARKS],
+    released: &mut [u8; EVENTS],
+    text: &mut [u8; TEXT],
 ) -> usize
     ensures { λ r. ⌜ Replied (now (text .entry)) (printed (now (input .entry))) r (now (text .exit)) ⌝ }
 {

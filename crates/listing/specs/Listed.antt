@@ -1,8 +1,7 @@
 -- What the program `clean` prints and writes, for any word, any bytes of a file.
 use mathlib.Core.Bool.{cond}
 use mathlib.Core.List.{List, [], _∷_, _++_}
-use Prim.Native.Nat.{ℕ, zero, suc, _+_, _*_, _-_}
-use Prim.Native.Char.{code}
+use Prim.Native.Nat.{ℕ, zero, suc, _+_, _*_}
 use lib.Dec.{eqb}
 use lib.ListN.{length}
 use Rattle.policy.specs.File.{policyOf}
@@ -11,12 +10,8 @@ use Rattle.texts.specs.Text.{ascii, decimal}
 use Rattle.cleaning.specs.Clean.{Struck}
 use Rattle.cleaning.specs.Entry.{struckOf, cleanedFile}
 use Rattle.console.specs.Printed.{unlessRefused}
-
--- "The caller names the reading": by its digit. Any other word names no reading.
-abbrev pub readingOf : List ℕ → ℕ
-readingOf [] = 0
-readingOf (b ∷ []) = b - code "0"
-readingOf (b ∷ c ∷ bs) = 0
+-- "The caller names the reading": by a word.
+pub use Rattle.console.specs.Reading.{readingOf}
 
 -- "Kinds: 1 location no permitted stream from the start leads to, 2 rule of such a location, 3 other rule that decides no event in any state such a stream
 -- leads to."

@@ -2,8 +2,7 @@
 use mathlib.Core.Path.{_≡_, refl, sym, ap, _∙_}
 use mathlib.Core.Bool.{Bool, true, false, cond, _&&_}
 use mathlib.Core.List.{List, [], _∷_, _++_}
-use Prim.Native.Nat.{ℕ, zero, suc, _+_, _*_, _-_, _/_, _%_, _^_, _≤_, _<_}
-use Prim.Native.Char.{code}
+use Prim.Native.Nat.{ℕ, zero, suc, _+_, _*_, _/_, _%_, _^_, _≤_, _<_}
 use native.Mathlib.Nat.{zero-add}
 use native.Mathlib.Omega.{arith}
 use lib.Dec.{eqb, leb}
@@ -27,18 +26,7 @@ use Rattle.cleaning.specs.declared.Lengths.{Lengths}
 use Rattle.cleaning.specs.declared.Cleaned.the-variants as Cleaned
 use Rattle.console.specs.Text.{refusedLine}
 use Rattle.console.specs.Printed.{unlessRefused}
-use Rattle.listing.specs.Listed.{readingOf, entryLine, lines, bytesLines, leftLine, noneRefused, written, printed}
-
--- The reading that a word names, by how long the word is.
-pub none-named : (word : List ℕ) → (length word ≡ 1 → ⊥) → readingOf word ≡ 0
-none-named [] h = refl
-none-named (b ∷ []) h = absurd (h refl)
-none-named (b ∷ c ∷ bytes) h = refl
-
-pub one-named : (word : List ℕ) → length word ≡ 1 → readingOf word ≡ getD word 0 0 - code "0"
-one-named [] h = absurd (omega arith)
-one-named (b ∷ []) h = refl
-one-named (b ∷ c ∷ bytes) h = absurd (omega arith)
+use Rattle.listing.specs.Listed.{entryLine, lines, bytesLines, leftLine, noneRefused, written, printed}
 
 -- The list's bytes say the lines of its entries.
 pub lines-bytes : (xs : List Struck) → bytesLines (struckBytes xs) ≡ lines xs

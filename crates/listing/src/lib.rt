@@ -1,4 +1,4 @@
-// What `clean` decides on slices: the reading that it is told, and the lines that it prints.
+// What `clean` decides on slices: the policy that it writes, and the lines that it prints.
 mod lines;
 
 use crate::lines::put_left;
@@ -6,29 +6,23 @@ use crate::lines::put_list;
 use cleaning::Cleaned;
 use cleaning::clean;
 use console::put_refused;
+use policy::limits::FILE;
+use policy::limits::LOCATIONS;
+use policy::limits::RULES;
 ghost use mathlib.Core.Path.{_≡_};
 ghost use lib.ListN.{length};
 ghost use Rattle.console.specs.Reply.{Replied};
-ghost use Rattle.listing.specs.Listed.{readingOf, written, printed};
+ghost use Rattle.listing.specs.Listed.{written, printed};
+
+// The list at the most, three bytes for each of 64 locations and 256 rules; and the text, a line of 66 bytes for each of them and one of 32.
+pub const LIST: usize = 3 * (LOCATIONS + RULES);
+
+pub const TEXT: usize = 66 * (LOCATIONS + RULES) + 32;
 
 // How many bytes there are: of the cleaned policy, and of the text.
 pub struct Outcome {
     pub cleaned: usize,
     pub text: usize,
-}
-
-// The reading that a word names: its one digit. Any other word names 0, which is refused by 22.
-pub fn reading_of(word: &[u8]) -> u8
-    ensures { λ r. ⌜ r ≡ readingOf (now (word .entry)) ⌝ }
-{
-    if word.len() != 1 {
-        return 0;
-    }
-    let digit = word[0];
-    if digit < b'0' {
-        return 0;
-    }
-    digit - b'0'
 }
 
 fn reply(reading: u8, file: &[u8], cleaned: &mut [u8], list: &mut [u8], text: &mut [u8]) -> Outcome
@@ -54,13 +48,13 @@ fn reply(reading: u8, file: &[u8], cleaned: &mut [u8], list: &mut [u8], text: &m
 }
 
 // Writes the cleaned policy and what `clean` prints, and returns both lengths. The list is the program's scratch: what it holds, before and afterwards, is
-// nobody's concern. The text is long enough for a line for each of 320 entries, and one more.
+// nobody's concern.
 pub fn respond(
     reading: u8,
     file: &[u8],
-    cleaned: &mut [u8; 5974],
-    list: &mut [u8; 960],
-    text: &mut [u8; 21152],
+    cleaned: &mut [u8; FILE],
+    list: &mut [u8; LIST],
+    text: &mut [u8; TEXT],
 ) -> Outcome
     ensures { λ r. ⌜ Replied (now (cleaned .entry)) (written reading (now (file .entry))) (r .cleaned) (now (cleaned .exit)) ⌝ }
     ensures { λ r. ⌜ Replied (now (text .entry)) (printed reading (now (file .entry))) (r .text) (now (text .exit)) ⌝ }

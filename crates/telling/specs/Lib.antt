@@ -1,4 +1,5 @@
 pub mod Text
+pub mod Every
 pub mod Named
 pub mod Asked
 pub mod Told

@@ -115,8 +115,8 @@ module _ {f : List ℕ} {l : Layout} (k : Laid f l) (i : ℕ) (h : i < ruleCount
   unfolding asksOf
   asks-taken = λ d. asks (inputs-taken d) (outputs-taken d) ((ap (λ (z : List ℕ). ruleFrom (l .clocks) z 0) rule-taken ∙ rule-reads) d)
 
--- A line has at most 169 bytes after its half.
-pub line-short : {f : List ℕ} {l : Layout} → Laid f l → (half : List ℕ) (q : Reason) → Named (ruleCount f) q → countOf q < 65536 →
-    length (reasonLine (policyOf (l .reading) f) half q) ≤ length half + 169
-line-short {f} {l} k half q n c =
-    reason-short (policyOf (l .reading) f) (laid-well k) half q (subst (λ (m : ℕ). Named m q) (sym (rules-count (l .reading) f)) n) c
+-- A line has at most 152 bytes after what stands before its words.
+pub line-short : {f : List ℕ} {l : Layout} → Laid f l → (broken half : List ℕ) (q : Reason) → Named (ruleCount f) q → countOf q < 65536 →
+    length half ≤ length broken → length (reasonLine (policyOf (l .reading) f) broken half q) ≤ length broken + 152
+line-short {f} {l} k broken half q n c h =
+    reason-short (policyOf (l .reading) f) (laid-well k) broken half q (subst (λ (m : ℕ). Named m q) (sym (rules-count (l .reading) f)) n) c h

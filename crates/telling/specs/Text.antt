@@ -42,25 +42,34 @@ restsWords k =
     cond (eqb k 0) (ascii "after it never at rest again\n")
     (ascii "after it at most " ++ decimal k ++ cond (eqb k 1) (ascii " more time at rest\n") (ascii " more times at rest\n"))
 
--- In an operator's words. "It is .. given exactly for an edited half": a half that is kept has no line.
-abbrev pub reasonLine : Policy → (half : List ℕ) → Reason → List ℕ
-reasonLine p half kept = []
-reasonLine p half (rule i) = half ++ ruleWords p i
-reasonLine p half unmatched = half ++ ascii "no rule allows it\n"
-reasonLine p half (ticks k) = half ++ ticksWords k
-reasonLine p half (rests k) = half ++ restsWords k
+-- In an operator's words: `broken` stands before the words of a violation, and `half` before the others. "It is .. given exactly for an edited half": a half
+-- that is kept has no line.
+abbrev pub reasonLine : Policy → (broken half : List ℕ) → Reason → List ℕ
+reasonLine p broken half kept = []
+reasonLine p broken half (rule i) = broken ++ ruleWords p i
+reasonLine p broken half unmatched = broken ++ ascii "no rule allows it\n"
+reasonLine p broken half (ticks k) = half ++ ticksWords k
+reasonLine p broken half (rests k) = half ++ restsWords k
+
+-- "For an input, .. that every output is a violation at once, with the reason for the lowest output": a violation is the reason for an input exactly where
+-- every output is one (`Every`).
+abbrev pub inputLine : Policy → Reason → List ℕ
+inputLine p q = reasonLine p (ascii "input: no output will do; with none on, ") (ascii "input: ") q
+
+abbrev pub outputLine : Policy → Reason → List ℕ
+outputLine p q = reasonLine p (ascii "output: ") (ascii "output: ") q
 
 unfoldable pub reasonLines : Policy → Reasons → List ℕ
-reasonLines p q = reasonLine p (ascii "input: ") (q .input) ++ reasonLine p (ascii "output: ") (q .output)
+reasonLines p q = inputLine p (q .input) ++ outputLine p (q .output)
 
 -- The line of `enforce` for the tick, then the reasons.
 abbrev pub tickText : Policy → (number event : ℕ) → ReleasedTick → Reasons → List ℕ
 tickText p number event t q = eventLine number event (byteOf (t .event)) ++ reasonLines p q
 
 -- ---- How long the words are.
--- A tick's text at the most: its line, 21 bytes, and for each half its name and 169 bytes.
+-- A tick's text at the most: its line, 21 bytes, and for each half what stands before the words, 40 and 8 bytes, and 152 bytes.
 abbrev pub tickRoom : ℕ
-tickRoom = 374
+tickRoom = 373
 
 -- A rule that is named is one of n.
 abbrev pub Named : ℕ → Reason → Type 0
@@ -81,7 +90,7 @@ module _ (p : Policy) (i : ℕ) where
         three-length (ascii "rule ") (decimal i) (ascii " forbids it: "),
       )
 
-  rule-short : WellFormed p → i < length (p .rules) → length (ruleWords p i) ≤ 169
+  rule-short : WellFormed p → i < length (p .rules) → length (ruleWords p i) ≤ 152
   unfolding asksOf
   rule-short k l = omega (arith, rule-length, decimal-short i 2 (omega (arith, k .ruleCount)), asks-short p k noRule i l)
 
@@ -130,11 +139,11 @@ module _ (k : ℕ) where
       go false true = counted l (ascii "after it at most ") (ascii " more time at rest\n") (omega arith)
       go false false = counted l (ascii "after it at most ") (ascii " more times at rest\n") (omega arith)
 
--- A line has at most 169 bytes after its half.
-pub reason-short : (p : Policy) → WellFormed p → (half : List ℕ) (q : Reason) → Named (length (p .rules)) q → countOf q < 65536 →
-    length (reasonLine p half q) ≤ length half + 169
-reason-short p k half kept n l = omega arith
-reason-short p k half (rule i) n l = omega (arith, length-append half (ruleWords p i), rule-short p i k n)
-reason-short p k half unmatched n l = omega (arith, length-append half (ascii "no rule allows it\n"))
-reason-short p k half (ticks m) n l = omega (arith, length-append half (ticksWords m), ticks-short m l)
-reason-short p k half (rests m) n l = omega (arith, length-append half (restsWords m), rests-short m l)
+-- A line has at most 152 bytes after what stands before its words.
+pub reason-short : (p : Policy) → WellFormed p → (broken half : List ℕ) (q : Reason) → Named (length (p .rules)) q → countOf q < 65536 →
+    length half ≤ length broken → length (reasonLine p broken half q) ≤ length broken + 152
+reason-short p k broken half kept n l h = omega arith
+reason-short p k broken half (rule i) n l h = omega (arith, length-append broken (ruleWords p i), rule-short p i k n)
+reason-short p k broken half unmatched n l h = omega (arith, length-append broken (ascii "no rule allows it\n"))
+reason-short p k broken half (ticks m) n l h = omega (arith, length-append half (ticksWords m), ticks-short m l)
+reason-short p k broken half (rests m) n l h = omega (arith, length-append half (restsWords m), rests-short m l)

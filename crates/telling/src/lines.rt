@@ -73,29 +73,30 @@ fn put_rests(text: &mut [u8], at: usize, half: &[u8], k: usize) -> usize
     )
 }
 
-// The line of one half, at most 169 bytes after its name: none if it is kept.
+// The line of one half, at most 152 bytes after what stands before its words: `broken` for a violation, and else `half`. None if it is kept.
 fn put_reason(
     text: &mut [u8],
     at: usize,
+    broken: &[u8],
     half: &[u8],
     file: &[u8],
     layout: Layout,
     reason: Reason,
 ) -> usize
     requires { ⌜ Laid (now file) layout × Named (ruleCount (now file)) (reasonSaid reason) × (countOf (reasonSaid reason) < 65536) ⌝ }
-    requires { ⌜ at + length (now half) + 169 ≤ length (now text) ⌝ }
-    ensures { λ r. ⌜ Wrote (now (text .entry)) at (reasonLine (policyOf (layout .reading) (now (file .entry))) (now (half .entry)) (reasonSaid reason)) r (now (text .exit)) ⌝ }
+    requires { ⌜ (length (now half) ≤ length (now broken)) × (at + length (now broken) + 152 ≤ length (now text)) ⌝ }
+    ensures { λ r. ⌜ Wrote (now (text .entry)) at (reasonLine (policyOf (layout .reading) (now (file .entry))) (now (broken .entry)) (now (half .entry)) (reasonSaid reason)) r (now (text .exit)) ⌝ }
 {
     match reason {
         Reason::Kept => at,
-        Reason::Rule(i) => put_rule(text, at, half, file, layout, i),
-        Reason::Unmatched => put_plain(text, at, half, b"no rule allows it\n"),
+        Reason::Rule(i) => put_rule(text, at, broken, file, layout, i),
+        Reason::Unmatched => put_plain(text, at, broken, b"no rule allows it\n"),
         Reason::Ticks(k) => put_ticks(text, at, half, k),
         Reason::Rests(k) => put_rests(text, at, half, k),
     }
 }
 
-// The lines of both halves, at most 353 bytes.
+// The lines of both halves, at most 352 bytes. A violation is the reason for an input only where no output will do.
 pub(crate) fn put_reasons(
     text: &mut [u8],
     at: usize,
@@ -103,13 +104,21 @@ pub(crate) fn put_reasons(
     layout: Layout,
     told: Reasons,
 ) -> usize
-    requires { ⌜ Laid (now file) layout × (at + 353 ≤ length (now text)) ⌝ }
+    requires { ⌜ Laid (now file) layout × (at + 352 ≤ length (now text)) ⌝ }
     requires { ⌜ Named (ruleCount (now file)) (reasonSaid (told .input)) × (countOf (reasonSaid (told .input)) < 65536) ⌝ }
     requires { ⌜ Named (ruleCount (now file)) (reasonSaid (told .output)) × (countOf (reasonSaid (told .output)) < 65536) ⌝ }
-    ensures { λ r. ⌜ Wrote (now (text .entry)) at (reasonLines (policyOf (layout .reading) (now (file .entry))) (bothSaid told)) r (now (text .exit)) × (r ≤ at + 353) ⌝ }
+    ensures { λ r. ⌜ Wrote (now (text .entry)) at (reasonLines (policyOf (layout .reading) (now (file .entry))) (bothSaid told)) r (now (text .exit)) × (r ≤ at + 352) ⌝ }
 {
     let input = told.input;
     let output = told.output;
-    let next = put_reason(text, at, b"input: ", file, layout, input);
-    put_reason(text, next, b"output: ", file, layout, output)
+    let next = put_reason(
+        text,
+        at,
+        b"input: no output will do; with none on, ",
+        b"input: ",
+        file,
+        layout,
+        input,
+    );
+    put_reason(text, next, b"output: ", b"output: ", file, layout, output)
 }

@@ -1,7 +1,9 @@
 // The whole reply to an input.
 use crate::tell::tell;
+use console::EVENTS;
+use console::MARKS;
 use console::events_frame;
-use console::policy_frame;
+use console::input_frame;
 use console::put_refused;
 use console::put_verdict;
 use enforcer::State;
@@ -30,11 +32,8 @@ ghost use Rattle.telling.specs.Asked.{Asked};
 ghost use Rattle.telling.specs.Told.{ToldFrom};
 ghost use Rattle.telling.specs.Prints.{ToldText, Prints, Writes, Startable};
 
-// The text at the most: a verdict, 66 bytes, and for each event three lines, 374 bytes.
-pub const TEXT: usize = 66 + 374 * 16384;
-
-// The reading that the program uses.
-const READING: u8 = 1;
+// The text at the most: a verdict, 66 bytes, and for each event three lines, 373 bytes.
+pub const TEXT: usize = 66 + 373 * EVENTS;
 
 // The counts are made once, and the ticks are told from a state.
 fn tell_counted(
@@ -59,6 +58,7 @@ fn tell_counted(
 
 // Nothing is refused: the ticks are told from the start.
 fn tell_all(
+    reading: u8,
     file: &[u8],
     marks: &[u8],
     ticks: &mut [u32],
@@ -67,11 +67,11 @@ fn tell_all(
     text: &mut [u8],
     at: usize,
 ) -> usize
-    requires { ⌜ Startable (now file) (now marks) (now events) ⌝ }
+    requires { ⌜ Startable reading (now file) (now marks) (now events) ⌝ }
     requires { ⌜ (length (now ticks) ≡ 65536) × (length (now rests) ≡ 65536) × (length (now events) ≤ 16384) × (at + tickRoom * length (now events) ≤ length (now text)) ⌝ }
-    ensures { λ r. ⌜ ToldFrom (policyOf 1 (now (file .entry))) (now (marks .entry)) (start (policyOf 1 (now (file .entry)))) (now (events .entry)) (now (text .entry)) at r (now (text .exit)) ⌝ }
+    ensures { λ r. ⌜ ToldFrom (policyOf reading (now (file .entry))) (now (marks .entry)) (start (policyOf reading (now (file .entry)))) (now (events .entry)) (now (text .entry)) at r (now (text .exit)) ⌝ }
 {
-    let checked = policy::check_under(READING, file);
+    let checked = policy::check_under(reading, file);
     let first = State::start();
     let layout = checked.layout;
     let states = layout.states;
@@ -90,6 +90,7 @@ fn tell_all(
 
 // The policy is prepared: the events are checked and told.
 fn reply_events(
+    reading: u8,
     input: &[u8],
     file: &[u8],
     marks: &[u8],
@@ -99,9 +100,9 @@ fn reply_events(
     rests: &mut [u32],
     text: &mut [u8],
 ) -> usize
-    requires { ⌜ Prepares (now input) (now file) (now marks) ⌝ }
+    requires { ⌜ Prepares reading (now input) (now file) (now marks) ⌝ }
     requires { ⌜ (length (now released) ≡ 16384) × (length (now ticks) ≡ 65536) × (length (now rests) ≡ 65536) × (length (now text) ≡ 66 + tickRoom * 16384) ⌝ }
-    ensures { λ r. ⌜ Writes (ToldText (now (input .entry)) (gives summary)) (now (text .entry)) r (now (text .exit)) ⌝ }
+    ensures { λ r. ⌜ Writes (ToldText reading (now (input .entry)) (gives summary)) (now (text .entry)) r (now (text .exit)) ⌝ }
 {
     let frame = events_frame(input);
     if frame.refusal != 0 {
@@ -110,16 +111,17 @@ fn reply_events(
     let start = frame.start;
     let end = frame.end;
     let events = &input[start..end];
-    let ran = run(READING, file, marks, State::start(), events, released);
+    let ran = run(reading, file, marks, State::start(), events, released);
     if ran.refusal != 0 {
         return put_refused(text, 0, ran.refusal);
     }
     let next = put_verdict(text, 0, summary.verdict, summary.states, summary.live);
-    tell_all(file, marks, ticks, rests, events, text, next)
+    tell_all(reading, file, marks, ticks, rests, events, text, next)
 }
 
-// The policy is checked and prepared, then come the events.
+// The reading and the policy are checked, it is prepared, then come the events.
 fn reply(
+    reading: u8,
     input: &[u8],
     marks: &mut [u8],
     released: &mut [u8],
@@ -128,21 +130,22 @@ fn reply(
     text: &mut [u8],
 ) -> usize
     requires { ⌜ (length (now marks) ≡ 65536) × (length (now released) ≡ 16384) × (length (now ticks) ≡ 65536) × (length (now rests) ≡ 65536) × (length (now text) ≡ 66 + tickRoom * 16384) ⌝ }
-    ensures { λ r. ⌜ Writes (Prints (now (input .entry))) (now (text .entry)) r (now (text .exit)) ⌝ }
+    ensures { λ r. ⌜ Writes (Prints reading (now (input .entry))) (now (text .entry)) r (now (text .exit)) ⌝ }
 {
-    let frame = policy_frame(input);
+    let frame = input_frame(reading, input);
     if frame.refusal != 0 {
         return put_refused(text, 0, frame.refusal);
     }
     let start = frame.start;
     let end = frame.end;
     let file = &input[start..end];
-    let prepared = prepare(READING, file, marks);
+    let prepared = prepare(reading, file, marks);
     match prepared {
         Prepared::Refused(n) => put_refused(text, 0, n),
         Prepared::Gives(summary) => {
             let states = summary.states;
             reply_events(
+                reading,
                 input,
                 file,
                 &marks[..states],
@@ -156,17 +159,18 @@ fn reply(
     }
 }
 
-// Writes what `why` prints for the input, and returns its length. All slices but the text are the program's scratch: what they hold, before and afterwards, is
-// nobody's concern.
+// Writes what `why` prints for the input under the reading, and returns its length. All slices but the text are the program's scratch: what they hold, before
+// and afterwards, is nobody's concern.
 pub fn respond(
+    reading: u8,
     input: &[u8],
-    marks: &mut [u8; State::STATES],
-    released: &mut [u8; 16384],
-    ticks: &mut [u32; State::STATES],
-    rests: &mut [u32; State::STATES],
+    marks: &mut [u8; MARKS],
+    released: &mut [u8; EVENTS],
+    ticks: &mut [u32; MARKS],
+    rests: &mut [u32; MARKS],
     text: &mut [u8; TEXT],
 ) -> usize
-    ensures { λ r. ⌜ Writes (Prints (now (input .entry))) (now (text .entry)) r (now (text .exit)) ⌝ }
+    ensures { λ r. ⌜ Writes (Prints reading (now (input .entry))) (now (text .entry)) r (now (text .exit)) ⌝ }
 {
-    reply(input, marks, released, ticks, rests, text)
+    reply(reading, input, marks, released, ticks, rests, text)
 }

@@ -60,7 +60,7 @@ pub use Rattle.groovepawn.specs.Meter.{
 -- The program `enforce`: `console::respond` writes the text `printed input`, and returns how many bytes it is.
 pub use Rattle.console.specs.Printed.{printed}
 pub use Rattle.console.specs.Reply.{Replied, replied-one}
--- The program `wave`: `viewer::respond` writes the text `shown input` likewise.
+-- The program `wave`: `viewer::respond` writes the text `shown reading input` likewise.
 pub use Rattle.viewer.specs.Shown.{shown}
--- The program `why`: `telling::respond` writes a text that it `Prints` for the input, of which there is one, and returns how many bytes it is.
+-- The program `why`: `telling::respond` writes a text that it `Prints` for the reading and the input, of which there is one, and returns how many bytes it is.
 pub use Rattle.telling.specs.Prints.{Prints, prints-one, Writes, writes-one}

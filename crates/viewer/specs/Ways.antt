@@ -14,8 +14,8 @@ use Rattle.prepare.specs.Promise.{preparedSaid, PreparePromise}
 use Rattle.prepare.specs.declared.Prepared.{Prepared}
 use Rattle.texts.specs.Wrote.{Wrote}
 use Rattle.console.specs.Text.{refusedLine}
-use Rattle.console.specs.Frame.{policyFrameRefusal, policyPart, eventsFrameRefusal, eventsPart}
-use Rattle.console.specs.Printed.{unlessRefused, lent, ranOver}
+use Rattle.console.specs.Frame.{inputRefusal, policyPart, eventsFrameRefusal, eventsPart}
+use Rattle.console.specs.Printed.{unlessRefused, lent}
 use Rattle.console.specs.Replies.{Prepares, refused-text, lent-length, run-over}
 use Rattle.console.specs.Scratch.{prepare-alike}
 use Rattle.waves.specs.Entry.{textOf, writtenOver, writeRefusal, writeOf, writtenOut}
@@ -47,36 +47,30 @@ module _ (file released before : List ℕ) (room : length before ≡ 508119) whe
       go zero e o = let z : _≡_ {A = ℕ} 0 1 = cc in absurd (omega arith)
       go (suc k) e o = let h : n ≡ suc k = cc in (rw h, o)
 
-module _ (input : List ℕ) where
-  -- The policy's frame is refused; it is not, and what prepare answers decides, whatever the marks held.
-  pub policy-refused : {n : ℕ} → n ≡ policyFrameRefusal input → (n ≡ 0 → ⊥) → shown input ≡ refusedLine n
+module _ (reading : ℕ) (input : List ℕ) where
+  -- The reading or the policy's frame is refused; neither is, and what prepare answers decides, whatever the marks held.
+  pub policy-refused : {n : ℕ} → n ≡ inputRefusal input reading → (n ≡ 0 → ⊥) → shown reading input ≡ refusedLine n
   unfolding shown
   policy-refused {n} e h = rw (← e) (refused-text n _ h)
 
   pub policy-framed :
-      {marks after : List ℕ} {r : Prepared} → length marks ≡ 65536 → policyFrameRefusal input ≡ 0 → PreparePromise 1 (policyPart input) marks r after →
-      shown input ≡ preparedFile input (preparedSaid r)
+      {marks after : List ℕ} {r : Prepared} → length marks ≡ 65536 → inputRefusal input reading ≡ 0 → PreparePromise reading (policyPart input) marks r after →
+      shown reading input ≡ preparedFile reading input (preparedSaid r)
   unfolding shown
-  policy-framed {marks} n e h = rw (e, h .said, prepare-alike 1 (policyPart input) (lent 65536) marks (lent-length 65536 ∙ sym n))
+  policy-framed {marks} n e h = rw (e, h .said, prepare-alike reading (policyPart input) (lent 65536) marks (lent-length 65536 ∙ sym n))
 
   -- The events' frame is refused; it is not, and the run that the code makes decides, whatever its slice held.
-  pub events-refused : {n : ℕ} → n ≡ eventsFrameRefusal input → (n ≡ 0 → ⊥) → releasedFile input ≡ refusedLine n
+  pub events-refused : {n : ℕ} → n ≡ eventsFrameRefusal input → (n ≡ 0 → ⊥) → releasedFile reading input ≡ refusedLine n
   unfolding releasedFile
   events-refused {n} e h = rw (← e, first-refused n _ h) (refused-text n _ h)
 
-  module _ {file marks : List ℕ} (p : Prepares input file marks) (framed : eventsFrameRefusal input ≡ 0)
+  module _ {file marks : List ℕ} (p : Prepares reading input file marks) (framed : eventsFrameRefusal input ≡ 0)
       (released : List ℕ) (room : length (eventsPart input) ≤ length released) {r : Ran} {after : List ℕ}
-      (ran : RunPromise 1 file marks startState (eventsPart input) released r after) where
-    -- What prepare counted makes no difference.
-    over :
-        (r .refusal ≡ ranOver (policyPart input) (eventsPart input) .refusal)
-        × (r .refusal ≡ 0 → take (length (eventsPart input)) after ≡ ranOver (policyPart input) (eventsPart input) .out)
-    over = run-over input (record { verdict = 0; states = 0; live = 0 }) p framed released room ran
-
-    pub run-refused : (r .refusal ≡ 0 → ⊥) → releasedFile input ≡ refusedLine (r .refusal)
+      (ran : RunPromise reading file marks startState (eventsPart input) released r after) where
+    pub run-refused : (r .refusal ≡ 0 → ⊥) → releasedFile reading input ≡ refusedLine (r .refusal)
     unfolding releasedFile
-    run-refused h = rw (framed, ← over .0) (refused-text (r .refusal) _ h)
+    run-refused h = rw (framed, ← run-over p released room ran .0) (refused-text (r .refusal) _ h)
 
-    pub run-released : r .refusal ≡ 0 → releasedFile input ≡ fileOrLine file (take (length (eventsPart input)) after)
+    pub run-released : r .refusal ≡ 0 → releasedFile reading input ≡ fileOrLine file (take (length (eventsPart input)) after)
     unfolding releasedFile
-    run-released z = rw (framed, ← over .0, z, ← over .1 z, ← p .part)
+    run-released z = let k = run-over p released room ran in rw (framed, ← k .0, z, ← k .1 z, ← p .part)

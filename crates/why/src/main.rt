@@ -1,17 +1,20 @@
-// Reads what `enforce` reads, and prints what it prints, with a reason after each edited half.
+// Reads what `enforce` reads, and prints what it prints, with a reason after each edited half: `why [READING]`.
 use libc::STDIN_FILENO;
 use libc::STDOUT_FILENO;
 
 fn main() {
-    // The longest input is 2 + 5,974 + 2 + 16,384 bytes: one more tells that bytes are left over.
-    let mut input = [0u8; 22363];
+    let mut word = [0u8; 16];
+    let digits = os::arg(1, &mut word);
+    let reading = console::reading_told(os::arg_count(), &word[..digits]);
+    let mut input = [0u8; console::INPUT];
     let read = io::read_full(STDIN_FILENO, &mut input);
-    let mut marks = [0u8; 65536];
-    let mut released = [0u8; 16384];
-    let mut ticks = [0u32; 65536];
-    let mut rests = [0u32; 65536];
+    let mut marks = [0u8; console::MARKS];
+    let mut released = [0u8; console::EVENTS];
+    let mut ticks = [0u32; console::MARKS];
+    let mut rests = [0u32; console::MARKS];
     let mut text = [0u8; telling::TEXT];
     let written = telling::respond(
+        reading,
         &input[..read],
         &mut marks,
         &mut released,
@@ -19,5 +22,8 @@ fn main() {
         &mut rests,
         &mut text,
     );
-    io::write_all(STDOUT_FILENO, &text[..written]);
+    let is_written = io::write_all(STDOUT_FILENO, &text[..written]);
+    if !is_written {
+        os::fail(b"why: standard output");
+    }
 }

@@ -33,7 +33,7 @@ returns c =
     let i = c .before .before .before .before in
     let f = i .before .before in
     let s = f .before .before .before .before .before .before in
-    rw (events-refused (now (s .args .input)) (ap (λ (p : Part). p .refusal) (f .events-frame .ensures)) (i .if1 .taken))
+    rw (events-refused (s .args .reading) (now (s .args .input)) (ap (λ (p : Part). p .refusal) (f .events-frame .ensures)) (i .if1 .taken))
     (replied (c .before .before .put-refused .ensures) (c .before .before .put-refused .kept .0))
 
 -- The frame is not refused: where the events stand.
@@ -83,7 +83,7 @@ place c = c .before .before .before .before
 abbrev Promised : tie.After-run → State → List ℕ → Type 0
 Promised c state events =
     let a = start (place c) .args in
-    RunPromise 1 (now (a .file)) (now (a .marks)) state events (now (a .released)) (c .run .result) (c .run .last .1 .1 .1 .1 .1 .0)
+    RunPromise (a .reading) (now (a .file)) (now (a .marks)) state events (now (a .released)) (c .run .result) (c .run .last .1 .1 .1 .1 .1 .0)
 
 ran : (c : tie.After-run) → Promised c startState (eventsPart (input (place c)))
 ran c =
@@ -109,7 +109,7 @@ returns-2 c =
     let i = c .before .before .before .before in
     let r = i .before .before .before .before in
     let s = start (place r) in
-    rw (run-refused (input (place r)) (s .pre .0) (passed (place r)) _ (room r) (ran r) (i .if2 .taken))
+    rw (run-refused _ (input (place r)) (s .pre .0) (passed (place r)) _ (room r) (ran r) (i .if2 .taken))
     (replied (c .before .before .put-refused2 .ensures) (c .before .before .put-refused2 .kept .0))
 
 -- What is released is as long as the events.
@@ -138,7 +138,7 @@ returns-3 c =
     let i = t .before .before .before in
     let r = i .before .before .before .before in
     let s = start (place r) in
-    rw (run-released (input (place r)) (s .pre .0) (passed (place r)) _ (room r) (ran r) (i .if2 .left), ← events-are (place r)) (t .write-file .ensures)
+    rw (run-released _ (input (place r)) (s .pre .0) (passed (place r)) _ (room r) (ran r) (i .if2 .left), ← events-are (place r)) (t .write-file .ensures)
 
 pub view-events-spec : {M : Type 1} → statement M
 view-events-spec =

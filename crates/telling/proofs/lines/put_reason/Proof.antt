@@ -16,13 +16,13 @@ use Rattle.telling.proofs.lines.put_reason.Statement.{statement}
 use Rattle.telling.proofs.lines.put_reason.Tie as tie
 
 abbrev line : tie.Start → Reason → List ℕ
-line s q = reasonLine (policyOf (s .args .layout .reading) (now (s .args .file))) (now (s .args .half)) (reasonSaid q)
+line s q = reasonLine (policyOf (s .args .layout .reading) (now (s .args .file))) (now (s .args .broken)) (now (s .args .half)) (reasonSaid q)
 
 -- There is room for the line.
 room : (s : tie.Start) {q : Reason} → s .args .reason ≡ q → s .args .at + length (line s q) ≤ length (now (s .args .text))
 room s e =
     subst (λ (z : Reason). s .args .at + length (line s z) ≤ length (now (s .args .text))) e
-    (omega (arith, s .pre .1, line-short (s .pre .0 .0) (now (s .args .half)) (reasonSaid (s .args .reason)) (s .pre .0 .1) (s .pre .0 .2)))
+    (omega (arith, s .pre .1, line-short (s .pre .0 .0) (now (s .args .broken)) (now (s .args .half)) (reasonSaid (s .args .reason)) (s .pre .0 .1) (s .pre .0 .2) (s .pre .1 .0)))
 
 enum-told : tie.Need-enum-told
 enum-told c = search needs
@@ -33,10 +33,10 @@ enum-known-reason c = search needs
 put-rule-requires : tie.Need-put-rule-requires
 put-rule-requires c κs =
     let k = c .before .before .reason .given in
-    let s = c .before .before .before .before .before .before .before in
+    let s = c .before .before .before .before .before .before .before .before in
     let a = s .args in (
       (s .pre .0 .0, subst (λ (z : Reason). Named (ruleCount (now (a .file))) (reasonSaid z)) (k .1) (s .pre .0 .1)),
-      omega (arith, room s (k .1), length-append (now (a .half)) (ruleWords (policyOf (a .layout .reading) (now (a .file))) (k .0 .0))),
+      omega (arith, room s (k .1), length-append (now (a .broken)) (ruleWords (policyOf (a .layout .reading) (now (a .file))) (k .0 .0))),
     )
 
 enum-told-2 : tie.Need-enum-told-2
@@ -47,7 +47,7 @@ slice-aggregate-put-plain c = search needs
 
 put-plain-requires : tie.Need-put-plain-requires
 put-plain-requires c κs =
-    let s = c .before .before .before .before .before .before .before in
+    let s = c .before .before .before .before .before .before .before .before in
     omega (arith, s .pre .1)
 
 enum-known-reason-2 : tie.Need-enum-known-reason-2
@@ -56,7 +56,7 @@ enum-known-reason-2 c = search needs
 put-ticks-requires : tie.Need-put-ticks-requires
 put-ticks-requires c κs =
     let k = c .before .before .reason2 .given in
-    let s = c .before .before .before .before .before .before .before in
+    let s = c .before .before .before .before .before .before .before .before in
     omega (arith, room s (k .1), length-append (now (s .args .half)) (ticksWords (k .0 .0)))
 
 enum-known-reason-3 : tie.Need-enum-known-reason-3
@@ -65,35 +65,35 @@ enum-known-reason-3 c = search needs
 put-rests-requires : tie.Need-put-rests-requires
 put-rests-requires c κs =
     let k = c .before .before .reason3 .given in
-    let s = c .before .before .before .before .before .before .before in
+    let s = c .before .before .before .before .before .before .before .before in
     omega (arith, room s (k .1), length-append (now (s .args .half)) (restsWords (k .0 .0)))
 
 returns : tie.Need-returns
-returns c = let s = c .before .before .before .before .before in rw (ap (line s) (c .enum-told .given .1)) (wrote-none _ _)
+returns c = let s = c .before .before .before .before .before .before in rw (ap (line s) (c .enum-told .given .1)) (wrote-none _ _)
 
 same-length : tie.Need-same-length
 same-length c = search needs
 
 returns-2 : tie.Need-returns-2
-returns-2 c = let k = c .before .before .before .before .before in rw (ap (line (k .before .before .before .before .before)) (k .reason .given .1)) (c .before .before .put-rule .ensures)
+returns-2 c = let k = c .before .before .before .before .before in rw (ap (line (k .before .before .before .before .before .before)) (k .reason .given .1)) (c .before .before .put-rule .ensures)
 
 same-length-2 : tie.Need-same-length-2
 same-length-2 c = search needs
 
 returns-3 : tie.Need-returns-3
-returns-3 c = let k = c .before .before .before .before .before in rw (ap (line (k .before .before .before .before .before)) (k .enum-told2 .given .1)) (c .before .before .put-plain .ensures)
+returns-3 c = let k = c .before .before .before .before .before in rw (ap (line (k .before .before .before .before .before .before)) (k .enum-told2 .given .1)) (c .before .before .put-plain .ensures)
 
 same-length-3 : tie.Need-same-length-3
 same-length-3 c = search needs
 
 returns-4 : tie.Need-returns-4
-returns-4 c = let k = c .before .before .before .before .before in rw (ap (line (k .before .before .before .before .before)) (k .reason2 .given .1)) (c .before .before .put-ticks .ensures)
+returns-4 c = let k = c .before .before .before .before .before in rw (ap (line (k .before .before .before .before .before .before)) (k .reason2 .given .1)) (c .before .before .put-ticks .ensures)
 
 same-length-4 : tie.Need-same-length-4
 same-length-4 c = search needs
 
 returns-5 : tie.Need-returns-5
-returns-5 c = let k = c .before .before .before .before .before in rw (ap (line (k .before .before .before .before .before)) (k .reason3 .given .1)) (c .before .before .put-rests .ensures)
+returns-5 c = let k = c .before .before .before .before .before in rw (ap (line (k .before .before .before .before .before .before)) (k .reason3 .given .1)) (c .before .before .put-rests .ensures)
 
 pub put-reason-spec : {M : Type 1} → statement M
 put-reason-spec =

@@ -1,31 +1,52 @@
 -- `telling::lines::put_reasons` meets its contract: the line of the input, then that of the output.
+use mathlib.Core.List.{List}
+use Prim.Native.Nat.{ℕ, _≤_}
 use native.Mathlib.Omega.{arith}
+use lib.ListN.{length}
+use denote.Ref.{now}
 use borrow.Author.Needs.{needs}
+use Rattle.policy.specs.File.{policyOf}
 use Rattle.texts.specs.Text.{ascii}
 use Rattle.texts.specs.WroteLaws.{wrote-then}
 use Rattle.reasons.specs.Promise.{reasonSaid}
-use Rattle.telling.specs.Text.{reasonLines}
+use Rattle.telling.specs.Text.{inputLine, outputLine, reasonLines}
 use Rattle.telling.specs.Named.{line-short}
 use Rattle.telling.proofs.lines.put_reasons.Statement.{statement}
 use Rattle.telling.proofs.lines.put_reasons.Tie as tie
 
+-- What stands before the words of each half.
+abbrev brokenInput : List ℕ
+brokenInput = ascii "input: no output will do; with none on, "
+
 slice-aggregate-put-reason : tie.Need-slice-aggregate-put-reason
 slice-aggregate-put-reason c = search needs
-
-put-reason-requires : tie.Need-put-reason-requires
-put-reason-requires c κs =
-    let s = c .before .before .before .before in
-    ((s .pre .0 .0, s .pre .1 .0 .0, s .pre .1 .0 .1), omega (arith, s .pre .0 .1))
 
 slice-aggregate-put-reason-2 : tie.Need-slice-aggregate-put-reason-2
 slice-aggregate-put-reason-2 c = search needs
 
+put-reason-requires : tie.Need-put-reason-requires
+put-reason-requires c κs =
+    let s = c .before .before .before .before .before in
+    ((s .pre .0 .0, s .pre .1 .0 .0, s .pre .1 .0 .1), (omega arith, omega (arith, s .pre .0 .1)))
+
+slice-aggregate-put-reason-3 : tie.Need-slice-aggregate-put-reason-3
+slice-aggregate-put-reason-3 c = search needs
+
+slice-aggregate-put-reason-4 : tie.Need-slice-aggregate-put-reason-4
+slice-aggregate-put-reason-4 c = search needs
+
+-- The line of the input is short, and so is that of the output.
+input-short : (s : tie.Start) → length (inputLine (policyOf (s .args .layout .reading) (now (s .args .file))) (reasonSaid (s .args .told .input))) ≤ 192
+input-short s = line-short (s .pre .0 .0) brokenInput (ascii "input: ") (reasonSaid (s .args .told .input)) (s .pre .1 .0 .0) (s .pre .1 .0 .1) (omega arith)
+
+output-short : (s : tie.Start) → length (outputLine (policyOf (s .args .layout .reading) (now (s .args .file))) (reasonSaid (s .args .told .output))) ≤ 160
+output-short s = line-short (s .pre .0 .0) (ascii "output: ") (ascii "output: ") (reasonSaid (s .args .told .output)) (s .pre .1 .1 .0) (s .pre .1 .1 .1) (omega arith)
+
 put-reason-requires-2 : tie.Need-put-reason-requires-2
 put-reason-requires-2 c κs =
-    let p = c .before .before .before .before in
-    let s = p .before .before .before .before .before in
-    let l = line-short (s .pre .0 .0) (ascii "input: ") (reasonSaid (s .args .told .input)) (s .pre .1 .0 .0) (s .pre .1 .0 .1) in
-    ((s .pre .0 .0, s .pre .1 .1 .0, s .pre .1 .1 .1), omega (arith, s .pre .0 .1, l, p .put-reason .ensures .next, p .put-reason .kept .0))
+    let p = c .before .before .before .before .before in
+    let s = p .before .before .before .before .before .before in
+    ((s .pre .0 .0, s .pre .1 .1 .0, s .pre .1 .1 .1), (omega arith, omega (arith, s .pre .0 .1, input-short s, p .put-reason .ensures .next, p .put-reason .kept .0)))
 
 same-length : tie.Need-same-length
 same-length c = search needs
@@ -34,19 +55,21 @@ returns : tie.Need-returns
 unfolding reasonLines
 returns c =
     let q = c .before .before in
-    let p = q .before .before .before .before .before in
-    let s = p .before .before .before .before .before in
-    let l = line-short (s .pre .0 .0) (ascii "input: ") (reasonSaid (s .args .told .input)) (s .pre .1 .0 .0) (s .pre .1 .0 .1) in
-    let m = line-short (s .pre .0 .0) (ascii "output: ") (reasonSaid (s .args .told .output)) (s .pre .1 .1 .0) (s .pre .1 .1 .1) in
-    (wrote-then (omega (arith, s .pre .0 .1)) (p .put-reason .ensures) (q .put-reason2 .ensures), omega (arith, l, m, p .put-reason .ensures .next, q .put-reason2 .ensures .next))
+    let p = q .before .before .before .before .before .before in
+    let s = p .before .before .before .before .before .before in (
+      wrote-then (omega (arith, s .pre .0 .1)) (p .put-reason .ensures) (q .put-reason2 .ensures),
+      omega (arith, input-short s, output-short s, p .put-reason .ensures .next, q .put-reason2 .ensures .next),
+    )
 
 pub put-reasons-spec : {M : Type 1} → statement M
 put-reasons-spec =
     tie.close
     (tie.spec
     slice-aggregate-put-reason
-    put-reason-requires
     slice-aggregate-put-reason-2
+    put-reason-requires
+    slice-aggregate-put-reason-3
+    slice-aggregate-put-reason-4
     put-reason-requires-2
     same-length
     returns)

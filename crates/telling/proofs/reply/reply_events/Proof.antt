@@ -38,7 +38,7 @@ returns c =
     let s = f .before .before .before .before .before .before .before .before in
     record {
       text = refusedLine (f .events-frame .result .refusal);
-      said = events-refused (now (s .args .input)) (s .args .summary) (ap (λ (p : Part). p .refusal) (f .events-frame .ensures)) (i .if1 .taken);
+      said = events-refused (s .args .reading) (now (s .args .input)) (s .args .summary) (ap (λ (p : Part). p .refusal) (f .events-frame .ensures)) (i .if1 .taken);
       replied = replied (c .before .before .put-refused .ensures) (c .before .before .put-refused .kept .0);
     }
 
@@ -89,7 +89,7 @@ place c = c .before .before .before .before
 abbrev Promised : tie.After-run → State → List ℕ → Type 0
 Promised c state events =
     let a = start (place c) .args in
-    RunPromise 1 (now (a .file)) (now (a .marks)) state events (now (a .released)) (c .run .result) (c .run .last .1 .1 .1 .1 .1 .0)
+    RunPromise (a .reading) (now (a .file)) (now (a .marks)) state events (now (a .released)) (c .run .result) (c .run .last .1 .1 .1 .1 .1 .0)
 
 started : (c : tie.After-run) → let p = place c in Promised c startState (take (frame p .end - frame p .start) (drop (frame p .start) (input p)))
 started c =
@@ -107,7 +107,7 @@ room c = omega (arith, few (place c), start (place c) .pre)
 abbrev Ticks : tie.Else1 → List ℕ → List ℕ → Type 0
 Ticks c bytes events =
     let a = start c .args in
-    Told (policyOf 1 (now (a .file))) (now (a .marks)) 1 (startPlace (policyOf 1 (now (a .file)))) events bytes
+    Told (policyOf (a .reading) (now (a .file))) (now (a .marks)) 1 (startPlace (policyOf (a .reading) (now (a .file)))) events bytes
 
 put-refused-requires-2 : tie.Need-put-refused-requires-2
 put-refused-requires-2 c κs = let r = c .before .before .before .before .before in omega (arith, start (place r) .pre)
@@ -125,7 +125,7 @@ returns-2 c =
     let s = start (place r) in
     record {
       text = refusedLine (r .run .result .refusal);
-      said = run-refused (input (place r)) (s .args .summary) (s .pre .0) (passed (place r)) _ (room r) (ran r) (i .if2 .taken);
+      said = run-refused _ (input (place r)) (s .args .summary) (s .pre .0) (passed (place r)) _ (room r) (ran r) (i .if2 .taken);
       replied = replied (c .before .before .put-refused2 .ensures) (c .before .before .put-refused2 .kept .0);
     }
 
@@ -166,8 +166,8 @@ returns-3 c =
     let told = subst (Ticks (place r) (w .bytes)) (events-are (place r)) (w .told) in
     record {
       text = verdictLine (s .args .summary .verdict) (s .args .summary .states) (s .args .summary .live) ++ w .bytes;
-      said = run-told (input (place r)) (s .args .summary) (s .pre .0) (passed (place r)) _ (room r) (ran r) (i .if2 .left) told;
-      replied = replied (wrote-then zero-le (v .put-verdict .ensures .0) (w .wrote)) (t .tell-all .kept .1 .1 .1 .1 .1 .0 ∙ v .put-verdict .kept .0);
+      said = run-told _ (input (place r)) (s .args .summary) (s .pre .0) (passed (place r)) _ (room r) (ran r) (i .if2 .left) told;
+      replied = replied (wrote-then zero-le (v .put-verdict .ensures .0) (w .wrote)) (t .tell-all .kept .1 .1 .1 .1 .1 .1 .0 ∙ v .put-verdict .kept .0);
     }
 
 pub reply-events-spec : {M : Type 1} → statement M

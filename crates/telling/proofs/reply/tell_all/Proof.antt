@@ -12,7 +12,7 @@ use Rattle.telling.proofs.reply.tell_all.Statement.{statement}
 use Rattle.telling.proofs.reply.tell_all.Tie as tie
 
 granted : (c : tie.After-check-under) →
-    let a = c .before .before .before .before .before .before .before .args in Granted 1 (now (a .file)) (now (a .marks)) (c .check-under .result .layout)
+    let a = c .before .before .before .before .before .before .before .args in Granted (a .reading) (now (a .file)) (now (a .marks)) (c .check-under .result .layout)
 granted c = granted-laid _ (c .check-under .ensures) (c .before .before .before .before .before .before .before .pre .0 .early)
 
 check-under-requires : tie.Need-check-under-requires

@@ -1,11 +1,11 @@
--- `listing::reading_of` meets its contract, by how long the word is.
+-- `console::reading::reading_of` meets its contract, by how long the word is.
 use mathlib.Core.Path.{sym}
 use native.Mathlib.Omega.{arith}
 use denote.Ref.{now}
 use borrow.Author.Needs.{needs}
-use Rattle.listing.specs.Ways.{none-named, one-named}
-use Rattle.listing.proofs.reading_of.Statement.{statement}
-use Rattle.listing.proofs.reading_of.Tie as tie
+use Rattle.console.specs.Reading.{none-named, one-named}
+use Rattle.console.proofs.reading.reading_of.Statement.{statement}
+use Rattle.console.proofs.reading.reading_of.Tie as tie
 
 returns : tie.Need-returns
 returns c = sym (none-named (now (c .before .args .word)) (c .if1 .taken))
