@@ -53,8 +53,8 @@ const USAGE: &str = "usage:
   independent selfcheck
   independent compare SECONDS SEED [trace]   (needs the feature `library`)
   independent rehearse SECONDS SEED
-  independent program enforce|wave|why SECONDS SEED WORD...   (the words run it)
-  independent prints enforce|wave|why < INPUT
+  independent program enforce|wave|why|clean SECONDS SEED WORD...   (the words run it)
+  independent prints enforce|wave|why [READING] < INPUT
   independent show SEED GROUP
   independent vectors COUNT SEED > FILE
   independent wrong EACH SEED > FILE
@@ -75,9 +75,9 @@ fn perform(words: &[&str]) -> Result<(), String> {
             compare_engine(&mut Model, number(seconds)?, number(seed)?, false)
         }
         ["program", name, seconds, seed, ref words @ ..] => {
-            compare_program(program(name)?, words, number(seconds)?, number(seed)?)
+            compare_program(name, words, number(seconds)?, number(seed)?)
         }
-        ["prints", name] => print_as(program(name)?),
+        ["prints", name, ref words @ ..] => print_as(program(name)?, words),
         ["show", seed, group] => show(number(seed)?, number(group)?),
         ["vectors", count, seed] => {
             write_file(&vectors::vectors(number(count)? as usize, number(seed)?))
@@ -148,16 +148,14 @@ fn compare_engine(
     }
 }
 
-fn compare_program(
-    program: Program,
-    words: &[&str],
-    seconds: u64,
-    seed: u64,
-) -> Result<(), String> {
+fn compare_program(name: &str, words: &[&str], seconds: u64, seed: u64) -> Result<(), String> {
     let began = Instant::now();
     let goes_on = |_| began.elapsed() < Duration::from_secs(seconds);
-    let (inputs, refused) = program::compare(program, words, seed, goes_on)?;
-    println!("{inputs} inputs, of which refused {refused}; no difference");
+    let (runs, refused) = match name {
+        "clean" => program::clean::compare(words, seed, goes_on)?,
+        _ => program::compare(program(name)?, words, seed, goes_on)?,
+    };
+    println!("{runs} runs, of which refused {refused}; no difference");
     Ok(())
 }
 
@@ -176,8 +174,8 @@ fn write_file(file: &[u8]) -> Result<(), String> {
     Ok(())
 }
 
-fn print_as(program: Program) -> Result<(), String> {
-    print!("{}", program.printed(&standard_input()?));
+fn print_as(program: Program, words: &[&str]) -> Result<(), String> {
+    print!("{}", program.printed(words, &standard_input()?));
     Ok(())
 }
 

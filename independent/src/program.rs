@@ -1,6 +1,8 @@
 //! What the programs `enforce`, `wave` and `why` print for an input, by the
-//! paper, and a comparison of a program with that on random inputs.
+//! paper, and a comparison of a program with that on random inputs. What the
+//! program `clean` does with files is in `program/clean`.
 
+pub mod clean;
 mod inputs;
 mod ran;
 mod run;
@@ -8,7 +10,9 @@ mod words;
 
 use crate::hex::hex;
 use crate::random::Random;
-use inputs::some_input;
+use crate::reading::Reading;
+use crate::refusal::Refusal;
+use inputs::{some_input, some_words};
 use ran::Ran;
 use run::run;
 
@@ -34,19 +38,46 @@ impl Program {
         }
     }
 
+    /// "The program uses reading 1"; `wave` and `why` may be told another by
+    /// their one word.
+    fn reading(self, words: &[&str]) -> Result<Reading, Refusal> {
+        match (self, words) {
+            (Program::Enforce, _) | (_, []) => Ok(Reading::AtStart),
+            (_, [word]) => reading_of(word),
+            _ => Err(Refusal::UnknownReading),
+        }
+    }
+
     /// All that is to be printed.
-    pub fn printed(self, input: &[u8]) -> String {
-        match (Ran::of(input), self) {
+    pub fn printed(self, words: &[&str], input: &[u8]) -> String {
+        let ran = self
+            .reading(words)
+            .and_then(|reading| Ran::of(reading, input));
+        match (ran, self) {
             (Ok(ran), Program::Enforce) => ran.lines(),
             (Ok(ran), Program::Wave) => ran.wave(),
             (Ok(ran), Program::Why) => ran.told(),
-            (Err(refusal), _) => format!("refused {}\n", refusal.number()),
+            (Err(refusal), _) => refused(refusal),
         }
     }
 }
 
-/// Runs a program, which the words name, on random inputs while `goes_on`, and
-/// returns how many it printed right and how many of these were refusals.
+/// The reading that a word names, by its digit.
+fn reading_of(word: &str) -> Result<Reading, Refusal> {
+    match word {
+        "1" => Ok(Reading::AtStart),
+        "2" => Ok(Reading::Counted),
+        _ => Err(Refusal::UnknownReading),
+    }
+}
+
+fn refused(refusal: Refusal) -> String {
+    format!("refused {}\n", refusal.number())
+}
+
+/// Runs a program, which the words name, on random inputs and with random words
+/// after those while `goes_on`, and returns how many it printed right and how
+/// many of these were refusals.
 pub fn compare(
     program: Program,
     words: &[&str],
@@ -58,11 +89,13 @@ pub fn compare(
     let mut number = 0;
     while goes_on(number) {
         let input = some_input(seed, number);
-        let expected = program.printed(&input);
-        let found = run(words, &input, &mut random).map_err(|error| format!("{error}"))?;
+        let told = some_words(&mut random);
+        let expected = program.printed(&told, &input);
+        let found = run(&[words, &told].concat(), &input, &mut random);
+        let found = found.map_err(|error| format!("{error}"))?;
         if found != expected {
             return Err(format!(
-                "difference at input {number}, {}",
+                "difference at input {number} with the words {told:?}, {}",
                 described(&input, &expected, &found)
             ));
         }
@@ -106,7 +139,7 @@ mod tests {
     fn the_sample_of_the_paper() {
         let expected = "verdict 1 states 2 live 1\n1 1 0 0 0 EF\n2 1 1 0 1 EF\n";
         let input = input(samples::T, "00 02 01 11");
-        assert_eq!(Program::Enforce.printed(&input), expected);
+        assert_eq!(Program::Enforce.printed(&[], &input), expected);
     }
 
     /// What T releases for 01 11 is 00 10.
@@ -118,7 +151,7 @@ mod tests {
             $enddefinitions $end\n\
             #0\n0A\n0B\n#1\n1B\n#2\n";
         let input = input(samples::T, "00 02 01 11");
-        assert_eq!(Program::Wave.printed(&input), expected);
+        assert_eq!(Program::Wave.printed(&[], &input), expected);
     }
 
     /// In T the input 1 leads to a location without rules, with either output.
@@ -128,25 +161,82 @@ mod tests {
             1 1 0 0 0 EF\ninput: after it at most 0 more ticks\n\
             2 1 1 0 1 EF\ninput: after it at most 0 more ticks\n";
         let input = input(samples::T, "00 02 01 11");
-        assert_eq!(Program::Why.printed(&input), expected);
+        assert_eq!(Program::Why.printed(&[], &input), expected);
     }
 
     /// Every kind of reason, and every part of what a rule asks.
     #[test]
     fn the_words_of_the_example() {
         let input = include_bytes!("../../crates/why/stdin");
-        let lines =
-            "output: rule 4 forbids it: at location 0, R on, A B off, clock 0 from 0 to 1\n\
-            input: rule 0 forbids it: at location 0, A B on, clock 0 from 1 on\n\
+        let lines = "input: after it at most 1 more time at rest\n\
+            output: rule 5 forbids it: at location 0, R on, A B off, clock 0 from 0 to 1\n\
             output: no rule allows it\n\
+            input: no output will do; with none on, rule 0 forbids it: at location 0, A B on, clock 0 from 1 on\n\
             output: after it at most 2 more ticks\n\
             input: after it never at rest again\n\
             input: after it at most 1 more time at rest\n\
-            input: rule 0 forbids it: at location 0, A B on, clock 0 from 1 on\n\
+            input: no output will do; with none on, rule 0 forbids it: at location 0, A B on, clock 0 from 1 on\n\
             output: after it at most 2 more ticks\n";
-        let text = Program::Why.printed(input);
+        let text = Program::Why.printed(&[], input);
         let reasons: Vec<&str> = text.lines().filter(|line| line.contains(':')).collect();
         assert_eq!(reasons, lines.lines().collect::<Vec<_>>());
+    }
+
+    /// The rules A without B and A with B are violations: for A and B the lowest
+    /// output is decided by the second, and for a policy without a rule by none.
+    #[test]
+    fn an_input_that_no_output_saves() {
+        let barred = "02 41 42 01 52 00 01 00 00 03 \
+            00 03 01 00 00 00 FF 00 03 03 00 00 00 FF 00 00 00 00 00 00 00";
+        let only_quiet = "01 41 01 52 00 01 00 00 01 00 01 00 00 00 00 00";
+        let cases = [
+            (
+                barred,
+                "00 01 03",
+                "rule 1 forbids it: at location 0, A B on",
+            ),
+            (
+                barred,
+                "00 01 01",
+                "rule 0 forbids it: at location 0, A on, B off",
+            ),
+            (only_quiet, "00 01 01", "no rule allows it"),
+        ];
+        for (policy, events, words) in cases {
+            let text = Program::Why.printed(&[], &input(policy, events));
+            let line = format!("input: no output will do; with none on, {words}");
+            assert_eq!(text.lines().nth(2), Some(&line[..]));
+        }
+    }
+
+    /// A location that must be left, where one event stays and one leads to a
+    /// resting location without rules: a stream that ends there has rested once,
+    /// though one that goes on for ever does not.
+    #[test]
+    fn streams_that_end_count_too() {
+        let ending = "01 41 01 52 00 03 00 01 00 00 04 00 01 01 00 00 00 01 \
+            00 00 00 00 00 00 00 01 01 01 00 00 00 01 01 00 00 00 00 00 02";
+        let text = Program::Why.printed(&[], &input(ending, "00 01 01"));
+        let line = "input: after it at most 1 more time at rest";
+        assert_eq!(text.lines().nth(2), Some(line));
+    }
+
+    /// "Under reading 2, D turns 01 00 00 00 00 into 01 00 00 10 00."
+    #[test]
+    fn the_reading_that_is_told() {
+        let input = input(samples::D, "00 05 01 00 00 00 00");
+        let late = "#0\n1R\n0C\n#1\n0R\n#4\n1C\n#5\n";
+        let soon = "#0\n1R\n0C\n#1\n0R\n#3\n1C\n#4\n0C\n#5\n";
+        let cases = [(vec![], late), (vec!["1"], late), (vec!["2"], soon)];
+        for (words, end) in cases {
+            assert!(Program::Wave.printed(&words, &input).ends_with(end));
+        }
+        for words in [vec!["0"], vec!["3"], vec![""], vec!["12"], vec!["1", "1"]] {
+            for program in [Program::Wave, Program::Why] {
+                assert_eq!(program.printed(&words, &[]), "refused 22\n");
+            }
+            assert_eq!(Program::Enforce.printed(&words, &[]), "refused 1\n");
+        }
     }
 
     #[test]
@@ -164,7 +254,7 @@ mod tests {
         ];
         for (input, number) in cases {
             for program in [Program::Enforce, Program::Wave, Program::Why] {
-                assert_eq!(program.printed(&input), format!("refused {number}\n"));
+                assert_eq!(program.printed(&[], &input), format!("refused {number}\n"));
             }
         }
     }
@@ -172,7 +262,7 @@ mod tests {
     #[test]
     fn random_inputs_reach_lines_and_refusals() {
         let texts: Vec<String> = (0..600)
-            .map(|number| Program::Enforce.printed(&some_input(1, number)))
+            .map(|number| Program::Enforce.printed(&[], &some_input(1, number)))
             .collect();
         for refusal in [1, 2, 3, 4, 5, 6, 7, 8, 9, 11, 15] {
             let line = format!("refused {refusal}\n");
@@ -187,10 +277,10 @@ mod tests {
     #[test]
     fn random_inputs_reach_every_reason() {
         let texts: Vec<String> = (0..600)
-            .map(|number| Program::Why.printed(&some_input(1, number)))
+            .map(|number| Program::Why.printed(&[], &some_input(1, number)))
             .collect();
         let parts = [
-            "input: rule ",
+            "input: no output will do; with none on, rule ",
             "output: rule ",
             " forbids it: at location ",
             " on, ",
@@ -198,7 +288,7 @@ mod tests {
             " off\n",
             ", clock 0 from ",
             ", clock 1 from ",
-            "input: no rule allows it\n",
+            "input: no output will do; with none on, no rule allows it\n",
             "output: no rule allows it\n",
             " more tick\n",
             " more ticks\n",

@@ -1,4 +1,4 @@
-//! Random inputs for the programs.
+//! Random inputs and words for the programs.
 
 use crate::damage;
 use crate::policies::{self, Size};
@@ -28,7 +28,7 @@ pub fn some_input(seed: u64, number: u64) -> Vec<u8> {
     input
 }
 
-fn some_policy(random: &mut Random) -> Policy {
+pub fn some_policy(random: &mut Random) -> Policy {
     match random.below(100) {
         0 => policies::overfull(random),
         1 => policies::of_size(random, Size::Medium),
@@ -62,3 +62,26 @@ fn put_counted(random: &mut Random, input: &mut Vec<u8>, bytes: &[u8]) {
     input.extend(count.to_be_bytes());
     input.extend(bytes);
 }
+
+/// No word in half of the cases, and else one that names a reading; now and then
+/// others.
+pub fn some_words(random: &mut Random) -> Vec<&'static str> {
+    match random.below(20) {
+        0..=9 => vec![],
+        10..=13 => vec!["1"],
+        14..=18 => vec!["2"],
+        _ => random.pick(&WRONG_WORDS).to_vec(),
+    }
+}
+
+pub const WRONG_WORDS: [&[&str]; 9] = [
+    &["0"],
+    &["3"],
+    &["9"],
+    &[""],
+    &["12"],
+    &[" 1"],
+    &["one"],
+    &["a word that is longer than the program keeps"],
+    &["1", "2"],
+];

@@ -1,6 +1,6 @@
 //! What the programs print of an input that is not refused.
 
-use super::words::words;
+use super::words::lines_of;
 use crate::basis::Basis;
 use crate::enforce::{self, Prepared};
 use crate::moment::STATE_LENGTH;
@@ -13,12 +13,11 @@ use crate::why::{self, Reason};
 use std::collections::HashMap;
 use std::fmt::Write as _;
 
-const LONGEST_POLICY: usize = 5_974;
-/// The programs use reading 1.
-const READING: Reading = Reading::AtStart;
+pub const LONGEST_POLICY: usize = 5_974;
 
 /// An input that is not refused, and what is released for it.
 pub struct Ran<'a> {
+    reading: Reading,
     file: &'a [u8],
     marks: Vec<u8>,
     prepared: Prepared,
@@ -27,21 +26,22 @@ pub struct Ran<'a> {
 }
 
 impl Ran<'_> {
-    pub fn of(input: &[u8]) -> Result<Ran<'_>, Refusal> {
+    pub fn of(reading: Reading, input: &[u8]) -> Result<Ran<'_>, Refusal> {
         let (file, rest) = counted(input, LONGEST_POLICY)?;
         let mut marks = vec![0; MAX_STATES as usize];
-        let prepared = enforce::prepare(READING.number(), file, &mut marks)?;
+        let prepared = enforce::prepare(reading.number(), file, &mut marks)?;
         let (events, rest) = counted(rest, MOST_EVENTS)?;
         if !rest.is_empty() {
             return Err(Refusal::LeftOver);
         }
         let mut released = vec![0; events.len()];
         let mut state = [0; STATE_LENGTH];
-        let basis = Basis::new(READING.number(), file, &marks);
+        let basis = Basis::new(reading.number(), file, &marks);
         let end = enforce::run(basis, &mut state, events, &mut released);
         match end.refusal {
             Some(refusal) => Err(refusal),
             None => Ok(Ran {
+                reading,
                 file,
                 marks,
                 prepared,
@@ -52,7 +52,7 @@ impl Ran<'_> {
     }
 
     fn basis(&self) -> Basis<'_> {
-        Basis::new(READING.number(), self.file, &self.marks)
+        Basis::new(self.reading.number(), self.file, &self.marks)
     }
 
     pub fn lines(&self) -> String {
@@ -90,10 +90,8 @@ impl Ran<'_> {
                 let reasons = known
                     .entry((state, event))
                     .or_insert_with(|| self.reasons(&state, event));
-                for (half, reason) in ["input", "output"].iter().zip(reasons) {
-                    if let Some(words) = words(&policy, *reason) {
-                        writeln!(text, "{half}: {words}").expect("a string takes all");
-                    }
+                for line in lines_of(&policy, *reasons) {
+                    writeln!(text, "{line}").expect("a string takes all");
                 }
             }
             // What is released is kept as it is, and moves the state.

@@ -3,8 +3,21 @@
 use crate::policy::{Bound, Policy, Rule, NO_UPPER_BOUND};
 use crate::why::Reason;
 
+/// A line for each half that was edited. An input that is a violation is one
+/// with every output, and the reason is that for the lowest.
+pub fn lines_of(policy: &Policy, [input, output]: [Reason; 2]) -> Vec<String> {
+    let at_once = matches!(input, Reason::Rule(_) | Reason::NoRule);
+    let every = match at_once {
+        true => "no output will do; with none on, ",
+        false => "",
+    };
+    let input = words(policy, input).map(|words| format!("input: {every}{words}"));
+    let output = words(policy, output).map(|words| format!("output: {words}"));
+    input.into_iter().chain(output).collect()
+}
+
 /// The words of a reason, if there is one.
-pub fn words(policy: &Policy, reason: Reason) -> Option<String> {
+fn words(policy: &Policy, reason: Reason) -> Option<String> {
     let counted = |most: usize, what: &str, end: &str| {
         let s = if most == 1 { "" } else { "s" };
         Some(format!("after it at most {most} more {what}{s}{end}"))

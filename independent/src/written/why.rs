@@ -175,6 +175,14 @@ const BY_REST: &str = "01 41 02 42 43 00 04 00 00 00 01 00 07 \
     01 00 00 00 00 00 02 \
     03 00 00 00 00 00 03";
 
+/// What A begins must be left: with A it goes on for ever there and never rests,
+/// and without A it ends at rest. A stream that ends counts too, so k is 1.
+const ENDS_AT_REST: &str = "01 41 01 52 00 03 00 01 00 00 04 \
+    00 01 01 00 00 00 01 \
+    00 00 00 00 00 00 00 \
+    01 01 01 00 00 00 01 \
+    01 00 00 00 00 00 02";
+
 fn inputs() -> Vec<Written> {
     vec![
         input("T: no tick more", start(T, &[1, 0]), (1, 0), ticks(0)),
@@ -184,6 +192,12 @@ fn inputs() -> Vec<Written> {
             start(UNFINISHED, &[1, 0]),
             (1, 0),
             rests(0),
+        ),
+        input(
+            "for ever without rest, or one rest and an end",
+            start(ENDS_AT_REST, &[1, 0, 0]),
+            (1, 0),
+            rests(1),
         ),
         input(
             "the greatest over all outputs",
