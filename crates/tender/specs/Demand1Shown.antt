@@ -11,6 +11,7 @@ use Rattle.streams.specs.Answer.{Answer, refused, gives, unless, answer}
 use Rattle.policy.specs.File.{policyOf}
 use Rattle.policy.specs.Check.{readingRefusal, refusalUnder}
 use Rattle.policy.specs.CheckLaws.{under-none}
+use Rattle.policy.specs.Layout.{checkedUnder, noLayout}
 use Rattle.enforcer.specs.State.{isMarked}
 use Rattle.enforcer.specs.Entries.{OutputAnswer, marksRefusal, inputRefusal, inputOf, outputRefusal, outputOf, runRefusal, runOf}
 use Rattle.enforcer.specs.States.{marks-granted}
@@ -19,6 +20,8 @@ use Rattle.prepare.specs.Entry.{summaryOf, prepareOf, preparedMarks}
 use Rattle.prepare.specs.Promise.{prepared-one}
 use Rattle.prepare.specs.PromiseLaws.{said-past}
 use Rattle.reasons.specs.Entry.{whyRefusal}
+use Rattle.indexed.specs.Entries.{indexRefusal, inputIndexedOf, outputIndexedOf}
+use Rattle.cleaning.specs.Entry.{cleanRefusal, cleanOf, cleanedOut, struckOut}
 use Rattle.bays.specs.Bays.{bayCount, bayState}
 use Rattle.fast.specs.Entry.{fastOf, fastMarks}
 use Rattle.fast.specs.PromiseLaws.{first-refusals}
@@ -35,12 +38,27 @@ use Rattle.tender.specs.Granted.{each-reading}
 use Rattle.enforcer.specs.declared.state.State.{State}
 use Rattle.prepare.specs.Computing.{the-file, the-check, a-step, the-marks}
 
--- "Callers name reading 1 or 2." "22 for any other number, before all else": whatever else they are given, prepare, the halves, why and the run answer 22,
--- and nothing is written or moved.
+-- "Callers name reading 1 or 2." "22 for any other number, before all else": whatever else they are given, the check, prepare, the halves, why, the run and
+-- clean answer 22, and nothing is written or moved. Over the promises of the code and the C functions, all of them together: specs/NoReading.antt.
+module _ (reading : ℕ) (not-one : ¬ (reading ≡ 1)) (not-two : ¬ (reading ≡ 2)) (file : List ℕ) where
+  pub under-22 : refusalUnder reading file ≡ 22
+  unfolding refusalUnder readingRefusal
+  under-22 = rw (ne-eqb reading 1 not-one, ne-eqb reading 2 not-two)
+
+  pub check-22 : checkedUnder reading file ≡ record { refusal = 22; layout = noLayout }
+  unfolding checkedUnder
+  check-22 = rw under-22
+
+  pub clean-22 :
+      (out list : List ℕ) →
+      (cleanOf reading file out list ≡ refused 22) × (cleanedOut reading file out list ≡ out) × (struckOut reading file out list ≡ list)
+  unfolding cleanOf cleanedOut struckOut cleanRefusal
+  clean-22 out list = (rw under-22, rw under-22, rw under-22)
+
 module _ (reading : ℕ) (not-one : ¬ (reading ≡ 1)) (not-two : ¬ (reading ≡ 2)) (file marks : List ℕ) where
-  first-22 : marksRefusal reading file marks ≡ 22
-  unfolding marksRefusal refusalUnder readingRefusal
-  first-22 = rw (ne-eqb reading 1 not-one, ne-eqb reading 2 not-two)
+  pub first-22 : marksRefusal reading file marks ≡ 22
+  unfolding marksRefusal
+  first-22 = rw (under-22 reading not-one not-two file)
 
   pub prepare-22 : (prepareOf reading file marks ≡ refused 22) × (preparedMarks reading file marks ≡ marks)
   unfolding prepareOf preparedMarks
@@ -57,6 +75,16 @@ module _ (reading : ℕ) (not-one : ¬ (reading ≡ 1)) (not-two : ¬ (reading �
     pub output-22 : (x y : ℕ) → outputOf reading file marks s x y ≡ record { answer = refused 22; state = s }
     unfolding outputOf outputRefusal
     output-22 x y = rw first-22
+
+    -- With an index, whatever it is.
+    module _ (index : List ℕ) where
+      pub input-indexed-22 : (x : ℕ) → inputIndexedOf reading file index marks s x ≡ refused 22
+      unfolding inputIndexedOf indexRefusal
+      input-indexed-22 x = rw (under-22 reading not-one not-two file)
+
+      pub output-indexed-22 : (x y : ℕ) → outputIndexedOf reading file index marks s x y ≡ record { answer = refused 22; state = s }
+      unfolding outputIndexedOf indexRefusal
+      output-indexed-22 x y = rw (under-22 reading not-one not-two file)
 
     pub why-22 : (x y : ℕ) → whyRefusal reading file marks s x y ≡ 22
     unfolding whyRefusal
@@ -93,18 +121,14 @@ module _ (reading : ℕ) (not-one : ¬ (reading ≡ 1)) (not-two : ¬ (reading �
 
   -- And those of the meter, whatever the station, the totals and the register are.
   module _ (station : List ℕ) where
-    under-22 : refusalUnder reading file ≡ 22
-    unfolding refusalUnder readingRefusal
-    under-22 = rw (ne-eqb reading 1 not-one, ne-eqb reading 2 not-two)
-
     pub meter-input-22 : (register x : ℕ) → meterInputOf reading file marks station register x ≡ refused 22
     unfolding meterInputOf meterRefusal
-    meter-input-22 register x = rw under-22
+    meter-input-22 register x = rw (under-22 reading not-one not-two file)
 
     pub meter-output-22 : (totals : List ℕ) (register x y : ℕ) →
         meterOutputOf reading file marks station totals register x y ≡ record { answer = refused 22; station = station; totals = totals }
     unfolding meterOutputOf meterRefusal
-    meter-output-22 totals register x y = rw under-22
+    meter-output-22 totals register x y = rw (under-22 reading not-one not-two file)
 
 -- Past 22 and 1 to 10, what is left for prepare to answer of a file under a reading.
 abbrev left : ℕ → List ℕ → Answer Summary

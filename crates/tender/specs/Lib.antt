@@ -2,6 +2,7 @@ pub mod Samples
 pub mod Cases
 pub mod Demand1
 pub mod Demand1Shown
+pub mod NoReading
 pub mod Granted
 pub mod Demand2
 pub mod Demand2Shown
