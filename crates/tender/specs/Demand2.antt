@@ -81,6 +81,16 @@ pub record Refuse (reading : ℕ) (file marks : List ℕ) (s : State) (b : ℕ) 
   pub input : inputOf reading file marks s (b % 16) ≡ refused (suc number)
   pub run : (o : ℕ) (out : List ℕ) → runOf reading file marks s (b ∷ []) (o ∷ out) .refusal ≡ suc number
 
+-- "A released stream enforced again from the start comes back unchanged", in any slice that holds it, and ends in the same state.
+abbrev pub ComesBack : Type 0
+ComesBack =
+    (reading : ℕ) (file marks : List ℕ) (s : Summary) → prepareOf reading file marks ≡ gives s →
+    (events out : List ℕ) → all (eventGood reading file) events ≡ true → length events ≤ length out →
+    (again : List ℕ) → length events ≤ length again →
+    let released = take (length events) (fromStart reading file marks events out .out) in
+    fromStart reading file marks released again
+    ≡ record { refusal = 0; count = length events; state = fromStart reading file marks events out .state; out = released ++ drop (length events) again }
+
 pub record Demand2 : Type 0 where
   -- "a policy is refused as hopeless exactly if" it is: "hopeless means that the start is not live". Of a file that passes under the reading, with a
   -- slice for the marks that is long enough.
@@ -106,11 +116,5 @@ pub record Demand2 : Type 0 where
   pub halves-agree :
       (reading : ℕ) (file marks : List ℕ) (s : State) (b : ℕ) → eventGood reading file b ≡ true →
       Agree reading file marks s b ⊎ Refuse reading file marks s b
-  -- "A released stream enforced again from the start comes back unchanged", in any slice, and ends in the same state.
-  pub comes-back :
-      (reading : ℕ) (file marks : List ℕ) (s : Summary) → prepareOf reading file marks ≡ gives s →
-      (events out : List ℕ) → all (eventGood reading file) events ≡ true → length events ≤ length out →
-      (again : List ℕ) → length events ≤ length again →
-      let released = take (length events) (fromStart reading file marks events out .out) in
-      fromStart reading file marks released again
-      ≡ record { refusal = 0; count = length events; state = fromStart reading file marks events out .state; out = released ++ drop (length events) again }
+  -- "A released stream enforced again from the start comes back unchanged": demand 3 says it.
+  pub comes-back : ComesBack

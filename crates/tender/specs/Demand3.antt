@@ -1,10 +1,9 @@
 -- Demand 3, stated over the definitions of the entries: what prepare and run answer for a file that the join wrote. It is shown in
--- specs/Demand3Shown.antt, and over the promises of the code in specs/Code.antt. "A released stream enforced again from the start comes back unchanged"
--- is `comes-back` of specs/Demand2.antt.
+-- specs/Demand3Shown.antt, and over the promises of the code in specs/Code.antt.
 use mathlib.Core.Path.{_≡_}
 use mathlib.Core.Bool.{true}
 use mathlib.Core.List.{List, [], _∷_, _++_, List·Memᴰ}
-use mathlib.Core.Logic.{_⊎_}
+use mathlib.Core.Logic.{_↔_, _⊎_}
 use Prim.Native.Nat.{ℕ, _≤_}
 use lib.ListN.{length, take}
 use Rattle.streams.specs.Answer.{refused, gives}
@@ -13,13 +12,13 @@ use Rattle.streams.specs.Languages.{_≋_}
 use Rattle.policy.specs.Rules.{Fits, Permits}
 use Rattle.policy.specs.Number.{states}
 use Rattle.policy.specs.File.{inputTags, outputTags, policyOf}
-use Rattle.policy.specs.Check.{readingRefusal, refusalUnder, all}
+use Rattle.policy.specs.Check.{readingRefusal, refusalUnder, refusalOf, all}
 use Rattle.enforcer.specs.Entries.{eventGood, RunAnswer}
 use Rattle.prepare.specs.Entry.{summaryOf, prepareOf}
 use Rattle.join.specs.Join.{join}
 use Rattle.join.specs.Free.{freeFile}
 use Rattle.join.specs.Entry.{joinOf, joinedOut}
-use Rattle.tender.specs.Demand2.{Released, fromStart}
+use Rattle.tender.specs.Demand2.{Released, fromStart, ComesBack}
 
 -- "Wherever the joins named are made": for some slice the join of a and b gives a length, and f is as many bytes of what the slice holds then.
 pub record JoinMade (a b f : List ℕ) : Type 0 where
@@ -36,6 +35,10 @@ tags f = (inputTags f, outputTags f)
 pub data JoinOf : List (List ℕ) → List ℕ → Type 0 where
   alone : {a : List ℕ} → JoinOf (a ∷ []) a
   joined : {these those : List (List ℕ)} {f g h : List ℕ} → JoinOf these f → JoinOf those g → JoinMade f g h → JoinOf (these ++ those) h
+
+-- The same policies, in whatever order, and each as often as you like.
+abbrev pub SamePolicies : List (List ℕ) → List (List ℕ) → Type 0
+SamePolicies these those = (a : List ℕ) → List·Memᴰ a these ↔ List·Memᴰ a those
 
 -- "demands 2 and 3 hold for each reading, used for all the policies named".
 module _ (reading : ℕ) where
@@ -88,7 +91,7 @@ module _ (reading : ℕ) where
   -- "the policy that permits all": every stream over its signals; and it rests after each.
   pub record PermitsAll (b : List ℕ) : Type 0 where
     pub permitted : (w : Stream) → Fits (policyOf reading b) w → Permits (policyOf reading b) .permits w
-    pub rested : (w : Stream) → Permits (policyOf reading b) .rests w
+    pub rested : (w : Stream) → Fits (policyOf reading b) w → Permits (policyOf reading b) .rests w
 
 pub record Demand3 : Type 0 where
   -- "Joins carry no reading of their own": the bytes read under any reading are the join of the parts read under it.
@@ -100,14 +103,22 @@ pub record Demand3 : Type 0 where
       (reading : ℕ) {a b f : List ℕ} → JoinMade a b f →
       Permits (policyOf reading f) ≋ Permits (policyOf reading a) ∩ Permits (policyOf reading b)
   pub permits-all : (reading : ℕ) {parts : List (List ℕ)} {f : List ℕ} → JoinOf parts f → Permits (policyOf reading f) ≋ AllOf reading parts
-  -- The laws, for each reading that 22 does not refuse: "A with B or B with A",
+  -- "Clauses bind alike in any order", for each reading that 22 does not refuse: two joins of the same policies, taken in whatever order, grouped in whatever
+  -- way and each as often as you like, are alike. Where one of them passes the check, so does the other; a join that was made always does.
+  pub any-order :
+      (reading : ℕ) → readingRefusal reading ≡ 0 → {these those : List (List ℕ)} {f g : List ℕ} →
+      JoinOf these f → JoinOf those g → SamePolicies these those → refusalOf f ≡ 0 → Alike reading f g
+  -- Of that law: "A with B or B with A",
   pub order : (reading : ℕ) → readingRefusal reading ≡ 0 → {a b f g : List ℕ} → JoinMade a b f → JoinMade b a g → Alike reading f g
   -- "grouped either way with C",
   pub grouping :
       (reading : ℕ) → readingRefusal reading ≡ 0 → {a b c f g h k : List ℕ} →
       JoinMade a b f → JoinMade f c h → JoinMade b c g → JoinMade a g k → Alike reading h k
-  -- "A with itself",
+  -- "A with itself".
   pub repetition : (reading : ℕ) → readingRefusal reading ≡ 0 → {a f : List ℕ} → JoinMade a a f → Alike reading f a
-  -- "A with the policy that permits all", on either side.
+  -- "A with the policy that permits all", on either side. There is such a policy over the signals of every file that passes the check.
   pub unit : (reading : ℕ) → readingRefusal reading ≡ 0 → {a b f : List ℕ} → PermitsAll reading b → JoinMade a b f → Alike reading f a
   pub unit-first : (reading : ℕ) → readingRefusal reading ≡ 0 → {a b f : List ℕ} → PermitsAll reading b → JoinMade b a f → Alike reading f a
+  pub is-permits-all : (reading : ℕ) (a : List ℕ) → refusalOf a ≡ 0 → PermitsAll reading (permitsAll a)
+  -- "A released stream enforced again from the start comes back unchanged".
+  pub comes-back : ComesBack

@@ -12,9 +12,9 @@ use Rattle.streams.specs.AnswerLaws.{given-only}
 use Rattle.streams.specs.Stream.{Stream, Language, _∩_}
 use Rattle.streams.specs.Enforced.{Enforced}
 use Rattle.streams.specs.Corrections.{corrections}
-use Rattle.streams.specs.Laws.{⊆-refl, ⊆-trans, ∩-first, ∩-second, ∩-into, ≋-sym, ≋-trans, ∩-swap, not-both, enforced-one}
+use Rattle.streams.specs.Laws.{⊆-refl, ⊆-trans, ∩-first, ∩-second, ∩-into, ≋-sym, ≋-trans, not-both, enforced-one}
 use Rattle.streams.specs.Languages.{_⊆_, _≋_}
-use Rattle.policy.specs.Rules.{Policy, Runs, Permits}
+use Rattle.policy.specs.Rules.{Policy, start, unlimited, Fits, Runs, Rests, Permits}
 use Rattle.policy.specs.Rules as Rules
 use Rattle.policy.specs.Number.{states}
 use Rattle.policy.specs.File.{policyOf}
@@ -25,14 +25,15 @@ use Rattle.enforcer.specs.Entries.{eventOf, byteOf, eventGood}
 use Rattle.prepare.specs.Entry.{summaryOf, prepareOf}
 use Rattle.join.specs.Join.{join}
 use Rattle.join.specs.Steps.{fits-same}
-use Rattle.join.specs.FreeLaws.{free-read}
-use Rattle.join.specs.Laws.{Equal, equal, all-free}
+use Rattle.cleaning.specs.Signals.{within, fits-within, steps-within}
+use Rattle.join.specs.FreeLaws.{free-read, free-permits, free-rests}
+use Rattle.join.specs.Laws.{Equal, equal}
 use Rattle.join.specs.Entry.{joinedFile, joinRefusal, joinOf, joinedOut}
 use Rattle.join.specs.Written.{unrefused, joined-joins, joined-passes, joined-policy, joined-written, joined-both}
 pub use Rattle.tender.specs.Demand2Shown.{comes-back}
 use Rattle.tender.specs.Samples.{T}
 use Rattle.tender.specs.Granted.{judged}
-use Rattle.tender.specs.Demand3.{JoinMade, tags, JoinOf, alone, joined, AllOf, SameAnswer, SameReleased, HopelessTogether, ReleaseTheSame, Alike, permitsAll, PermitsAll, Demand3}
+use Rattle.tender.specs.Demand3.{JoinMade, tags, JoinOf, alone, joined, SamePolicies, AllOf, SameAnswer, SameReleased, HopelessTogether, ReleaseTheSame, Alike, permitsAll, PermitsAll, Demand3}
 use Rattle.tender.specs.Demand2.{Run, Right, ReleasedFor}
 use Rattle.tender.specs.Demand2Shown.{releases, hopeless-exactly, prepared-otherwise}
 use Rattle.tender.specs.WorthlessRuns.{not-forwarding}
@@ -97,25 +98,6 @@ module _ (reading : ℕ) where
       L ⊆ Permits (policyOf reading a) → L ⊆ Permits (policyOf reading b) → L ⊆ Permits (policyOf reading f)
   into j f g = ⊆-trans (∩-into f g) (permits-exactly j .1)
 
-  -- "all its parts": of three, grouped either way.
-  pub permits-left : {a b c f h : List ℕ} → JoinMade a b f → JoinMade f c h →
-      Permits (policyOf reading h) ≋ Permits (policyOf reading a) ∩ Permits (policyOf reading b) ∩ Permits (policyOf reading c)
-  permits-left {a} {b} {c} j k =
-      let M = Permits (policyOf reading b) ∩ Permits (policyOf reading c) in
-      let all = ∩-second (Permits (policyOf reading a)) M in (
-        ∩-into (⊆-trans (to-first k) (to-first j)) (∩-into (⊆-trans (to-first k) (to-second j)) (to-second k)),
-        into k (into j (∩-first (Permits (policyOf reading a)) M) (⊆-trans all (∩-first (Permits (policyOf reading b)) (Permits (policyOf reading c)))))
-            (⊆-trans all (∩-second (Permits (policyOf reading b)) (Permits (policyOf reading c)))),
-      )
-
-  pub permits-right : {a b c g k : List ℕ} → JoinMade b c g → JoinMade a g k →
-      Permits (policyOf reading k) ≋ Permits (policyOf reading a) ∩ Permits (policyOf reading b) ∩ Permits (policyOf reading c)
-  permits-right {a} {b} {c} j k =
-      let M = Permits (policyOf reading b) ∩ Permits (policyOf reading c) in (
-        ∩-into (to-first k) (⊆-trans (to-second k) (permits-exactly j .0)),
-        into k (∩-first (Permits (policyOf reading a)) M) (⊆-trans (∩-second (Permits (policyOf reading a)) M) (permits-exactly j .1)),
-      )
-
   part-of : {parts : List (List ℕ)} {a : List ℕ} → List·Memᴰ a parts → AllOf reading parts ⊆ Permits (policyOf reading a)
   part-of {a} m = record { permits = λ w h. h a m; rests = λ w h. h a m }
 
@@ -135,6 +117,25 @@ module _ (reading : ℕ) where
     into k (⊆-trans (fewer these (these ++ those) (λ b m. Memᴰ·append-left those m)) (permits-all i .1))
         (⊆-trans (fewer those (these ++ those) (λ b m. Memᴰ·append-right these m)) (permits-all j .1)),
   )
+
+-- Of a join of any number: each part has its tags; and it passes the check exactly if they all do.
+tags-part : {parts : List (List ℕ)} {f : List ℕ} → JoinOf parts f → (a : List ℕ) → List·Memᴰ a parts → tags f ≡ tags a
+tags-part (alone {a = b}) a m = ap tags (sym (List·Memᴰ·eq-of-singleton m))
+tags-part (joined {these = these} i j k) a m =
+    ⊎-elim (λ u. made k .tags-first ∙ tags-part i a u) (λ u. made k .tags-second ∙ tags-part j a u) (List·Memᴰ·append-cases these m)
+
+part-passes : {parts : List (List ℕ)} {f : List ℕ} → JoinOf parts f → refusalOf f ≡ 0 → (a : List ℕ) → List·Memᴰ a parts → refusalOf a ≡ 0
+part-passes (alone {a = b}) e a m = ap refusalOf (List·Memᴰ·eq-of-singleton m) ∙ e
+part-passes (joined {these = these} i j k) e a m =
+    ⊎-elim (λ u. part-passes i (made k .first) a u) (λ u. part-passes j (made k .second) a u) (List·Memᴰ·append-cases these m)
+
+whole-passes : {parts : List (List ℕ)} {f : List ℕ} → JoinOf parts f → ((a : List ℕ) → List·Memᴰ a parts → refusalOf a ≡ 0) → refusalOf f ≡ 0
+whole-passes (alone {a = b}) h = h b (List·Memᴰ·head refl)
+whole-passes (joined i j k) h = made k .passed
+
+some-part : {parts : List (List ℕ)} {f : List ℕ} → JoinOf parts f → (a : List ℕ) × List·Memᴰ a parts
+some-part (alone {a = b}) = (b, List·Memᴰ·head refl)
+some-part (joined {those = those} i j k) = let p = some-part i in (p .0, Memᴰ·append-left those (p .1))
 
 module _ (reading : ℕ) where
   -- What is released goes by the permitted streams alone: two files that pass, with the same signals and the same permitted streams, are alike.
@@ -185,22 +186,37 @@ module _ (reading : ℕ) where
             let e = prepared-otherwise reading g n second l .0 (λ d. not-both (Permits (policyOf reading f)) [] (h .0) (equally .hopeless .1 d)) in
             inr (h .1, e, answers m n (h .1) e)) (judged reading f m first k)
 
+-- What `PermitsAll` says of a file, of its policy.
+abbrev PermitsEach : Policy → Type 0
+PermitsEach p = ((w : Stream) → Fits p w → Permits p .permits w) × ((w : Stream) → Fits p w → Permits p .rests w)
+
 module _ (reading : ℕ) where
-  all-permitted : (a : List ℕ) → refusalOf a ≡ 0 → Permits (policyOf reading a) ⊆ Permits (policyOf reading (permitsAll a))
+  -- The file that permits all, over the signals of a, does.
+  pub is-permits-all : (a : List ℕ) → refusalOf a ≡ 0 → PermitsAll reading (permitsAll a)
   unfolding policyOf
-  all-permitted a e =
-      subst (λ (p : Policy). Permits (policyOf reading a) ⊆ Permits p) (sym (free-read reading (policyOf reading a) (checked-file reading a e)))
-      (all-free (policyOf reading a))
+  is-permits-all a e =
+      let p = policyOf reading a in
+      let k = subst PermitsEach (sym (free-read reading p (checked-file reading a e)))
+      (free-permits reading (p .inputs) (p .outputs), λ w f. free-rests reading (p .inputs) (p .outputs) w)
+      in record { permitted = k .0; rested = k .1 }
+
+  -- A policy that permits all rests after every stream: bits beyond the signals make no difference to where a stream leads.
+  always-rested : (b : List ℕ) → refusalOf b ≡ 0 → PermitsAll reading b → (w : Stream) → Permits (policyOf reading b) .rests w
+  unfolding Rests
+  always-rested b passed free w =
+      let p = policyOf reading b in
+      let r = free .rested (map (within p) w) (fits-within p w) in
+      (r .0, sym (steps-within p (checked-file reading b passed) unlimited w (start p)) ∙ r .1, r .2)
 
   -- Any such policy over the signals of a permits all that a permits; a join of the two is made only over the same signals.
-  permits-more : (a b : List ℕ) → tags a ≡ tags b → PermitsAll reading b → Permits (policyOf reading a) ⊆ Permits (policyOf reading b)
+  permits-more : (a b : List ℕ) → refusalOf b ≡ 0 → tags a ≡ tags b → PermitsAll reading b → Permits (policyOf reading a) ⊆ Permits (policyOf reading b)
   unfolding Runs policyOf
-  permits-more a b same free =
+  permits-more a b passed same free =
       let first = ap (λ (t : List ℕ × List ℕ). t .0) same in
       let second = ap (λ (t : List ℕ × List ℕ). t .1) same in
       record {
         permits = λ w p. free .permitted w (fits-same (policyOf reading a) (policyOf reading b) first second (p .0));
-        rests = λ w r. free .rested w;
+        rests = λ w r. always-rested b passed free w;
       }
 
 -- The laws, for each reading that 22 does not refuse.
@@ -209,23 +225,33 @@ module _ (reading : ℕ) (named : readingRefusal reading ≡ 0) where
       Permits (policyOf reading f) ≋ Permits (policyOf reading g) → Alike reading f g
   alike-by {f} {g} d e = permits-alike reading f g (under-none reading f .1 (named, d)) (under-none reading g .1 (named, e))
 
+  -- "Clauses bind alike in any order."
+  pub any-order : {these those : List (List ℕ)} {f g : List ℕ} →
+      JoinOf these f → JoinOf those g → SamePolicies these those → refusalOf f ≡ 0 → Alike reading f g
+  any-order {these} {those} i j same passed =
+      let p = some-part i in
+      alike-by passed (whole-passes j (λ a m. part-passes i passed a (same a .1 m)))
+      (tags-part i (p .0) (p .1) ∙ sym (tags-part j (p .0) (same (p .0) .0 (p .1))))
+      (≋-trans (permits-all reading i)
+      (≋-trans (fewer reading those these (λ a m. same a .1 m), fewer reading these those (λ a m. same a .0 m)) (≋-sym (permits-all reading j))))
+
   -- "A with B or B with A"
   pub order : {a b f g : List ℕ} → JoinMade a b f → JoinMade b a g → Alike reading f g
-  order j k =
-      let s = made j in
-      let t = made k in
-      alike-by (s .passed) (t .passed) (cc) (≋-trans (s .permits reading) (≋-trans (∩-swap _ _) (≋-sym (t .permits reading))))
+  order {a} {b} j k = any-order (joined alone alone j) (joined alone alone k) (λ c. (swapped c a b, swapped c b a)) (made j .passed)
+    where
+      swapped : (c a b : List ℕ) → List·Memᴰ c (a ∷ b ∷ []) → List·Memᴰ c (b ∷ a ∷ [])
+      swapped c a b m = ⊎-elim (Memᴰ·append-right (b ∷ [])) (Memᴰ·append-left (a ∷ [])) (List·Memᴰ·append-cases (a ∷ []) m)
 
   -- "grouped either way with C"
   pub grouping : {a b c f g h k : List ℕ} → JoinMade a b f → JoinMade f c h → JoinMade b c g → JoinMade a g k → Alike reading h k
   grouping i j m n =
-      let s = made j in
-      let t = made n in
-      alike-by (s .passed) (t .passed) (cc (made i .tags-first)) (≋-trans (permits-left reading i j) (≋-sym (permits-right reading m n)))
+      any-order (joined (joined alone alone i) alone j) (joined alone (joined alone alone m) n) (λ a. (λ u. u, λ u. u)) (made j .passed)
 
   -- "A with itself"
   pub repetition : {a f : List ℕ} → JoinMade a a f → Alike reading f a
-  repetition j = let s = made j in alike-by (s .passed) (s .first) (s .tags-first) (to-first reading j, into reading j (⊆-refl _) (⊆-refl _))
+  repetition {a} j =
+      any-order (joined alone alone j) alone (λ c. (λ m. ⊎-elim (λ u. u) (λ u. u) (List·Memᴰ·append-cases (a ∷ []) m), Memᴰ·append-left (a ∷ [])))
+      (made j .passed)
 
   -- "A with the policy that permits all": with any policy that permits all that A permits and rests wherever A rests, on either side.
   module _ {a b f : List ℕ} (more : Permits (policyOf reading a) ⊆ Permits (policyOf reading b)) where
@@ -238,17 +264,19 @@ module _ (reading : ℕ) (named : readingRefusal reading ≡ 0) where
         let s = made j in alike-by (s .passed) (s .second) (s .tags-second) (to-second reading j, into reading j more (⊆-refl _))
 
   pub unit : {a b f : List ℕ} → PermitsAll reading b → JoinMade a b f → Alike reading f a
-  unit {a} {b} free j = let s = made j in unit-any (permits-more reading a b (sym (s .tags-first) ∙ s .tags-second) free) j
+  unit {a} {b} free j =
+      let s = made j in unit-any (permits-more reading a b (s .second) (sym (s .tags-first) ∙ s .tags-second) free) j
 
   pub unit-first : {a b f : List ℕ} → PermitsAll reading b → JoinMade b a f → Alike reading f a
-  unit-first {a} {b} free j = let s = made j in unit-any-first (permits-more reading a b (sym (s .tags-second) ∙ s .tags-first) free) j
+  unit-first {a} {b} free j =
+      let s = made j in unit-any-first (permits-more reading a b (s .first) (sym (s .tags-second) ∙ s .tags-first) free) j
 
-  -- The file that permits all, over the signals of a, is one.
+  -- With the file that permits all, over the signals of a.
   pub unit-law : {a f : List ℕ} → JoinMade a (permitsAll a) f → Alike reading f a
-  unit-law {a} j = unit-any (all-permitted reading a (made j .first)) j
+  unit-law {a} j = unit (is-permits-all reading a (made j .first)) j
 
   pub unit-law-first : {a f : List ℕ} → JoinMade (permitsAll a) a f → Alike reading f a
-  unit-law-first {a} j = unit-any-first (all-permitted reading a (made j .second)) j
+  unit-law-first {a} j = unit-first (is-permits-all reading a (made j .second)) j
 
 pub demand-3 : Demand3
 demand-3 =
@@ -256,11 +284,14 @@ demand-3 =
       joined-reads = joined-reads;
       permits-exactly = permits-exactly;
       permits-all = permits-all;
+      any-order = any-order;
       order = order;
       grouping = grouping;
       repetition = repetition;
       unit = unit;
       unit-first = unit-first;
+      is-permits-all = is-permits-all;
+      comes-back = comes-back;
     }
 
 -- "Forwarding everything would meet demand 3's repeat and order laws, so demand 3 is stated over demand 2's streams."
