@@ -279,3 +279,7 @@ module _ (reading : ℕ) {parts : List (List ℕ)} {f : List ℕ} (i : JoinOf pa
 
   pub of-way : List·Memᴰ a (onTheWay i) → Keeps reading f a × CodeKeeps reading f a × CKeeps reading f a
   of-way m = let w = way-went i a m in (never-loosens reading w, code-keeps reading w, c-keeps reading w)
+
+-- A went into itself: "A released stream enforced again from the start comes back unchanged", of run's code and the code's halves, and of the functions in C.
+pub code-back : (reading : ℕ) (a : List ℕ) → CodeKeeps reading a a × CKeeps reading a a
+code-back reading a = (code-keeps reading itself, c-keeps reading itself)

@@ -6,18 +6,23 @@ use mathlib.Core.List.{List, [], _∷_, _++_, map}
 use mathlib.Core.Logic.{_↔_, _⊎_, inl, inr, ⊎-elim, Iff·trans}
 use Prim.Native.Nat.{ℕ, _*_, _/_, _%_, _^_, _≤_, _<_}
 use native.Mathlib.Omega.{arith}
+use lib.Dec.{leb}
 use lib.ListN.{length, getD, take, drop}
-use Rattle.streams.specs.Answer.{Answer, refused, gives}
+use borrow.Author.Tests.{eqb-true}
+use Rattle.streams.specs.Answer.{Answer, refused, gives, _orElse_, unless}
 use Rattle.streams.specs.Stream.{Event, Stream, _∩_, Hopeless}
+use Rattle.streams.specs.Laws.{not-both}
 use Rattle.streams.specs.Languages.{_≋_}
-use Rattle.policy.specs.Rules.{Permits}
+use Rattle.policy.specs.Rules.{inputValues, outputValues, Permits}
 use Rattle.policy.specs.Number.{states}
 use Rattle.policy.specs.File.{policyOf}
 use Rattle.policy.specs.Check.{readingRefusal, refusalUnder, all}
-use Rattle.enforcer.specs.Entries.{RunAnswer, byteOf, eventGood, inputOf, outputOf, runOf}
+use Rattle.enforcer.specs.Entries.{RunAnswer, byteOf, eventGood, marksRefusal, inputOf, outputOf, runOf}
 use Rattle.enforcer.specs.Code.{startState}
-use Rattle.enforcer.specs.Promises.{RunPromise, ranSaid}
+use Rattle.enforcer.specs.Promises.{answerSaid, InputPromise, OutputPromise, RunPromise, ranSaid}
 use Rattle.enforcer.specs.declared.state.State.{State}
+use Rattle.enforcer.specs.declared.halves.HalfAnswer.{HalfAnswer}
+use Rattle.enforcer.specs.declared.halves.HalfAnswer.the-variants as Half
 use Rattle.enforcer.specs.declared.runs.Ran.{Ran}
 use Rattle.prepare.specs.Entry.{summaryOf, prepareOf, preparedMarks}
 use Rattle.prepare.specs.Promise.{preparedSaid, PreparePromise, prepared-one}
@@ -29,16 +34,18 @@ use Rattle.join.specs.Promise.{JoinPromise}
 use Rattle.join.specs.declared.Joined.the-variants as Code
 use Rattle.console.specs.Scratch.{start-is}
 use Rattle.bays.specs.Five.{stateWords, stateIn, words-in}
+use Rattle.bays.specs.Odd.{oddRefusal}
 use Rattle.bays.specs.Halves.{four-long, output-four}
 use Rattle.groovepawn.specs.Words.{isState, outputState, runState, runOut}
 use Rattle.groovepawn.specs.Calls.{PrepareCall, InputCall, OutputCall, RunCall, JoinCall}
 use Rattle.groovepawn.specs.Fields.{summaryIn, answerIn, answer-fields, prepare-fields, input-fields, output-fields, run-fields, join-fields}
-use Rattle.tender.specs.Granted.{well-formed, given-passed}
+use Rattle.tender.specs.Granted.{well-formed, given-passed, given-goes-on, prepared-granted}
 use Rattle.tender.specs.Demand2.{ReleasedFor, Released, fromStart}
-use Rattle.tender.specs.Demand2Shown.{releases, hopeless-exactly}
-use Rattle.tender.specs.TickByTick.{TickByTick, ticks-none, ticks-more, TicksReleased, ticks-release}
-use Rattle.tender.specs.Demand3.{JoinMade, Alike, permitsAll}
-use Rattle.tender.specs.Demand3Shown.{permits-exactly, order, grouping, repetition, unit-law}
+use Rattle.tender.specs.Demand2Shown.{releases, hopeless-exactly, prepared-otherwise, input-never-17, run-never-17}
+use Rattle.tender.specs.TickByTick.{TickByTick, ticks-none, ticks-more, TicksReleased, ticks-release, ticks-go-on}
+use Rattle.tender.specs.Demand3.{JoinMade, SameReleased, Alike, permitsAll}
+use Rattle.tender.specs.Demand3Shown.{permits-exactly, order, grouping, repetition, unit-law, unit-law-first}
+use Rattle.tender.specs.Calls.{preparedIn, halfIn, prepared-refused, prepared-none, half-given, half-refused, c-prepare, c-input, c-output, output-five}
 
 -- "a policy is refused as hopeless exactly if, from its start, some length has no permitted stream": prepare's code, of a file that passes its checks and
 -- with a slice for the marks that is long enough.
@@ -49,6 +56,33 @@ pub code-hopeless :
 code-hopeless {reading} {file} {before} {r = r} h passed long =
     Iff·trans (λ e. sym (h .said) ∙ ap preparedSaid e, λ e. prepared-one r (Prepared.Refused 11) (h .said ∙ e))
     (hopeless-exactly reading file before passed long)
+
+-- "Otherwise" prepare's code gives a summary.
+pub code-otherwise :
+    {reading : ℕ} {file before marks : List ℕ} {r : Prepared} → PreparePromise reading file before r marks →
+    refusalUnder reading file ≡ 0 → states (policyOf reading file) ≤ length before →
+    (¬ Hopeless (Permits (policyOf reading file))) ↔ ((s : Summary) × (r ≡ Prepared.Gives s))
+code-otherwise {reading} {file} {before} {r = r} h passed long = (
+  λ n.
+      let t = summaryOf (policyOf reading file) in
+      let d : Summary = record { verdict = t .verdict; states = t .states; live = t .live } in
+      (d, prepared-one r (Prepared.Gives d) (h .said ∙ prepared-otherwise reading file before passed long .0 n)),
+  λ g. not-both (Permits (policyOf reading file)) [] (given-goes-on reading file before (g .0) (sym (h .said) ∙ ap preparedSaid (g .1))),
+)
+
+-- "With the marks of prepare and a live state, run and the input half never give 17": with the marks that prepare's code wrote, from any state.
+module _ {reading : ℕ} {file before marks : List ℕ} {r : Prepared} (h : PreparePromise reading file before r marks)
+    (passed : refusalUnder reading file ≡ 0) (long : states (policyOf reading file) ≤ length before) where
+  pub code-input-never-17 : {s : State} {x : ℕ} {a : HalfAnswer} → InputPromise reading file marks s x a → ¬ (a ≡ Half.Refused 17)
+  code-input-never-17 {s} {x} i e =
+      input-never-17 reading file before passed long s x
+      (subst (λ (m : List ℕ). inputOf reading file m s x ≡ refused 17) (h .marks) (sym (i .said) ∙ ap answerSaid e))
+
+  pub code-run-never-17 :
+      {s : State} {events out after : List ℕ} {q : Ran} → RunPromise reading file marks s events out q after → ¬ (q .refusal ≡ 17)
+  code-run-never-17 {s} {events} {out} k e =
+      run-never-17 reading file before passed long s events out
+      (subst (λ (m : List ℕ). runOf reading file m s events out .refusal ≡ 17) (h .marks) (ap (λ (z : RunAnswer). z .refusal) (sym (k .said)) ∙ e))
 
 -- The start of every policy, as a state: location 0 and four clocks at 0.
 from-start :
@@ -95,39 +129,104 @@ prepare-read {reading} {file} {before} {v = v} h z =
     let e : summaryIn v ≡ gives s = rw z in
     (s, sym (prepare-fields reading file before) ∙ ap summaryIn (sym (h .said)) ∙ e)
 
--- groovepawn_prepare refused nothing, and groovepawn_run ran from there with those marks, over fewer than 2^56 events.
-pub c-releases :
+answer-17 : (w : ℕ) → w % 256 ≡ 17 → answerIn w ≡ refused 17
+answer-17 w e = rw e
+
+refused-number : {a : Answer ℕ} {n m : ℕ} → a ≡ refused n → a ≡ refused m → n ≡ m
+refused-number e k = cc
+
+-- "refused as hopeless exactly if", "Otherwise": the word of groovepawn_prepare, of a file that passes its checks and with a slice that is long enough.
+module _ {reading : ℕ} {file before marks : List ℕ} {v : ℕ} (h : PrepareCall reading file before v marks)
+    (passed : refusalUnder reading file ≡ 0) (long : states (policyOf reading file) ≤ length before) where
+  pub c-hopeless : (v % 256 ≡ 11) ↔ Hopeless (Permits (policyOf reading file))
+  c-hopeless =
+      let k = prepared-refused v 10 in
+      let d = code-hopeless (c-prepare h) passed long in
+      (λ e. d .0 (k .1 e), λ e. k .0 (d .1 e))
+
+  pub c-otherwise : (¬ Hopeless (Permits (policyOf reading file))) ↔ (v % 256 ≡ 0)
+  c-otherwise =
+      let d = code-otherwise (c-prepare h) passed long in (
+        λ n. prepared-none v (d .0 n .1),
+        λ z. let s = prepare-read h z in not-both (Permits (policyOf reading file)) [] (given-goes-on reading file before (s .0) (s .1)),
+      )
+
+  granted : marksRefusal reading file marks ≡ 0
+  granted = subst (λ (m : List ℕ). marksRefusal reading file m ≡ 0) (sym (h .marks)) (prepared-granted reading file before passed long)
+
+  -- Numbers that are no state are not refused by 17 either.
+  odd-never : (room : Bool) → ¬ (oddRefusal reading file marks room ≡ 17)
+  unfolding oddRefusal
+  odd-never room e = go room (sym (rw granted) ∙ e)
+    where
+      go : (t : Bool) → ¬ ((unless t 14 orElse 16) ≡ 17)
+      go true e = omega arith
+      go false e = omega arith
+
+  -- "With the marks of prepare .. run and the input half never give 17."
+  pub c-input-never-17 : {state : List ℕ} {x w : ℕ} → InputCall reading file marks state x w → ¬ (w % 256 ≡ 17)
+  c-input-never-17 {state} {x} {w} i e = go (isState state) refl
+    where
+      go : (t : Bool) → isState state ≡ t → ⊥
+      go true is = code-input-never-17 (c-prepare h) passed long (c-input (eqb-true (length state) 5 is) i) (half-refused w 16 e)
+      go false is =
+          let said = ap answerIn (i .said) ∙ input-fields reading file marks state x in
+          let odd : answerIn w ≡ refused (oddRefusal reading file marks true) = rw is at said in
+          odd-never true (refused-number odd (answer-17 w e))
+
+  pub c-run-never-17 :
+      {state events out after written : List ℕ} {w : ℕ} → RunCall reading file marks state events out w after written → ¬ (w % 256 ≡ 17)
+  c-run-never-17 {state} {events} {out} {w = w} k e = go (isState state) refl
+    where
+      go : (t : Bool) → isState state ≡ t → ⊥
+      go t is =
+          let f = run-fields reading file marks state events out in
+          let said = sym (f .refusal) ∙ ap (λ (n : ℕ). n % 256) (sym (k .said)) ∙ e in
+          by t (rw is at said)
+        where
+          by : (t : Bool) →
+              ¬ (cond t (runOf reading file marks (stateIn state) events out .refusal) (oddRefusal reading file marks (leb (length events) (length out))) ≡ 17)
+          by true d =
+              run-never-17 reading file before passed long (stateIn state) events out
+              (subst (λ (m : List ℕ). runOf reading file m (stateIn state) events out .refusal ≡ 17) (h .marks) d)
+          by false d = odd-never _ d
+
+-- groovepawn_prepare refused nothing, and groovepawn_run ran from there with those marks, over fewer than 2^56 events: what it answered is what the definitions
+-- say of a run from the start.
+c-runs :
     {reading : ℕ} {file before marks events out state written : List ℕ} {v r : ℕ} → PrepareCall reading file before v marks → v % 256 ≡ 0 →
-    RunCall reading file marks cStart events out r state written →
-    all (eventGood reading file) events ≡ true → length events ≤ length out → length events < 2 ^ 56 →
-    Released (policyOf reading file) events out (runRead r state written)
+    RunCall reading file marks cStart events out r state written → length events < 2 ^ 56 →
+    Released (policyOf reading file) events out (fromStart reading file before events out) →
+    fromStart reading file before events out ≡ runRead r state written
 unfolding runState runOut
-c-releases {reading} {file} {before} {marks} {events} {out} {state} {written} {r = r} h z k good long few =
+c-runs {reading} {file} {before} {marks} {events} {out} {state} {written} {r = r} h z k few released =
     let p = policyOf reading file in
     let s = prepare-read h z in
     let q = runOf reading file marks (stateIn cStart) events out in
     let same : fromStart reading file before events out ≡ q =
     from-start reading file before events out (s .0) (s .1) ∙ ap (λ (m : List ℕ). runOf reading file m startState events out) (sym (h .marks))
     in
-    let a : Released p events out q = subst (Released p events out) same (releases reading file before (s .0) (s .1) events out good long) in
+    let a : Released p events out q = subst (Released p events out) same released in
     let f = run-fields reading file marks cStart events out in
-    let refusal : r % 256 ≡ q .refusal = ap (λ (n : ℕ). n % 256) (k .said) ∙ f .refusal in
-    let count : r / 256 ≡ q .count = ap (λ (n : ℕ). n / 256) (k .said) ∙ f .whole few in
+    let refusal : q .refusal ≡ r % 256 = sym (ap (λ (n : ℕ). n % 256) (k .said) ∙ f .refusal) in
+    let count : q .count ≡ r / 256 = sym (ap (λ (n : ℕ). n / 256) (k .said) ∙ f .whole few) in
     let ok = well-formed reading file (given-passed reading file before (s .0) (s .1)) in
     let clocks : length (q .state .clocks) ≡ 4 =
     ap (λ (t : State). length (t .clocks)) (a .state) ∙ four-long (a .place .clocks) (omega (arith, leads-inside p ok (a .leads) .clocks, ok .clocks))
     in
-    let there : stateIn state ≡ q .state = ap stateIn (k .next) ∙ words-in (q .state) clocks in
-    record {
-      released = a .released;
-      enforced = a .enforced;
-      refusal = refusal ∙ a .refusal;
-      count = count ∙ a .count;
-      out = k .released ∙ a .out;
-      place = a .place;
-      leads = a .leads;
-      state = there ∙ a .state;
-    }
+    let there : q .state ≡ stateIn state = sym (ap stateIn (k .next) ∙ words-in (q .state) clocks) in
+    let out : q .out ≡ written = sym (k .released) in
+    same ∙ (λ i. record { refusal = refusal i; count = count i; state = there i; out = out i })
+
+pub c-releases :
+    {reading : ℕ} {file before marks events out state written : List ℕ} {v r : ℕ} → PrepareCall reading file before v marks → v % 256 ≡ 0 →
+    RunCall reading file marks cStart events out r state written →
+    all (eventGood reading file) events ≡ true → length events ≤ length out → length events < 2 ^ 56 →
+    Released (policyOf reading file) events out (runRead r state written)
+c-releases {reading} {file} {before} {events = events} {out = out} h z k good long few =
+    let s = prepare-read h z in
+    let a = releases reading file before (s .0) (s .1) events out good long in
+    subst (Released (policyOf reading file) events out) (c-runs h z k few a) a
 
 -- The two halves in C, used tick after tick over the five numbers of one state: each returned a word without a refusal, its value above eight bits of 0.
 pub data CTicks (reading : ℕ) (file marks : List ℕ) : List ℕ → (read released : Stream) → List ℕ → Type 0 where
@@ -169,6 +268,32 @@ pub c-ticks-release :
 c-ticks-release {reading} {file} {before} h z k =
     let s = prepare-read h z in ticks-release {s = (s .0)} (record { said = sym (s .1); marks = h .marks }) (c-ticks k)
 
+-- Five numbers stay five.
+five-stay : {reading : ℕ} {file marks state last : List ℕ} {es rs : Stream} → CTicks reading file marks state es rs last → length state ≡ 5 → length last ≡ 5
+five-stay c-none e = e
+five-stay (c-more i o h) e = five-stay h (output-five e o)
+
+-- And they never stop: whatever is read next, groovepawn_input refuses nothing, and for the input that it gives and whatever the controller answers
+-- groovepawn_output refuses nothing.
+pub c-ticks-go-on :
+    {reading : ℕ} {file before marks last : List ℕ} {v : ℕ} {es rs : Stream} → PrepareCall reading file before v marks → v % 256 ≡ 0 →
+    CTicks reading file marks cStart es rs last → (x w : ℕ) → x < inputValues (policyOf reading file) → InputCall reading file marks last x w →
+    (w % 256 ≡ 0)
+    × ((y u : ℕ) (next : List ℕ) → y < outputValues (policyOf reading file) → OutputCall reading file marks last (w / 256) y u next → u % 256 ≡ 0)
+c-ticks-go-on {reading} {file} {before} {marks} {last} h z k x w f i =
+    let s = prepare-read h z in
+    let five = five-stay k refl in
+    let on = ticks-go-on {s = (s .0)} (record { said = sym (s .1); marks = h .marks }) (c-ticks k) x (halfIn w) f (c-input five i) in
+    let value = half-given w (on .1) in (
+      value .0,
+      λ y u next g o.
+          let out = c-output five o in
+          half-given u
+          (on .2 y (record { answer = halfIn u; state = stateIn next }) g
+          (subst (λ (n : ℕ). OutputPromise reading file marks (stateIn last) n y (record { answer = halfIn u; state = stateIn next })) (value .1) out) .1)
+          .0,
+    )
+
 -- "Wherever the joins named are made": what join's code wrote is a join that was made, and so is what groovepawn_join wrote.
 pub code-joined : {a b before after : List ℕ} {n : ℕ} → JoinPromise a b before (Code.Length n) after → JoinMade a b (take n after)
 code-joined {before = before} {n = n} h = record { slice = before; size = n; given = sym (h .answers); written = ap (take n) (h .writes) }
@@ -190,43 +315,87 @@ pub code-permits :
     Permits (policyOf reading (take n after)) ≋ Permits (policyOf reading a) ∩ Permits (policyOf reading b)
 code-permits reading h = permits-exactly reading (code-joined h)
 
+pub c-permits :
+    (reading : ℕ) {a b before after : List ℕ} {r : ℕ} → JoinCall a b before r after → r % 256 ≡ 0 →
+    Permits (policyOf reading (take (r / 256) after)) ≋ Permits (policyOf reading a) ∩ Permits (policyOf reading b)
+c-permits reading h z = permits-exactly reading (c-joined h z)
+
+-- "A with B or B with A", "grouped either way with C", "A with itself", "A with the policy that permits all", on either side: of what join's code wrote,
 module _ (reading : ℕ) (named : readingRefusal reading ≡ 0) where
-  -- "A with B or B with A",
   pub code-order :
       {a b x f y g : List ℕ} {n m : ℕ} → JoinPromise a b x (Code.Length n) f → JoinPromise b a y (Code.Length m) g → Alike reading (take n f) (take m g)
   code-order j k = order reading named (code-joined j) (code-joined k)
 
-  -- "grouped either way with C",
   pub code-grouping :
       {a b c w f x h y g z k : List ℕ} {n m i j : ℕ} →
       JoinPromise a b w (Code.Length n) f → JoinPromise (take n f) c x (Code.Length m) h →
       JoinPromise b c y (Code.Length i) g → JoinPromise a (take i g) z (Code.Length j) k → Alike reading (take m h) (take j k)
   code-grouping s t u v = grouping reading named (code-joined s) (code-joined t) (code-joined u) (code-joined v)
 
-  -- "A with itself", "A with the policy that permits all".
   pub code-repetition : {a x f : List ℕ} {n : ℕ} → JoinPromise a a x (Code.Length n) f → Alike reading (take n f) a
   code-repetition j = repetition reading named (code-joined j)
 
   pub code-unit : {a x f : List ℕ} {n : ℕ} → JoinPromise a (permitsAll a) x (Code.Length n) f → Alike reading (take n f) a
   code-unit j = unit-law reading named (code-joined j)
 
--- "hopeless together, or the same released stream for every event stream", of the code: what prepare's code said of two files that are alike, with slices
--- for the marks that are long enough, and what run's code then released from `State::start()` with the marks m and n that it wrote.
-pub record SameRuns (reading : ℕ) (f g events out : List ℕ) (a : Ran) (after : List ℕ) (b : Ran) (also : List ℕ) : Type 0 where
+  pub code-unit-first : {a x f : List ℕ} {n : ℕ} → JoinPromise (permitsAll a) a x (Code.Length n) f → Alike reading (take n f) a
+  code-unit-first j = unit-law-first reading named (code-joined j)
+
+  -- and of what groovepawn_join wrote.
+  pub c-order :
+      {a b x f y g : List ℕ} {r q : ℕ} → JoinCall a b x r f → r % 256 ≡ 0 → JoinCall b a y q g → q % 256 ≡ 0 →
+      Alike reading (take (r / 256) f) (take (q / 256) g)
+  c-order j z k o = order reading named (c-joined j z) (c-joined k o)
+
+  pub c-grouping :
+      {a b c w f x h y g z k : List ℕ} {n m i j : ℕ} →
+      JoinCall a b w n f → n % 256 ≡ 0 → JoinCall (take (n / 256) f) c x m h → m % 256 ≡ 0 →
+      JoinCall b c y i g → i % 256 ≡ 0 → JoinCall a (take (i / 256) g) z j k → j % 256 ≡ 0 → Alike reading (take (m / 256) h) (take (j / 256) k)
+  c-grouping s d t e u f v g = grouping reading named (c-joined s d) (c-joined t e) (c-joined u f) (c-joined v g)
+
+  pub c-repetition : {a x f : List ℕ} {r : ℕ} → JoinCall a a x r f → r % 256 ≡ 0 → Alike reading (take (r / 256) f) a
+  c-repetition j z = repetition reading named (c-joined j z)
+
+  pub c-unit : {a x f : List ℕ} {r : ℕ} → JoinCall a (permitsAll a) x r f → r % 256 ≡ 0 → Alike reading (take (r / 256) f) a
+  c-unit j z = unit-law reading named (c-joined j z)
+
+  pub c-unit-first : {a x f : List ℕ} {r : ℕ} → JoinCall (permitsAll a) a x r f → r % 256 ≡ 0 → Alike reading (take (r / 256) f) a
+  c-unit-first j z = unit-law-first reading named (c-joined j z)
+
+-- "the same released stream", of two runs over the same events and slice: none is refused, each releases it whole, and the slices hold the same.
+pub record SameRuns (reading : ℕ) (f g events out : List ℕ) (a b : RunAnswer) : Type 0 where
   pub released : Stream
   pub first : ReleasedFor (policyOf reading f) events released
   pub second : ReleasedFor (policyOf reading g) events released
   pub refusals : (a .refusal ≡ 0) × (b .refusal ≡ 0)
   pub counts : (a .count ≡ length events) × (b .count ≡ length events)
-  pub written : (after ≡ map byteOf released ++ drop (length events) out) × (also ≡ after)
+  pub written : (a .out ≡ map byteOf released ++ drop (length events) out) × (b .out ≡ a .out)
 
+same-runs :
+    {reading : ℕ} {f m g n events out : List ℕ} → SameReleased reading f m g n events out → {a b : RunAnswer} →
+    fromStart reading f m events out ≡ a → fromStart reading g n events out ≡ b → SameRuns reading f g events out a b
+same-runs {reading} {f} {g = g} {events = events} c {a} {b} one two =
+    record {
+      released = c .first .released;
+      first = c .first .enforced;
+      second = subst (ReleasedFor (policyOf reading g) events) (sym (c .stream)) (c .second .enforced);
+      refusals = (ap (λ (z : RunAnswer). z .refusal) (sym one) ∙ c .first .refusal, ap (λ (z : RunAnswer). z .refusal) (sym two) ∙ c .second .refusal);
+      counts = (ap (λ (z : RunAnswer). z .count) (sym one) ∙ c .first .count, ap (λ (z : RunAnswer). z .count) (sym two) ∙ c .second .count);
+      written = (
+        ap (λ (z : RunAnswer). z .out) (sym one) ∙ c .first .out,
+        ap (λ (z : RunAnswer). z .out) (sym two) ∙ sym (c .answer .out) ∙ ap (λ (z : RunAnswer). z .out) one,
+      );
+    }
+
+-- "hopeless together, or the same released stream for every event stream", of the code: what prepare's code said of two files that are alike, with slices
+-- for the marks that are long enough, and what run's code then released from `State::start()` with the marks m and n that it wrote.
 pub record SameGiven (reading : ℕ) (f m g n : List ℕ) (r q : Prepared) : Type 0 where
   pub first : (s : Summary) × (r ≡ Prepared.Gives s)
   pub second : (s : Summary) × (q ≡ Prepared.Gives s)
   pub runs :
       (events out after also : List ℕ) (a b : Ran) → all (eventGood reading f) events ≡ true → length events ≤ length out →
       RunPromise reading f m startState events out a after → RunPromise reading g n startState events out b also →
-      SameRuns reading f g events out a after b also
+      SameRuns reading f g events out (ranSaid a after) (ranSaid b also)
 
 pub code-alike :
     {reading : ℕ} {f x m g y n : List ℕ} {r q : Prepared} → Alike reading f g → PreparePromise reading f x r m → PreparePromise reading g y q n →
@@ -245,20 +414,36 @@ code-alike {reading} {f} {x} {m} {g} {y} {n} {r} {q} alike h k l o =
     inr (record {
       first = (s, i);
       second = (t, j);
-      runs =
-          λ events out after also a b good long u v.
+      runs = λ events out after also a b good long u v. same-runs (d .2 events out good long) (code-runs of-f u) (code-runs of-g v);
+    })) (alike .together x y l o)
+
+-- The same in C: what groovepawn_prepare said of the two, and what groovepawn_run then released from { 0, 0, 0, 0, 0 }, over fewer than 2^56 events.
+pub record CSameGiven (reading : ℕ) (f m g n : List ℕ) (v w : ℕ) : Type 0 where
+  pub given : (v % 256 ≡ 0) × (w % 256 ≡ 0)
+  pub runs :
+      (events out state after other also : List ℕ) (r q : ℕ) →
+      all (eventGood reading f) events ≡ true → length events ≤ length out → length events < 2 ^ 56 →
+      RunCall reading f m cStart events out r state after → RunCall reading g n cStart events out q other also →
+      SameRuns reading f g events out (runRead r state after) (runRead q other also)
+
+pub c-alike :
+    {reading : ℕ} {f x m g y n : List ℕ} {v w : ℕ} → Alike reading f g → PrepareCall reading f x v m → PrepareCall reading g y w n →
+    states (policyOf reading f) ≤ length x → states (policyOf reading g) ≤ length y →
+    ((v % 256 ≡ 11) × (w % 256 ≡ 11)) ⊎ CSameGiven reading f m g n v w
+c-alike {reading} {f} {x} {m} {g} {y} {n} {v} {w} alike h k l o =
+    ⊎-elim
+    (λ d. inl (
+      prepared-refused v 10 .0 (prepared-one (preparedIn v) (Prepared.Refused 11) (c-prepare h .said ∙ d .0)),
+      prepared-refused w 10 .0 (prepared-one (preparedIn w) (Prepared.Refused 11) (c-prepare k .said ∙ d .1)),
+    ))
+    (λ d.
+    let s : Summary = (summaryOf (policyOf reading f)) in
+    let t : Summary = (summaryOf (policyOf reading g)) in
+    let i = prepared-none v (prepared-one (preparedIn v) (Prepared.Gives s) (c-prepare h .said ∙ d .0)) in
+    let j = prepared-none w (prepared-one (preparedIn w) (Prepared.Gives t) (c-prepare k .said ∙ d .1)) in
+    inr (record {
+      given = (i, j);
+      runs = λ events out state after other also r q good long few a b.
           let c = d .2 events out good long in
-          let one = code-runs of-f u in
-          let two = code-runs of-g v in
-          record {
-            released = c .first .released;
-            first = c .first .enforced;
-            second = subst (ReleasedFor (policyOf reading g) events) (sym (c .stream)) (c .second .enforced);
-            refusals = (ap (λ (z : RunAnswer). z .refusal) (sym one) ∙ c .first .refusal, ap (λ (z : RunAnswer). z .refusal) (sym two) ∙ c .second .refusal);
-            counts = (ap (λ (z : RunAnswer). z .count) (sym one) ∙ c .first .count, ap (λ (z : RunAnswer). z .count) (sym two) ∙ c .second .count);
-            written = (
-              ap (λ (z : RunAnswer). z .out) (sym one) ∙ c .first .out,
-              ap (λ (z : RunAnswer). z .out) (sym two) ∙ sym (c .answer .out) ∙ ap (λ (z : RunAnswer). z .out) one,
-            );
-          };
+          same-runs c (c-runs h i a few (c .first)) (c-runs k j b few (c .second));
     })) (alike .together x y l o)

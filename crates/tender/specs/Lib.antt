@@ -9,6 +9,7 @@ pub mod Demand2Shown
 pub mod WorthlessRuns
 pub mod Demand3
 pub mod Demand3Shown
+pub mod Calls
 pub mod Halves
 pub mod TickByTick
 pub mod Code

@@ -9,12 +9,14 @@ use lib.ListN.{replicate, length-replicate}
 use Rattle.streams.specs.Answer.{refused, gives}
 use Rattle.streams.specs.Stream.{Event}
 use Rattle.policy.specs.Rules.{Place, steps, unlimited, Fits, fits-none, fits-more, Runs, Dead}
+use Rattle.policy.specs.Rules as Rules
 use Rattle.policy.specs.File.{policyOf}
 use Rattle.policy.specs.Checked.{checked-file}
 use Rattle.prepare.specs.Entry.{prepareOf}
 use Rattle.prepare.specs.Live.{dead-numbered}
 use Rattle.join.specs.Entry.{joinedFile}
 use Rattle.tender.specs.Cases.{Case, prepared, enforced, summary, released, refusal, said}
+use Rattle.tender.specs.Demand3.{JoinMade}
 use Rattle.tender.specs.Unchanged.{EveryLength}
 use Rattle.join.specs.Computing.{the-join}
 use Rattle.prepare.specs.Computing.{the-file, the-check, a-step, the-marks, the-run, the-bytes}
@@ -78,6 +80,11 @@ pub never-together :
     × (prepareOf 1 (joinedFile (turns 0 1) (turns 1 0) []) (0 ∷ 0 ∷ 0 ∷ 0 ∷ []) ≡ refused 11)
 unfolding the-file the-check a-step the-marks the-bytes the-join
 never-together = (refl, refl, refl)
+
+-- That join is made.
+pub together-made : JoinMade (turns 0 1) (turns 1 0) (joinedFile (turns 0 1) (turns 1 0) [])
+unfolding the-file the-check the-bytes the-join Rules.rests
+together-made = record { slice = replicate 38 0; size = 38; given = refl; written = refl }
 
 -- The transfer that never ends, and the quiet event.
 abbrev begun : Place
