@@ -3,10 +3,11 @@
 use mathlib.Core.Path.{_≡_, refl, sym, ap, ap₂, subst, _∙_}
 use mathlib.Core.Bool.{Bool, true, false}
 use mathlib.Core.List.{List, [], _∷_, map}
-use Prim.Native.Nat.{ℕ, _%_, _<_}
+use Prim.Native.Nat.{ℕ, _/_, _%_, _<_}
 use native.Mathlib.Omega.{arith}
-use lib.Dec.{eqb}
+use lib.Dec.{ltb, eqb}
 use lib.ListN.{getD, drop}
+use borrow.Author.Tests.{ltb-true, ltb-false}
 use Rattle.streams.specs.Answer.{refused, gives}
 use Rattle.streams.specs.Answer as Said
 use Rattle.streams.specs.Stream.{Event, Stream}
@@ -26,12 +27,12 @@ use Rattle.bays.specs.Entries.{BayAnswer}
 use Rattle.bays.specs.Promises.{NewPromise, BayInputPromise, BayOutputPromise}
 use Rattle.bays.specs.There.{input-there, output-there}
 use Rattle.bays.specs.Halves.{Half, input, output, afresh, afresh-count}
-use Rattle.bays.specs.Alone.{Call, Reply, BayReply, callsOf, repliesTo, replies, left, repliesAlone, leftAlone, left-length, interleaved}
+use Rattle.bays.specs.Alone.{Call, Reply, BayReply, callsOf, repliesTo, replies, left, repliesAlone, leftAlone, left-length, interleaved, refusedBy, not-there, any-order, exchange}
 use Rattle.groovepawn.specs.Calls.{PrepareCall}
 use Rattle.groovepawn.specs.Fields.{answerIn}
 use Rattle.groovepawn.specs.Bays.{NewCall, BayInputCall, BayOutputCall}
-use Rattle.groovepawn.specs.BaysLaws.{bay-input-fields, bay-output-fields}
 use Rattle.tender.specs.TickByTick.{TickByTick, ticks-none, ticks-more, TicksReleased, ticks-release, ticks-go-on}
+use Rattle.tender.specs.Calls.{halfIn, half-read, half-given, c-bays-new, c-bay-input, c-bay-output}
 use Rattle.tender.specs.Code.{prepare-read}
 
 -- A bay's half and its answer.
@@ -70,7 +71,8 @@ pub data BayTicks : List Reply → (read released : Stream) → Type 0 where
 abbrev callOf : BayReply → Call
 callOf r = record { bay = r .bay; half = r .reply .half }
 
-abbrev halfOf : Reply → Half
+-- What was asked for in a reply.
+abbrev pub halfOf : Reply → Half
 halfOf r = r .half
 
 -- A bay's calls are those of its replies.
@@ -101,24 +103,6 @@ module _ (reading : ℕ) (file marks : List ℕ) where
       let there = ap (λ (r : BayAnswer). r .states) (sym (h .said)) in (
         ap₂ {C = List BayReply} (λ (a : Said.Answer ℕ) (l : List BayReply). replied bay (output x y) a ∷ l)
             (ap (λ (r : BayAnswer). r .answer) (sym (h .said)))
-            (ap (λ (l : List ℕ). replies reading file marks l (map callOf rs)) there ∙ k .0),
-        ap (λ (l : List ℕ). left reading file marks l (map callOf rs)) there ∙ k .1,
-      )
-
-  c-calls-told : {states last : List ℕ} {rs : List BayReply} → CBayCalls reading file marks states rs last → BayTold states rs last
-  unfolding replies left
-  c-calls-told c-calls-none = (refl, refl)
-  c-calls-told (c-calls-input {states = states} {bay = bay} {x = x} {rs = rs} h more) =
-      let k = c-calls-told more in (
-        ap₂ {C = List BayReply} (λ (a : Said.Answer ℕ) (l : List BayReply). replied bay (input x) a ∷ l)
-            (sym (ap answerIn (h .said) ∙ bay-input-fields reading file marks states bay x)) (k .0),
-        k .1,
-      )
-  c-calls-told (c-calls-output {states = states} {bay = bay} {x = x} {y = y} {rs = rs} h more) =
-      let k = c-calls-told more in
-      let there = sym (h .next) in (
-        ap₂ {C = List BayReply} (λ (a : Said.Answer ℕ) (l : List BayReply). replied bay (output x y) a ∷ l)
-            (sym (ap answerIn (h .said) ∙ bay-output-fields reading file marks states bay x y))
             (ap (λ (l : List ℕ). replies reading file marks l (map callOf rs)) there ∙ k .0),
         ap (λ (l : List ℕ). left reading file marks l (map callOf rs)) there ∙ k .1,
       )
@@ -208,13 +192,128 @@ module _ {reading : ℕ} {file lent marks : List ℕ} {s : Summary} (h : Prepare
             (record { said = ap (λ (b : Said.Answer ℕ). record { answer = b; state = t }) said }),
       )
 
--- The same of the C functions: groovepawn_prepare and groovepawn_bays_new refused nothing.
-pub c-bays-release :
-    {reading : ℕ} {file lent marks : List ℕ} {v : ℕ} → PrepareCall reading file lent v marks → v % 256 ≡ 0 →
-    {before fresh : List ℕ} → NewCall before 0 fresh → {bay : ℕ} → bay < bayCount fresh →
-    {last : List ℕ} {rs : List BayReply} → CBayCalls reading file marks fresh rs last →
-    {es os : Stream} → BayTicks (repliesTo bay rs) es os → TicksReleased (policyOf reading file) es os (bayState last bay)
-c-bays-release {reading} {file} {lent} {marks} h z new is calls ticks =
-    let s = prepare-read h z in
-    ticks-release {s = (s .0)} (record { said = sym (s .1); marks = h .marks })
-    (own-ticks reading file marks (record { said = new .said; states = new .states }) is (c-calls-told reading file marks calls) ticks)
+-- "A bay's answers, refusals included, depend on the policy, the marks, the reading, the number of bays, its own state and its own events and nothing more":
+-- from two lists of as many bays, in which the bay has the same state, with the same halves asked of it and any of the others, the code answers it the same.
+pub bays-alone :
+    {reading : ℕ} {file marks states others last end : List ℕ} {rs qs : List BayReply} →
+    BayCalls reading file marks states rs last → BayCalls reading file marks others qs end → bayCount states ≡ bayCount others →
+    (bay : ℕ) → (bay < bayCount states → bayState states bay ≡ bayState others bay) → map halfOf (repliesTo bay rs) ≡ map halfOf (repliesTo bay qs) →
+    repliesTo bay rs ≡ repliesTo bay qs
+bays-alone {reading} {file} {marks} {states} {others} {rs = rs} {qs = qs} h k n bay same asked =
+    sym (ap (repliesTo bay) (calls-told reading file marks h .0)) ∙ go (ltb bay (bayCount states)) refl ∙ ap (repliesTo bay) (calls-told reading file marks k .0)
+  where
+    own : callsOf bay (map callOf rs) ≡ callsOf bay (map callOf qs)
+    own = calls-back bay rs ∙ asked ∙ sym (calls-back bay qs)
+
+    go : (t : Bool) → ltb bay (bayCount states) ≡ t →
+        repliesTo bay (replies reading file marks states (map callOf rs)) ≡ repliesTo bay (replies reading file marks others (map callOf qs))
+    go true e =
+        let is = ltb-true bay (bayCount states) e in
+        interleaved reading file marks states (map callOf rs) bay is .replied
+        ∙ ap₂ (repliesAlone reading file marks) (same is) own
+        ∙ sym (interleaved reading file marks others (map callOf qs) bay (omega arith) .replied)
+    go false e =
+        let l = ltb-false bay (bayCount states) e in
+        not-there reading file marks states (map callOf rs) bay l ∙ ap (map (refusedBy reading file marks)) own
+        ∙ sym (not-there reading file marks others (map callOf qs) bay (omega arith))
+
+-- "no tick alters .. another bay's state": a bay of which nothing was asked has the state that it had.
+pub bays-stay :
+    {reading : ℕ} {file marks states last : List ℕ} {rs : List BayReply} → BayCalls reading file marks states rs last →
+    (bay : ℕ) → bay < bayCount states → repliesTo bay rs ≡ [] → bayState last bay ≡ bayState states bay
+bays-stay {reading} {file} {marks} {states} {last} {rs} h bay is none =
+    unmoved reading file marks states last bay rs is (calls-told reading file marks h) none .1
+
+-- "ticks of different bays may be exchanged in order without changing any answer": two halves of different bays, asked in either order, get the same answers
+-- and leave the same list;
+pub bays-exchange :
+    {reading : ℕ} {file marks states last end : List ℕ} (c d : Call) {a b also too : Said.Answer ℕ} → ¬ (c .bay ≡ d .bay) →
+    BayCalls reading file marks states (replied (c .bay) (c .half) a ∷ replied (d .bay) (d .half) b ∷ []) last →
+    BayCalls reading file marks states (replied (d .bay) (d .half) too ∷ replied (c .bay) (c .half) also ∷ []) end →
+    (a ≡ also) × (b ≡ too) × (last ≡ end)
+unfolding replies left
+bays-exchange {reading} {file} {marks} {states} c d {a} {b} {also} {too} apart h k =
+    let x = exchange reading file marks states c d apart in
+    let t = calls-told reading file marks h in
+    let u = calls-told reading file marks k in
+    let none = replied 0 (input 0) (refused 0) in (
+      sym (ap (λ (l : List BayReply). getD l 0 none .reply .answer) (t .0)) ∙ ap (λ (r : BayReply). r .reply .answer) (x .first)
+          ∙ ap (λ (l : List BayReply). getD l 1 none .reply .answer) (u .0),
+      sym (ap (λ (l : List BayReply). getD l 1 none .reply .answer) (t .0)) ∙ ap (λ (r : BayReply). r .reply .answer) (x .second)
+          ∙ ap (λ (l : List BayReply). getD l 0 none .reply .answer) (u .0),
+      sym (t .1) ∙ x .list ∙ u .1,
+    )
+
+-- and so in any two orders that keep each bay's own.
+pub bays-any-order :
+    {reading : ℕ} {file marks states last end : List ℕ} {rs qs : List BayReply} →
+    BayCalls reading file marks states rs last → BayCalls reading file marks states qs end →
+    ((bay : ℕ) → map halfOf (repliesTo bay rs) ≡ map halfOf (repliesTo bay qs)) → ((bay : ℕ) → repliesTo bay rs ≡ repliesTo bay qs) × (last ≡ end)
+bays-any-order {reading} {file} {marks} {states} {rs = rs} {qs = qs} h k asked =
+    let same = any-order reading file marks states (map callOf rs) (map callOf qs) (λ bay. calls-back bay rs ∙ asked bay ∙ sym (calls-back bay qs)) in (
+      λ bay. bays-alone h k refl bay (λ is. refl) (asked bay),
+      sym (calls-told reading file marks h .1) ∙ same .list ∙ calls-told reading file marks k .1,
+    )
+
+-- The functions in C answer as the code does, and so all of this holds of them.
+pub c-bay-calls : {reading : ℕ} {file marks states last : List ℕ} {rs : List BayReply} → CBayCalls reading file marks states rs last → BayCalls reading file marks states rs last
+c-bay-calls c-calls-none = calls-none
+c-bay-calls {reading} {file} {marks} {last = last} (c-calls-input {states = states} {bay = bay} {x = x} {w = w} {rs = rs} h more) =
+    subst (λ (a : Said.Answer ℕ). BayCalls reading file marks states (replied bay (input x) a ∷ rs) last) (half-read w)
+    (calls-input (c-bay-input h) (c-bay-calls more))
+c-bay-calls {reading} {file} {marks} {last = last} (c-calls-output {states = states} {bay = bay} {x = x} {y = y} {w = w} {rs = rs} h more) =
+    subst (λ (a : Said.Answer ℕ). BayCalls reading file marks states (replied bay (output x y) a ∷ rs) last) (half-read w)
+    (calls-output (c-bay-output h) (c-bay-calls more))
+
+-- After groovepawn_prepare and groovepawn_bays_new refused nothing: demand 2's stream for each bay, and no bay ever stops.
+module _ {reading : ℕ} {file lent marks : List ℕ} {v : ℕ} (h : PrepareCall reading file lent v marks) (z : v % 256 ≡ 0)
+    {before fresh : List ℕ} (new : NewCall before 0 fresh) {bay : ℕ} (is : bay < bayCount fresh)
+    {last : List ℕ} {rs : List BayReply} (calls : CBayCalls reading file marks fresh rs last)
+    {es os : Stream} (ticks : BayTicks (repliesTo bay rs) es os) where
+  summary : (s : Summary) × PreparePromise reading file lent (Prepare.Gives s) marks
+  summary = let s = prepare-read h z in (s .0, record { said = sym (s .1); marks = h .marks })
+
+  pub c-bays-release : TicksReleased (policyOf reading file) es os (bayState last bay)
+  c-bays-release = bays-release (summary .1) (c-bays-new new) is (c-bay-calls calls) ticks
+
+  pub c-bays-go-on :
+      (x w : ℕ) → x < inputValues (policyOf reading file) → BayInputCall reading file marks last bay x w →
+      (w % 256 ≡ 0)
+      × ((more : List BayReply) (later next : List ℕ) (y u : ℕ) → y < outputValues (policyOf reading file) →
+      CBayCalls reading file marks last more later → repliesTo bay more ≡ [] → BayOutputCall reading file marks later bay (w / 256) y u next → u % 256 ≡ 0)
+  c-bays-go-on x w f i =
+      let on = bays-go-on (summary .1) (c-bays-new new) is (c-bay-calls calls) ticks x (halfIn w) f (c-bay-input i) in
+      let value = half-given w (on .1) in (
+        value .0,
+        λ more later next y u g between none k.
+            half-given u
+            (on .2 more later next y (halfIn u) g (c-bay-calls between) none
+            (subst (λ (n : ℕ). BayOutputPromise reading file marks later bay n y (halfIn u) next) (value .1) (c-bay-output k)) .1)
+            .0,
+      )
+
+-- What a bay is answered goes by its own alone, no tick alters another's state, and the order of different bays' turns changes nothing.
+pub c-bays-alone :
+    {reading : ℕ} {file marks states others last end : List ℕ} {rs qs : List BayReply} →
+    CBayCalls reading file marks states rs last → CBayCalls reading file marks others qs end → bayCount states ≡ bayCount others →
+    (bay : ℕ) → (bay < bayCount states → bayState states bay ≡ bayState others bay) → map halfOf (repliesTo bay rs) ≡ map halfOf (repliesTo bay qs) →
+    repliesTo bay rs ≡ repliesTo bay qs
+c-bays-alone h k = bays-alone (c-bay-calls h) (c-bay-calls k)
+
+pub c-bays-stay :
+    {reading : ℕ} {file marks states last : List ℕ} {rs : List BayReply} → CBayCalls reading file marks states rs last →
+    (bay : ℕ) → bay < bayCount states → repliesTo bay rs ≡ [] → bayState last bay ≡ bayState states bay
+c-bays-stay h = bays-stay (c-bay-calls h)
+
+pub c-bays-exchange :
+    {reading : ℕ} {file marks states last end : List ℕ} (c d : Call) {a b also too : Said.Answer ℕ} → ¬ (c .bay ≡ d .bay) →
+    CBayCalls reading file marks states (replied (c .bay) (c .half) a ∷ replied (d .bay) (d .half) b ∷ []) last →
+    CBayCalls reading file marks states (replied (d .bay) (d .half) too ∷ replied (c .bay) (c .half) also ∷ []) end →
+    (a ≡ also) × (b ≡ too) × (last ≡ end)
+c-bays-exchange c d apart h k = bays-exchange c d apart (c-bay-calls h) (c-bay-calls k)
+
+pub c-bays-any-order :
+    {reading : ℕ} {file marks states last end : List ℕ} {rs qs : List BayReply} →
+    CBayCalls reading file marks states rs last → CBayCalls reading file marks states qs end →
+    ((bay : ℕ) → map halfOf (repliesTo bay rs) ≡ map halfOf (repliesTo bay qs)) → ((bay : ℕ) → repliesTo bay rs ≡ repliesTo bay qs) × (last ≡ end)
+c-bays-any-order h k = bays-any-order (c-bay-calls h) (c-bay-calls k)

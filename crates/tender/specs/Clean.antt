@@ -1,8 +1,9 @@
--- 9/13, over the promise of clean and the definitions of the other entries: what prepare and run answer for a cleaned policy, and clean itself.
+-- 9/13, over the promise of clean and the definitions of the other entries: what prepare and run answer for a cleaned policy, and clean itself; then over the
+-- promises of all of them, and over the functions in C.
 use mathlib.Core.Path.{_≡_, refl, sym, ap, ap₂, _∙_}
 use mathlib.Core.List.{List, [], _++_}
 use mathlib.Core.Logic.{_↔_, _⊎_}
-use Prim.Native.Nat.{ℕ, _≤_}
+use Prim.Native.Nat.{ℕ, _/_, _%_, _≤_}
 use native.Mathlib.Omega.{arith}
 use lib.ListN.{length, take, drop}
 use lib.Seq.{take-at}
@@ -27,10 +28,12 @@ use Rattle.cleaning.specs.declared.Cleaned.the-variants as Code
 use Rattle.cleaning.specs.Laws.{Cleans}
 use Rattle.cleaning.specs.Refused.{answers}
 use Rattle.cleaning.specs.Theorems.{cleans}
+use Rattle.groovepawn.specs.Calls.{PrepareCall}
+use Rattle.groovepawn.specs.Clean.{CleanCall, lengthsIn, clean-fields}
 use Rattle.tender.specs.Demand2Shown.{hopeless-exactly}
 use Rattle.tender.specs.Demand3.{JoinMade, JoinOf, AllOf, tags, Alike}
 use Rattle.tender.specs.Demand3Shown.{made, permits-all, permits-alike}
-use Rattle.tender.specs.Code.{SameGiven, code-alike}
+use Rattle.tender.specs.Code.{SameGiven, code-alike, CSameGiven, c-alike}
 
 -- "A tool writes a cleaned policy and a list .. and returns both lengths": for some slices clean gives them, and `policy` and `list` are as many bytes of what
 -- the slices hold then.
@@ -52,6 +55,22 @@ code-cleaned {slice = slice} {other} {n = n} h =
       other = other;
       lengths = n;
       given = sym (h .said);
+      written = ap (take (n .cleaned)) (h .cleaned);
+      listed = ap (take (n .struck)) (h .struck);
+    }
+
+-- So does the call of groovepawn_clean, whose word holds both lengths.
+pub c-cleaned :
+    {reading : ℕ} {file slice other after otherAfter : List ℕ} {r : ℕ} → CleanCall reading file slice other r after otherAfter → r % 256 ≡ 0 →
+    CleanedFrom reading file (take (r / 256 % 16777216) after) (take (r / 4294967296) otherAfter)
+c-cleaned {reading} {file} {slice} {other} {r = r} h z =
+    let n : Lengths = record { cleaned = r / 256 % 16777216; struck = r / 4294967296 } in
+    let e : lengthsIn r ≡ gives n = rw z in
+    record {
+      slice = slice;
+      other = other;
+      lengths = n;
+      given = sym (clean-fields reading file slice other) ∙ ap lengthsIn (sym (h .said)) ∙ e;
       written = ap (take (n .cleaned)) (h .cleaned);
       listed = ap (take (n .struck)) (h .struck);
     }
@@ -182,3 +201,24 @@ pub code-again :
 code-again {next = next} {last} h g long =
     let a = again-made (code-cleaned h) next last long in
     clean-one g (record { said = sym (a .0); cleaned = sym (a .1); struck = sym (a .2) })
+
+-- The same in C: what groovepawn_prepare said of the cleaned policy and of the old one, and what groovepawn_run then released; and what groovepawn_clean
+-- answers of a policy that it wrote. What was struck and what is left is `promised` of the two that `c-cleaned` names.
+module _ {reading : ℕ} {file slice other after otherAfter : List ℕ} {r : ℕ} (h : CleanCall reading file slice other r after otherAfter) (z : r % 256 ≡ 0) where
+  abbrev cleanedBytes : List ℕ
+  cleanedBytes = take (r / 256 % 16777216) after
+
+  pub c-same :
+      {x m y k : List ℕ} {v w : ℕ} → PrepareCall reading cleanedBytes x v m → PrepareCall reading file y w k →
+      states (policyOf reading cleanedBytes) ≤ length x → states (policyOf reading file) ≤ length y →
+      ((v % 256 ≡ 11) × (w % 256 ≡ 11)) ⊎ CSameGiven reading cleanedBytes m file k v w
+  c-same = c-alike (alike (c-cleaned h z))
+
+  pub c-again :
+      {next last nextAfter lastAfter : List ℕ} {q : ℕ} → CleanCall reading cleanedBytes next last q nextAfter lastAfter →
+      length cleanedBytes ≤ length next →
+      (lengthsIn q ≡ gives (record { cleaned = length cleanedBytes; struck = 0 }))
+      × (nextAfter ≡ cleanedBytes ++ drop (length cleanedBytes) next) × (lastAfter ≡ last)
+  c-again {next} {last} g long =
+      let a = again-made (c-cleaned h z) next last long in
+      (ap lengthsIn (g .said) ∙ clean-fields reading cleanedBytes next last ∙ a .0, g .cleaned ∙ a .1, g .struck ∙ a .2)

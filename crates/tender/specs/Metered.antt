@@ -3,7 +3,6 @@
 use mathlib.Core.Path.{_≡_, refl, sym, ap, ap₂, subst, _∙_}
 use mathlib.Core.List.{List, [], _∷_}
 use Prim.Native.Nat.{ℕ, _+_, _-_, _*_, _%_, _≤_}
-use Rattle.streams.specs.Answer.{gives}
 use Rattle.streams.specs.Answer as Said
 use Rattle.streams.specs.Stream.{Event, Stream}
 use Rattle.policy.specs.File.{policyOf}
@@ -18,13 +17,13 @@ use Rattle.meter.specs.Meter.{stationState, lastReading, billed, unbilled, puls
 use Rattle.meter.specs.Entries.{MeterAnswer, weightP}
 use Rattle.meter.specs.Promises.{MeterNewPromise, MeterInputPromise, MeterOutputPromise}
 use Rattle.meter.specs.Accepted.{accepted-input, accepted-output, accepted-state}
-use Rattle.meter.specs.Sums.{Meter, Turn, both, meterOf, lastAccepted, Fewer, fresh, totals-are-the-advance, totals-round, never-falls, new-state}
+use Rattle.meter.specs.Sums.{Meter, Turn, both, meterOf, lastAccepted, Fewer, fresh, totals-are-the-advance, totals-round, never-falls, new-state, refused-stays}
 use Rattle.groovepawn.specs.Calls.{PrepareCall}
-use Rattle.groovepawn.specs.Fields.{answerIn, answer-fields}
-use Rattle.groovepawn.specs.Meter.{MeterNewCall, MeterInputCall, MeterOutputCall, meter-input-fields, meter-output-fields}
+use Rattle.groovepawn.specs.Fields.{answer-fields}
+use Rattle.groovepawn.specs.Meter.{MeterNewCall, MeterInputCall, MeterOutputCall, meter-output-stays}
+use Rattle.tender.specs.Calls.{halfIn, c-meter-new, c-meter-input, c-meter-output}
 use Rattle.tender.specs.Code.{prepare-read}
 use Rattle.tender.specs.TickByTick.{TickByTick, ticks-none, ticks-more, TicksReleased, ticks-release}
-use Rattle.tender.specs.Bays.{}
 use Rattle.enforcer.specs.declared.state.State.{State}
 
 -- What a tick of a station with a meter reads: the register, x and the controller's answer.
@@ -86,20 +85,17 @@ pub data CMeterTicks (reading : ℕ) (file marks : List ℕ) : (station totals :
       CMeterTicks reading file marks next risen ts es rs last sums →
       CMeterTicks reading file marks station totals (t ∷ ts) (eventRead reading file station t ∷ es) (r ∷ rs) last sums
 
--- What such a word holds.
-word-gives : (v : ℕ) → gives v ≡ answerIn (v * 256)
-word-gives v = let f = answer-fields v in rw (f .0, f .1)
+-- What such a word says.
+word-half : (v : ℕ) → halfIn (v * 256) ≡ Code.Value v
+word-half v = let f = answer-fields v in rw (f .0, f .1)
 
 c-meter-ticks : {reading : ℕ} {file marks station totals last sums : List ℕ} {ts : List Read} {es rs : Stream} →
     CMeterTicks reading file marks station totals ts es rs last sums → MeterTicks reading file marks station totals ts es rs last sums
 c-meter-ticks c-meter-none = meter-none
-c-meter-ticks {reading} {file} {marks} (c-meter-more {station = station} {totals = totals} {t = t} {r = r} i o more) =
-    let said = word-gives (r .y) ∙ ap answerIn (o .said) ∙ meter-output-fields reading file marks station totals (t .register) (r .x) (t .y) in
-    let next = o .next in
-    let sums = o .sums in
+c-meter-ticks {reading} {file} {marks} (c-meter-more {station = station} {totals = totals} {next = next} {risen = risen} {t = t} {r = r} i o more) =
     meter-more
-    (record { said = word-gives (r .x) ∙ ap answerIn (i .said) ∙ meter-input-fields reading file marks station (t .register) (t .x) })
-    (record { said = λ k. record { answer = said k; station = next k; totals = sums k } })
+    (subst (MeterInputPromise reading file marks station (t .register) (t .x)) (word-half (r .x)) (c-meter-input i))
+    (subst (λ (a : HalfAnswer). MeterOutputPromise reading file marks station totals (t .register) (r .x) (t .y) a next risen) (word-half (r .y)) (c-meter-output o))
     (c-meter-ticks more)
 
 pub c-meter-release :
@@ -110,7 +106,7 @@ pub c-meter-release :
 c-meter-release h z new ticks =
     let s = prepare-read h z in
     meter-release {s = (s .0)} (record { said = sym (s .1); marks = h .marks })
-    (record { said = new .said; placed = new .placed; cleared = new .cleared }) (c-meter-ticks ticks)
+    (c-meter-new new) (c-meter-ticks ticks)
 
 -- Any calls of meter_output's code, accepted or refused, one after the other: `count` is the reading of a register that never rolls over.
 pub data Turns (reading : ℕ) (file marks : List ℕ) : (station totals : List ℕ) → List Turn → (last sums : List ℕ) → Type 0 where
@@ -155,3 +151,45 @@ code-never-falls {reading} {file} {marks} {station} {totals} {ts = ts} turns =
     let h = never-falls reading file marks (record { station = station; totals = totals }) ts in
     let e = turns-meter turns in
     (subst (λ (m : Meter). billed totals ≤ billed (m .totals)) e (h .0), subst (λ (m : Meter). unbilled totals ≤ unbilled (m .totals)) e (h .1))
+
+-- "A refused tick changes no total, last reading or state."
+pub code-refused-stays :
+    {reading : ℕ} {file marks station totals next sums : List ℕ} {register x y n : ℕ} →
+    MeterOutputPromise reading file marks station totals register x y (Code.Refused n) next sums → (next ≡ station) × (sums ≡ totals)
+code-refused-stays {reading} {file} {marks} {station} {totals} {register = register} {x} {y} h =
+    let k = refused-stays reading file marks station totals register x y (ap (λ (a : MeterAnswer). a .answer) (sym (h .said))) in
+    (ap (λ (a : MeterAnswer). a .station) (h .said) ∙ k .0, ap (λ (a : MeterAnswer). a .totals) (h .said) ∙ k .1)
+
+pub c-refused-stays :
+    {reading : ℕ} {file marks station totals next sums : List ℕ} {register x y r : ℕ} →
+    MeterOutputCall reading file marks station totals register x y r next sums → ¬ (r % 256 ≡ 0) → (next ≡ station) × (sums ≡ totals)
+c-refused-stays {reading} {file} {marks} {station} {totals} {register = register} {x} {y} h some =
+    let k = meter-output-stays reading file marks station totals register x y (λ z. some (ap (λ (n : ℕ). n % 256) (h .said) ∙ z)) in
+    (h .next ∙ k .0, h .sums ∙ k .1)
+
+-- Any calls of groovepawn_meter_output, accepted or refused, from a station that groovepawn_meter_new set up.
+pub data CTurns (reading : ℕ) (file marks : List ℕ) : (station totals : List ℕ) → List Turn → (last sums : List ℕ) → Type 0 where
+  c-turns-none : {station totals : List ℕ} → CTurns reading file marks station totals [] station totals
+  c-turns-more : {station totals next risen last sums : List ℕ} {t : Turn} {ts : List Turn} {r : ℕ} →
+      MeterOutputCall reading file marks station totals (t .count % 65536) (t .x) (t .y) r next risen →
+      CTurns reading file marks next risen ts last sums → CTurns reading file marks station totals (t ∷ ts) last sums
+
+c-turns : {reading : ℕ} {file marks station totals last sums : List ℕ} {ts : List Turn} → CTurns reading file marks station totals ts last sums → Turns reading file marks station totals ts last sums
+c-turns c-turns-none = turns-none
+c-turns (c-turns-more h more) = turns-more (c-meter-output h) (c-turns more)
+
+module _ {reading : ℕ} {file marks before totals first zeros : List ℕ} (c : ℕ) (new : MeterNewCall before totals (c % 65536) 0 first zeros)
+    {last sums : List ℕ} {ts : List Turn} (turns : CTurns reading file marks first zeros ts last sums) where
+  abbrev c-start : Meter
+  c-start = fresh before totals (sym (new .said)) c
+
+  pub c-advance : Fewer reading file marks c-start c ts → billed sums + unbilled sums ≡ lastAccepted reading file marks c-start c ts - c
+  c-advance = code-advance c (c-meter-new new) (c-turns turns)
+
+  pub c-round : (billed sums + unbilled sums + c) % 65536 ≡ lastAccepted reading file marks c-start c ts % 65536
+  c-round = code-round c (c-meter-new new) (c-turns turns)
+
+pub c-never-falls :
+    {reading : ℕ} {file marks station totals last sums : List ℕ} {ts : List Turn} → CTurns reading file marks station totals ts last sums →
+    (billed totals ≤ billed sums) × (unbilled totals ≤ unbilled sums)
+c-never-falls turns = code-never-falls (c-turns turns)
