@@ -29,3 +29,4 @@ pub mod Transfer
 pub mod Story
 pub mod Clean
 pub mod Why
+pub mod InC
