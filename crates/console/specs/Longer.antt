@@ -18,10 +18,10 @@ use Rattle.console.specs.Printed.{unlessRefused, lent, enforcedText, pri
 use Rattle.console.specs.Replies.{events-refused}
 
 module _ (front rest : List ℕ) where
-  pair-front : (at : ℕ) → at + 1 < length front → pairAt (front ++ rest) at ≡ pairAt front at
+  pub pair-front : (at : ℕ) → at + 1 < length front → pairAt (front ++ rest) at ≡ pairAt front at
   pair-front at h = rw (List·getD-append front rest 0 at (omega arith), List·getD-append front rest 0 (at + 1) h)
 
-  part-front : (at n : ℕ) → at + n ≤ length front → part (front ++ rest) at n ≡ part front at n
+  pub part-front : (at n : ℕ) → at + n ≤ length front → part (front ++ rest) at n ≡ part front at n
   part-front at n h =
       let l : n ≤ length (drop at front) = simp length-drop (omega arith) in
       rw (drop-append-le at front rest (omega arith), take-append-le n (drop at front) rest l)
