@@ -1,7 +1,7 @@
 -- The call of the second engine: its word and what the marks and the work slices hold then, that one answer alone meets it, and that the answer comes back from its word.
 use mathlib.Core.Path.{_≡_, sym, ap, _∙_}
 use mathlib.Core.List.{List}
-use Prim.Native.Nat.{ℕ, _≤_}
+use Prim.Native.Nat.{ℕ, _≤_, _%_}
 use native.Mathlib.Omega.{arith}
 use lib.Dec.{leb}
 use Rattle.streams.specs.Answer.{gives}
@@ -9,11 +9,11 @@ use Rattle.policy.specs.File.{policyOf}
 use Rattle.policy.specs.Number.{states}
 use Rattle.prepare.specs.declared.Summary.{Summary}
 use Rattle.fast.specs.Entry.{Work, shortest, lentRefusal, fastOf, fastMarks}
-use Rattle.fast.specs.PromiseLaws.{by-length, as-plain, fast-gives, fast-up-to}
+use Rattle.fast.specs.PromiseLaws.{by-length, as-plain, unless-short, fast-gives, fast-up-to}
 use Rattle.groovepawn.specs.Words.{summaryWord, prepareWord}
 use Rattle.groovepawn.specs.Bounds.{Small, summary-small}
 use Rattle.groovepawn.specs.Fields.{summaryIn, summary-back}
-use Rattle.groovepawn.specs.Calls.{PrepareCall}
+use Rattle.groovepawn.specs.Calls.{PrepareCall, prepare-one}
 
 -- `work` and `left` are what the work slices hold before and after. They are scratch: how long the shortest is counts, and what is left in them is said only where
 -- nothing is written.
@@ -37,6 +37,20 @@ unfolding prepareWord
 fast-prepares {reading} {file} {before} {work = work} h l =
     let k = as-plain reading file before (shortest work) l in
     record { said = h .said ∙ ap summaryWord (k .0); marks = h .marks ∙ k .1 }
+
+-- "Unless 23 is given" it is that call too, whatever the slices are,
+pub fast-unless : {reading : ℕ} {file before after : List ℕ} {work left : Work} {r : ℕ} →
+    FastCall reading file before work r after left → (r % 256 ≡ 23 → ⊥) → PrepareCall reading file before r after
+unfolding prepareWord
+fast-unless {reading} {file} {before} {work = work} h not-short =
+    let k = unless-short reading file before (shortest work) (λ e. not-short (ap (λ (n : ℕ). n % 256) (h .said ∙ ap summaryWord e))) in
+    record { said = h .said ∙ ap summaryWord (k .0); marks = h .marks ∙ k .1 }
+
+-- and so "both are proved to leave equal marks and give equal verdicts, counts and refusals for every policy and both readings": their words are equal, and
+-- all that is in them.
+pub same-answers : {reading : ℕ} {file before after also : List ℕ} {work left : Work} {r q : ℕ} →
+    PrepareCall reading file before r after → FastCall reading file before work q also left → (q % 256 ≡ 23 → ⊥) → (r ≡ q) × (after ≡ also)
+same-answers h g not-short = prepare-one h (fast-unless g not-short)
 
 module _ (reading : ℕ) (file before : List ℕ) (work : ℕ) where
   pub fast-small : (s : Summary) → fastOf reading file before work ≡ gives s → Small s

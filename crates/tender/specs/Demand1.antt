@@ -10,7 +10,7 @@ pub use Rattle.prepare.specs.Promise.{PreparePromise, prepare-one}
 pub use Rattle.prepare.specs.PromiseLaws.{prepare-live, prepare-dead}
 -- The second engine: as prepare, unless it gives 23.
 pub use Rattle.fast.specs.Promise.{FastPromise}
-pub use Rattle.fast.specs.PromiseLaws.{fast-one, same-answers}
+pub use Rattle.fast.specs.PromiseLaws.{fast-one, same-answers, fast-unless}
 -- The input half, the output half by value and over a lent state, and the run.
 pub use Rattle.enforcer.specs.Promises.{InputPromise, input-one, OutputPromise, output-one, RunPromise, run-one}
 -- An index is built, and the two halves that use one.
@@ -47,7 +47,7 @@ pub use Rattle.groovepawn.specs.Calls.{
   ticks-one as c-ticks-one,
 }
 -- groovepawn_prepare_fast:
-pub use Rattle.groovepawn.specs.Fast.{FastCall, fast-one as c-fast-one}
+pub use Rattle.groovepawn.specs.Fast.{FastCall, fast-one as c-fast-one, same-answers as c-same-answers}
 -- groovepawn_index, _input_indexed, _output_indexed:
 pub use Rattle.groovepawn.specs.Indexed.{
   IndexCall,
