@@ -27,88 +27,47 @@ abbrev read-digits-below : ℕ → In 1 read-digits-kinds.ps
 read-digits-below t =
     and 1 read-digits-kinds.ps (falls 1 read-digits-kinds.ps _<_ μ-read-digits t) read-digits.Pre
 
-read-digits-shared-slice-read-digit : (t : ℕ) → read-digits-lts.Need-shared-slice-read-digit (
-  goes-on-reads.Asked,
-  goes-on-reads.Learnt,
-  read-digits-below t,
-  read-digits.Post,
-) (read-digits-at t) read-digits.Post
+-- What each call is asked and what is learnt of it, at the measure t.
+abbrev claims : ℕ → read-digits-lts.Claims
+claims t = (goes-on-reads.Asked, goes-on-reads.Learnt, read-digits-below t, read-digits.Post)
+
+read-digits-shared-slice-read-digit : (t : ℕ) → read-digits-lts.Need-shared-slice-read-digit (claims t) (read-digits-at t) read-digits.Post
 read-digits-shared-slice-read-digit t c = omega arith
 
-read-digits-goes-on-requires : (t : ℕ) → read-digits-lts.Need-goes-on-requires (
-  goes-on-reads.Asked,
-  goes-on-reads.Learnt,
-  read-digits-below t,
-  read-digits.Post,
-) (read-digits-at t) read-digits.Post
+read-digits-goes-on-requires : (t : ℕ) → read-digits-lts.Need-goes-on-requires (claims t) (read-digits-at t) read-digits.Post
 read-digits-goes-on-requires t c κs = tt
 
-read-digits-add-read-digits : (t : ℕ) → read-digits-lts.Need-add-read-digits (
-  goes-on-reads.Asked,
-  goes-on-reads.Learnt,
-  read-digits-below t,
-  read-digits.Post,
-) (read-digits-at t) read-digits.Post
+read-digits-add-read-digits : (t : ℕ) → read-digits-lts.Need-add-read-digits (claims t) (read-digits-at t) read-digits.Post
 read-digits-add-read-digits t c = omega arith
 
-read-digits-mul-read-digits : (t : ℕ) → read-digits-lts.Need-mul-read-digits (
-  goes-on-reads.Asked,
-  goes-on-reads.Learnt,
-  read-digits-below t,
-  read-digits.Post,
-) (read-digits-at t) read-digits.Post
+read-digits-mul-read-digits : (t : ℕ) → read-digits-lts.Need-mul-read-digits (claims t) (read-digits-at t) read-digits.Post
 read-digits-mul-read-digits t c =
     let a = c .before .before .before .before .before .args in
     let g = goes-true (a .v) (getD (now (a .text)) (a .at) 0) (sym (c .before .goes-on .ensures) ∙ c .if2 .taken) in
     omega arith
 
-read-digits-sub-read-digits : (t : ℕ) → read-digits-lts.Need-sub-read-digits (
-  goes-on-reads.Asked,
-  goes-on-reads.Learnt,
-  read-digits-below t,
-  read-digits.Post,
-) (read-digits-at t) read-digits.Post
+read-digits-sub-read-digits : (t : ℕ) → read-digits-lts.Need-sub-read-digits (claims t) (read-digits-at t) read-digits.Post
 read-digits-sub-read-digits t c =
     let a = c .before .before .before .before .before .args in
     let g = goes-true (a .v) (getD (now (a .text)) (a .at) 0) (sym (c .before .goes-on .ensures) ∙ c .if2 .taken) in
     omega arith
 
-read-digits-cast-read-digits : (t : ℕ) → read-digits-lts.Need-cast-read-digits (
-  goes-on-reads.Asked,
-  goes-on-reads.Learnt,
-  read-digits-below t,
-  read-digits.Post,
-) (read-digits-at t) read-digits.Post
+read-digits-cast-read-digits : (t : ℕ) → read-digits-lts.Need-cast-read-digits (claims t) (read-digits-at t) read-digits.Post
 read-digits-cast-read-digits t c =
     let a = c .before .before .before .before .before .args in
     let g = goes-true (a .v) (getD (now (a .text)) (a .at) 0) (sym (c .before .goes-on .ensures) ∙ c .if2 .taken) in
     omega arith
 
-read-digits-add-read-digits-2 : (t : ℕ) → read-digits-lts.Need-add-read-digits-2 (
-  goes-on-reads.Asked,
-  goes-on-reads.Learnt,
-  read-digits-below t,
-  read-digits.Post,
-) (read-digits-at t) read-digits.Post
+read-digits-add-read-digits-2 : (t : ℕ) → read-digits-lts.Need-add-read-digits-2 (claims t) (read-digits-at t) read-digits.Post
 read-digits-add-read-digits-2 t c =
     let a = c .before .before .before .before .before .args in
     let g = goes-true (a .v) (getD (now (a .text)) (a .at) 0) (sym (c .before .goes-on .ensures) ∙ c .if2 .taken) in
     omega arith
 
-read-digits-read-digits-requires : (t : ℕ) → read-digits-lts.Need-read-digits-requires (
-  goes-on-reads.Asked,
-  goes-on-reads.Learnt,
-  read-digits-below t,
-  read-digits.Post,
-) (read-digits-at t) read-digits.Post
+read-digits-read-digits-requires : (t : ℕ) → read-digits-lts.Need-read-digits-requires (claims t) (read-digits-at t) read-digits.Post
 read-digits-read-digits-requires t c κs = (omega arith, omega arith)
 
-read-digits-returns : (t : ℕ) → read-digits-lts.Need-returns (
-  goes-on-reads.Asked,
-  goes-on-reads.Learnt,
-  read-digits-below t,
-  read-digits.Post,
-) (read-digits-at t) read-digits.Post
+read-digits-returns : (t : ℕ) → read-digits-lts.Need-returns (claims t) (read-digits-at t) read-digits.Post
 read-digits-returns t c =
     let i = c .before in
     let s = i .before .before .before .before .before in
@@ -121,12 +80,7 @@ read-digits-returns t c =
       between = record { after = omega (arith, r .between .after); within = r .between .within };
     }
 
-read-digits-returns-2 : (t : ℕ) → read-digits-lts.Need-returns-2 (
-  goes-on-reads.Asked,
-  goes-on-reads.Learnt,
-  read-digits-below t,
-  read-digits.Post,
-) (read-digits-at t) read-digits.Post
+read-digits-returns-2 : (t : ℕ) → read-digits-lts.Need-returns-2 (claims t) (read-digits-at t) read-digits.Post
 read-digits-returns-2 t c =
     let s = c .before .before .before .before .before in
     let a = s .args in
@@ -137,12 +91,7 @@ read-digits-returns-2 t c =
       between = record { after = omega arith; within = omega arith };
     }
 
-read-digits-returns-3 : (t : ℕ) → read-digits-lts.Need-returns-3 (
-  goes-on-reads.Asked,
-  goes-on-reads.Learnt,
-  read-digits-below t,
-  read-digits.Post,
-) (read-digits-at t) read-digits.Post
+read-digits-returns-3 : (t : ℕ) → read-digits-lts.Need-returns-3 (claims t) (read-digits-at t) read-digits.Post
 read-digits-returns-3 t c =
     let s = c .before .before in
     let a = s .args in
@@ -154,12 +103,7 @@ read-digits-returns-3 t c =
     }
 
 pub +read-digits-spec : {M : Type 1} → statement M
-+read-digits-spec = close μ-read-digits λ t. read-digits-lts.spec (
-  goes-on-reads.Asked,
-  goes-on-reads.Learnt,
-  read-digits-below t,
-  read-digits.Post,
-)
++read-digits-spec = close μ-read-digits λ t. read-digits-lts.spec (claims t)
     (read-digits-at t)
     read-digits.Post
     (read-digits-shared-slice-read-digit t)
