@@ -10,22 +10,22 @@ use Rattle.reasons.specs.Reasons.{Reason, kindOf, SaysWhy, by-rule, by-none, by
 
 -- A violation: that a rule sends it to 255, or that none matches. These are the reasons whose words stand after the longer beginning.
 abbrev pub IsViolation : Reason → Type 0
-IsViolation q = kindOf q ≤ 2
+IsViolation q = (0 < kindOf q) × (kindOf q ≤ 2)
 
 -- "every output is a violation at once": the outputs are those below n.
 abbrev pub NoneWillDo : Policy → Place → (n x : ℕ) → Type 0
 NoneWillDo p s n x = (y : ℕ) → y < n → step unlimited p s (eventXY x y) ≡ none
 
 why-violation : {p : Policy} {s : Place} {e : Event} {q : Reason} → SaysWhy p s e q → step unlimited p s e ≡ none → IsViolation q
-why-violation (by-rule i d t) v = omega arith
-why-violation (by-none h) v = omega arith
+why-violation (by-rule i d t) v = (omega arith, omega arith)
+why-violation (by-none h) v = (omega arith, omega arith)
 why-violation (by-ticks h t) v = absurd (Option·none-ne-some _ (sym v ∙ h))
 why-violation (by-rests h t) v = absurd (Option·none-ne-some _ (sym v ∙ h))
 
 module _ {p : Policy} {s : Place} {n x : ℕ} where
   pub none-will-do : {q : Reason} → SaysIn p s n x q → IsViolation q → NoneWillDo p s n x × SaysWhy p s (eventXY x 0) q
-  none-will-do (most-rests l h m) v = absurd (omega arith)
-  none-will-do (most-ticks l h m o) v = absurd (omega arith)
+  none-will-do (most-rests l h m) v = absurd (omega (arith, v .1))
+  none-will-do (most-ticks l h m o) v = absurd (omega (arith, v .1))
   none-will-do (at-once h g) v = (h, g)
 
   -- And the other way round.
