@@ -367,6 +367,23 @@ GROOVEPAWN_LOOK_AT_ANSWER
 uint64_t groovepawn_why(uint8_t reading, const uint8_t *file, size_t file_len, const uint8_t *marks, size_t marks_len, const uint16_t *state,
                         size_t state_len, uint8_t x, uint8_t y);
 
+/*
+ * The reasons for a run of events, for a record of many: the counts of all states are made once for the call. reasons[i] is what groovepawn_why
+ * answers for event i in the state that groovepawn_run has before it, with no refusal in its low byte: 0 where neither half is edited. The macros of
+ * groovepawn_why read it. The state moves as with groovepawn_run, so that a long record can be handed over in pieces.
+ * The last eight slices are scratch, each with an entry for each state or more: two tables of 32 bits, the marks as bytes, and five slices of 16 bits.
+ * They may hold anything, and what they hold afterwards is not said.
+ * Refusals 22, 1 to 10, 23 (a work slice has fewer entries than there are states), 14 (reasons has fewer than there are events), 16, 20, 15. 17 never
+ * comes. Returns refusal | events << 8, the number of all events; with a refusal it is 0, and state and reasons stay as given. The work slices are
+ * not written with 22, 1 to 10, 23, 14 and 16. Entries past the events stay.
+ */
+GROOVEPAWN_LOOK_AT_ANSWER
+uint64_t groovepawn_why_run(uint8_t reading, const uint8_t *file, size_t file_len, const uint8_t *marks, size_t marks_len, uint16_t *state,
+                            size_t state_len, const uint8_t *events, size_t events_len, uint64_t *reasons, size_t reasons_len, uint32_t *ticks,
+                            size_t ticks_len, uint32_t *rests, size_t rests_len, uint8_t *prepared, size_t prepared_len, uint16_t *work_1,
+                            size_t work_1_len, uint16_t *work_2, size_t work_2_len, uint16_t *work_3, size_t work_3_len, uint16_t *work_4,
+                            size_t work_4_len, uint16_t *work_5, size_t work_5_len);
+
 #ifdef __cplusplus
 }
 #endif

@@ -39,6 +39,7 @@ use ticks::Rounding;
 pub use viewer::groovepawn_wave_read;
 pub use viewer::groovepawn_wave_write;
 pub use why_call::groovepawn_why;
+pub use why_call::groovepawn_why_run;
 ghost use mathlib.Core.Path.{_≡_};
 ghost use Rattle.streams.specs.Answer.{gives};
 ghost use Rattle.enforcer.specs.Promises.{answerSaid, OutputPromise};
