@@ -28,7 +28,7 @@ use joins::around_join;
 use meter::around_meter;
 use times::around_ticks;
 use waves::around_wave;
-use why::{around_reasons, why_call};
+use why::{around_reasons, why_call, why_run_call};
 use wrong_files::{around_damage, around_prefixes};
 
 /// Group `number` of `seed`; always the same.
@@ -75,6 +75,9 @@ fn around_policy(random: &mut Random) -> Vec<Call> {
     }
     made.push(bays_new_call(random));
     made.push(clean_call(random, &subject));
+    for _ in 0..calls.min(2) {
+        made.push(why_run_call(random, &subject));
+    }
     made
 }
 
@@ -92,6 +95,7 @@ pub fn refusals_of(function: &str) -> Vec<usize> {
     let own: &[usize] = match function {
         "ticks" => return vec![0, 18, 19],
         "check" => &[],
+        "why_run" => &[10, 14, 15, 16, 20, 22, 23],
         "prepare" => &[10, 11, 22],
         "prepare_fast" => &[10, 11, 22, 23],
         "clean" => &[14, 22],

@@ -13,7 +13,7 @@ use crate::parse;
 use crate::refusal::Refusal;
 use crate::ticks::{self, Rounding};
 use crate::waves;
-use crate::why;
+use crate::why::{self, Told};
 
 /// Anything that answers as the library's C functions do: the refusal in the
 /// lowest byte, 0 for none, and above it what the function found.
@@ -81,6 +81,9 @@ pub trait Engine {
 
     /// refusal | states << 8
     fn check(&mut self, file: &[u8]) -> u64;
+
+    /// refusal | events explained << 8
+    fn why_run(&mut self, basis: Basis, state: &mut [u16], events: &[u8], told: Told) -> u64;
 
     /// Whether, since this was last asked, a byte was changed that was not
     /// lent for writing.
@@ -199,16 +202,17 @@ impl Engine for Model {
 
     fn why(&mut self, basis: Basis, state: &[u16], x: u8, y: u8) -> u64 {
         match why::why(basis, state, x, y) {
-            Ok(reasons) => {
-                let [input, output] = reasons.map(|reason| reason.kind() | reason.number() << 8);
-                input << 8 | output << 32
-            }
+            Ok(reasons) => why::word(reasons),
             Err(refusal) => u64::from(refusal.number()),
         }
     }
 
     fn check(&mut self, file: &[u8]) -> u64 {
         packed(parse::check(file).map(|policy| policy.states()))
+    }
+
+    fn why_run(&mut self, basis: Basis, state: &mut [u16], events: &[u8], told: Told) -> u64 {
+        packed(why::why_run(basis, state, events, told).map(|count| count as u64))
     }
 }
 

@@ -8,6 +8,7 @@ use crate::engine::Engine;
 use crate::groovepawn::*;
 use crate::index::Indexed;
 use crate::meter;
+use crate::why::Told;
 
 const GUARD: usize = 16;
 
@@ -26,6 +27,10 @@ impl Cell for u16 {
 
 impl Cell for u32 {
     const GUARD: u32 = 0xA5A5_A5A5;
+}
+
+impl Cell for u64 {
+    const GUARD: u64 = 0xA5A5_A5A5_A5A5_A5A5;
 }
 
 /// A slice lent for reading or for writing.
@@ -218,6 +223,20 @@ impl Engine for Library {
 
     fn check(&mut self, file: &[u8]) -> u64 {
         ask!(self.groovepawn_check[][file][])
+    }
+
+    fn why_run(&mut self, basis: Basis, state: &mut [u16], events: &[u8], told: Told) -> u64 {
+        let (reading, file, marks) = basis.parts();
+        let Told {
+            reasons,
+            ticks,
+            rests,
+            prepared,
+            work,
+        } = told;
+        let [a, b, c, d, e] = work.each_mut().map(Vec::as_mut_slice);
+        ask!(self.groovepawn_why_run[reading]
+            [file, marks, state, events, reasons, ticks, rests, prepared, a, b, c, d, e][])
     }
 
     fn strayed(&mut self) -> bool {

@@ -10,7 +10,7 @@ use crate::cases;
 use crate::engine::{refusal_in, Engine, Model};
 use crate::refusal::LAST_REFUSAL;
 use crate::written;
-pub use parts::{writes_bytes, writes_list, writes_state, writes_totals};
+pub use parts::{writes_bytes, writes_list, writes_reasons, writes_state, writes_totals};
 pub use reader::read;
 pub use writer::{file_of, record};
 
@@ -24,10 +24,12 @@ const LONGEST_FILE: usize = 295_000;
 const LONGEST_POLICY: usize = 8_192;
 /// The longest that any other string, unpacked, may be.
 const LONGEST_STRING: usize = 65_600;
-/// The most numbers of 16 bits that stand together.
+/// The most numbers of 16 bits that stand together, and the longest table.
 const LONGEST_NUMBERS: usize = 136;
 /// The most totals.
 const LONGEST_TOTALS: usize = 4;
+/// The most reasons of a run.
+const LONGEST_REASONS: usize = 40;
 
 /// Those written by hand, then `count` random ones as far as they fit.
 pub fn vectors(count: usize, seed: u64) -> Vec<u8> {
@@ -80,6 +82,8 @@ fn strings_fit(call: &Call) -> bool {
         Given::Numbers(numbers) => numbers.len() <= LONGEST_NUMBERS,
         Given::Work(work) => work.iter().all(|slice| slice.len() <= LONGEST_NUMBERS),
         Given::Totals(totals) => totals.len() <= LONGEST_TOTALS,
+        Given::Longs(longs) => longs.len() <= LONGEST_REASONS,
+        Given::Table(table) => table.len() <= LONGEST_NUMBERS,
         Given::Byte(_) | Given::Pair(_) | Given::Word(_) => true,
     })
 }

@@ -1,6 +1,7 @@
 //! Why a half of an event was edited.
 
 use crate::basis::Basis;
+use crate::call::Work;
 use crate::enforce::{self, Enforcer};
 use crate::graph::{Futures, Graph};
 use crate::moment::Moment;
@@ -80,6 +81,43 @@ impl Tables<'_> {
         let ticks = of_kind(3).max_by_key(|reason| reason.number());
         *rests.or(ticks).unwrap_or(&reasons[0])
     }
+
+    /// The reasons for an event as read, and the moment after it. From a live
+    /// state some event leads to a live one, so 17 never comes.
+    fn explained(
+        &self,
+        enforcer: &Enforcer,
+        moment: &Moment,
+        x: u8,
+        y: u8,
+    ) -> Result<([Reason; 2], Moment), Refusal> {
+        let passed = enforcer.correct_one(moment, x, y);
+        let (passed, released, next) = passed.ok_or(Refusal::NothingReachesLive)?;
+        let input = match passed == x {
+            true => Reason::NotEdited,
+            false => self.against_input(enforcer, moment, x),
+        };
+        let output = match released == y {
+            true => Reason::NotEdited,
+            false => self.against(enforcer, moment, passed, y),
+        };
+        Ok(([input, output], next))
+    }
+}
+
+/// As one number.
+pub fn word(reasons: [Reason; 2]) -> u64 {
+    let [input, output] = reasons.map(|reason| reason.kind() | reason.number() << 8);
+    input << 8 | output << 32
+}
+
+/// "marks that are not those of prepare"; how far each state can go.
+fn futures(graph: &Graph, marks: &[u8]) -> Result<Futures, Refusal> {
+    let right = graph.liveness().marks();
+    if marks[..right.len()] != right {
+        return Err(Refusal::WrongMarks);
+    }
+    Ok(graph.futures())
 }
 
 /// The reasons for the input and for the output. The output is judged with the
@@ -88,30 +126,69 @@ pub fn why(basis: Basis, state: &[u16], x: u8, y: u8) -> Result<[Reason; 2], Ref
     let (reading, policy) = enforce::read(basis)?;
     let enforcer = Enforcer::new(&policy, reading, basis.marks)?;
     let moment = enforcer.read_state(state)?;
-    let graph = Graph::new(&policy, reading);
-    let right = graph.liveness().marks();
-    if basis.marks[..right.len()] != right {
-        return Err(Refusal::WrongMarks);
-    }
+    let futures = futures(&Graph::new(&policy, reading), basis.marks)?;
     enforce::check_bits(x, policy.input_mask())?;
     enforce::check_bits(y, policy.output_mask())?;
-    let passed = enforcer.correct_one(&moment, x, y);
-    // From a live state some event leads to a live one, so 17 never comes.
-    let (passed, released, _) = passed.ok_or(Refusal::NothingReachesLive)?;
     let tables = Tables {
         policy: &policy,
         reading,
-        futures: graph.futures(),
+        futures,
     };
-    let input = match passed == x {
-        true => Reason::NotEdited,
-        false => tables.against_input(&enforcer, &moment, x),
+    Ok(tables.explained(&enforcer, &moment, x, y)?.0)
+}
+
+/// What reasons for a run are lent beside the state: the slice for them, and
+/// those to work in.
+pub struct Told<'a> {
+    pub reasons: &'a mut [u64],
+    pub ticks: &'a mut [u32],
+    pub rests: &'a mut [u32],
+    pub prepared: &'a mut [u8],
+    pub work: &'a mut Work,
+}
+
+impl Told<'_> {
+    /// The entries of the shortest slice to work in.
+    fn room(&self) -> usize {
+        let tables = [self.ticks.len(), self.rests.len(), self.prepared.len()];
+        let lengths = tables.into_iter().chain(self.work.iter().map(Vec::len));
+        lengths.min().expect("there are eight")
+    }
+}
+
+/// The reasons for each event of a run at the moment that the run has there,
+/// each pair as one number. The state is then that of the run.
+pub fn why_run(
+    basis: Basis,
+    state: &mut [u16],
+    events: &[u8],
+    told: Told,
+) -> Result<usize, Refusal> {
+    let (reading, policy) = enforce::read(basis)?;
+    let enforcer = Enforcer::new(&policy, reading, basis.marks)?;
+    if (told.room() as u64) < policy.states() {
+        return Err(Refusal::WorkTooShort);
+    }
+    if told.reasons.len() < events.len() {
+        return Err(Refusal::SliceTooShort);
+    }
+    let mut moment = enforcer.read_state(state)?;
+    let futures = futures(&Graph::new(&policy, reading), basis.marks)?;
+    for &event in events {
+        enforce::check_bits(event, policy.event_mask())?;
+    }
+    let tables = Tables {
+        policy: &policy,
+        reading,
+        futures,
     };
-    let output = match released == y {
-        true => Reason::NotEdited,
-        false => tables.against(&enforcer, &moment, passed, y),
-    };
-    Ok([input, output])
+    for (place, event) in told.reasons.iter_mut().zip(events) {
+        let (reasons, next) = tables.explained(&enforcer, &moment, event & 15, event >> 4)?;
+        *place = word(reasons);
+        moment = next;
+    }
+    enforcer.write_state(state, &moment);
+    Ok(events.len())
 }
 
 #[cfg(test)]

@@ -17,6 +17,7 @@ mod runs;
 mod times;
 mod waves;
 mod why;
+mod why_run;
 mod wrong_files;
 
 use crate::call::{call, Asked, Call, Outcome};
@@ -43,6 +44,12 @@ impl Written {
     /// The same, with the totals that are then expected.
     fn with_totals(mut self, totals: &[u32]) -> Written {
         self.expected.totals = totals.to_vec();
+        self
+    }
+
+    /// The same, with the reasons that are then expected.
+    fn with_reasons(mut self, reasons: &[u64]) -> Written {
+        self.expected.reasons = reasons.to_vec();
         self
     }
 
@@ -77,6 +84,7 @@ pub fn all() -> Vec<Written> {
         annex::all(),
         clean::all(),
         why::all(),
+        why_run::all(),
         check::all(),
         wrong_files::all(),
         times::all(),
@@ -138,7 +146,7 @@ mod tests {
             assert!(seen.iter().any(|function| function[number]), "{number}");
         }
         // Those that take a reading.
-        for kind in [0, 1, 2, 3, 9, 10, 12, 13, 15, 16, 17, 18, 19] {
+        for kind in [0, 1, 2, 3, 9, 10, 12, 13, 15, 16, 17, 18, 19, 21] {
             assert!(seen[kind][22]);
         }
         // Those a half or a run can give beside the nine of a file.

@@ -5,7 +5,7 @@ use crate::call::{Outcome, FUNCTIONS};
 use crate::engine::refusal_in;
 use crate::random::Random;
 use crate::vectors::{
-    chosen, file_of, record, writes_bytes, writes_list, writes_state, writes_totals,
+    chosen, file_of, record, writes_bytes, writes_list, writes_reasons, writes_state, writes_totals,
 };
 
 /// A call whose record is longer than this is left out.
@@ -19,14 +19,16 @@ enum Part {
     State,
     Totals,
     List,
+    Reasons,
 }
 
-const PARTS: [Part; 5] = [
+const PARTS: [Part; 6] = [
     Part::Answer,
     Part::Bytes,
     Part::State,
     Part::Totals,
     Part::List,
+    Part::Reasons,
 ];
 
 impl Part {
@@ -37,6 +39,7 @@ impl Part {
             Part::State => writes_state(kind),
             Part::Totals => writes_totals(kind),
             Part::List => writes_list(kind),
+            Part::Reasons => writes_reasons(kind),
         }
     }
 
@@ -48,6 +51,7 @@ impl Part {
             Part::State => outcome.state.len(),
             Part::Totals => outcome.totals.len(),
             Part::List => outcome.struck.len(),
+            Part::Reasons => outcome.reasons.len(),
         }
     }
 
@@ -59,6 +63,7 @@ impl Part {
             Part::State => outcome.state[place] ^= 1 << random.below(16),
             Part::Totals => outcome.totals[place] ^= 1 << random.below(32),
             Part::List => outcome.struck[place] ^= 1 << random.below(8),
+            Part::Reasons => outcome.reasons[place] ^= 1 << random.below(64),
         }
     }
 }
@@ -117,12 +122,15 @@ mod tests {
         let totals = one.totals.iter().zip(&other.totals);
         assert_eq!(one.struck.len(), other.struck.len());
         let struck = one.struck.iter().zip(&other.struck);
+        assert_eq!(one.reasons.len(), other.reasons.len());
+        let reasons = one.reasons.iter().zip(&other.reasons);
         [
             (one.answer ^ other.answer).count_ones(),
             bytes.map(|(a, b)| (a ^ b).count_ones()).sum(),
             state.map(|(a, b)| (a ^ b).count_ones()).sum(),
             totals.map(|(a, b)| (a ^ b).count_ones()).sum(),
             struck.map(|(a, b)| (a ^ b).count_ones()).sum(),
+            reasons.map(|(a, b)| (a ^ b).count_ones()).sum(),
         ]
     }
 
@@ -189,6 +197,9 @@ mod tests {
             "clean List",
             "why Answer",
             "check Answer",
+            "why_run Answer",
+            "why_run State",
+            "why_run Reasons",
         ];
         assert_eq!(named, expected);
     }

@@ -86,6 +86,10 @@ calls! {
     Clean "clean": reading Byte, file Policy, cleaned Policy before, struck Policy before;
     Why "why": reading Byte, file Policy, marks Bytes, state Numbers, x Byte, y Byte;
     Check "check": file Policy;
+    WhyRun "why_run":
+        reading Byte, file Policy, marks Bytes, state Numbers before,
+        events Bytes, reasons Longs before, ticks Table, rests Table,
+        prepared Bytes, work Work;
 }
 
 /// Declares the kinds of what a function is given: as it stands in a call, as
@@ -120,9 +124,14 @@ kinds! {
     Numbers: Vec<u16>;
     /// The totals of a meter.
     Totals: Vec<u32>;
-    /// The work slices of the second engine. What they hold afterwards is not
-    /// said.
+    /// The work slices of the second engine, of which reasons for a run take
+    /// five too. What they hold afterwards is not said.
     Work: [Vec<u16>; 5];
+    /// The reasons of a run.
+    Longs: Vec<u64>;
+    /// A table that reasons for a run work in. What it holds afterwards is not
+    /// said.
+    Table: Vec<u32>;
 }
 
 pub use kinds::Work;

@@ -24,6 +24,14 @@ impl Call {
         }
     }
 
+    /// The slice for reasons, as it is before.
+    pub fn lent_reasons(&self) -> &[u64] {
+        match self {
+            Call::WhyRun { reasons, .. } => reasons,
+            _ => &[],
+        }
+    }
+
     /// The totals lent for writing, as they are before.
     pub fn lent_totals(&self) -> &[u32] {
         match self {
@@ -38,6 +46,7 @@ impl Call {
         match self {
             Call::Output { state, .. }
             | Call::Run { state, .. }
+            | Call::WhyRun { state, .. }
             | Call::OutputIndexed { state, .. } => state,
             Call::Index { index, .. } => index,
             Call::BaysNew { states } | Call::BayOutput { states, .. } => states,

@@ -2,6 +2,7 @@
 
 use super::Call;
 use crate::engine::Engine;
+use crate::why::Told;
 
 /// An answer and the later contents of what was lent for writing.
 #[derive(Clone, Debug, Default, PartialEq, Eq)]
@@ -11,13 +12,15 @@ pub struct Outcome {
     /// the text of the wave writer, the events of its reader, the cleaned file;
     /// otherwise empty.
     pub bytes: Vec<u8>,
-    /// The state of output and run, the index, the states of the bays, the
+    /// The state of output and both runs, the index, the states of the bays, the
     /// station of a meter; otherwise empty.
     pub state: Vec<u16>,
     /// The totals of a meter; otherwise empty.
     pub totals: Vec<u32>,
     /// The list of what a cleaning struck out; otherwise empty.
     pub struck: Vec<u8>,
+    /// The reasons of a run; otherwise empty.
+    pub reasons: Vec<u64>,
     /// A byte not lent for writing was changed.
     pub strayed: bool,
 }
@@ -30,6 +33,7 @@ impl Call {
         let mut numbers = self.lent_state().to_vec();
         let mut totals = self.lent_totals().to_vec();
         let mut struck = self.lent_list().to_vec();
+        let mut reasons = self.lent_reasons().to_vec();
         let answer = match self {
             Call::Prepare { .. } => engine.prepare(reading, file, &mut bytes),
             Call::Input { state, x, .. } => engine.input(basis, state, *x),
@@ -74,6 +78,23 @@ impl Call {
             Call::Clean { .. } => engine.clean(reading, file, &mut bytes, &mut struck),
             Call::Why { state, x, y, .. } => engine.why(basis, state, *x, *y),
             Call::Check { .. } => engine.check(file),
+            Call::WhyRun {
+                events,
+                ticks,
+                rests,
+                prepared,
+                work,
+                ..
+            } => {
+                let told = Told {
+                    reasons: &mut reasons,
+                    ticks: &mut ticks.clone(),
+                    rests: &mut rests.clone(),
+                    prepared: &mut prepared.clone(),
+                    work: &mut work.clone(),
+                };
+                engine.why_run(basis, &mut numbers, events, told)
+            }
         };
         Outcome {
             answer,
@@ -81,6 +102,7 @@ impl Call {
             state: numbers,
             totals,
             struck,
+            reasons,
             strayed: engine.strayed(),
         }
     }

@@ -17,6 +17,8 @@ impl fmt::Display for Call {
                 }
                 Given::Numbers(numbers) => writeln!(out, "{name} {numbers:?}")?,
                 Given::Totals(totals) => writeln!(out, "{name} {totals:?}")?,
+                Given::Longs(longs) => writeln!(out, "{name} {longs:x?}")?,
+                Given::Table(table) => writeln!(out, "{name} {table:?}")?,
                 Given::Work(work) => {
                     for (place, slice) in work.iter().enumerate() {
                         writeln!(out, "{name} {} {slice:?}", place + 1)?;
@@ -39,6 +41,7 @@ impl fmt::Display for Outcome {
         writeln!(out, "state after {:?}", self.state)?;
         writeln!(out, "totals after {:?}", self.totals)?;
         writeln!(out, "struck after {}", hex(&self.struck))?;
+        writeln!(out, "reasons after {:x?}", self.reasons)?;
         writeln!(
             out,
             "changed what was not lent for writing: {}",

@@ -6,7 +6,7 @@ use super::engines::prepare_fast_call;
 use super::halves::{input_call, output_call, run_call};
 use super::indexes::{index_call, indexed_call};
 use super::waves::Wave;
-use super::why::why_call;
+use super::why::{why_call, why_run_call};
 use crate::call::Call;
 use crate::damage;
 use crate::policies::{self, Size};
@@ -42,6 +42,10 @@ pub fn around_damage(random: &mut Random) -> Vec<Call> {
         made.push(clean_call(random, &subject).with_file(file.clone()));
         made.push(why_call(random, &subject).with_file(file.clone()));
         made.push(Call::Check { file });
+    }
+    for _ in 0..3 {
+        let file = damage::damaged(random, &subject.policy);
+        made.push(why_run_call(random, &subject).with_file(file));
     }
     made
 }

@@ -18,6 +18,7 @@ use crate::call::Work;
 use crate::engine::{Engine, Model};
 use crate::index::Indexed;
 use crate::meter::Lent;
+use crate::why::Told;
 pub use faults::{Fault, FAULTS};
 
 pub struct Spoilt {
@@ -61,6 +62,7 @@ impl Engine for Spoilt {
         meter::meter_output(basis: Basis, lent: Lent, register: u16, x: u8, y: u8);
         clean::clean(reading: u8, file: &[u8], cleaned: &mut [u8], struck: &mut [u8]);
         why::why(basis: Basis, state: &[u16], x: u8, y: u8);
+        why::why_run(basis: Basis, state: &mut [u16], events: &[u8], told: Told);
     }
 
     fn ticks(&mut self, milliseconds: u32, tick_length: u32, up: u8) -> u64 {

@@ -1,6 +1,6 @@
 //! Reads a file of stored cases.
 
-use super::parts::{writes_bytes, writes_list, writes_state, writes_totals};
+use super::parts::{writes_bytes, writes_list, writes_reasons, writes_state, writes_totals};
 use super::MAGIC;
 use crate::call::{Call, Outcome, Place};
 
@@ -60,6 +60,11 @@ impl<'a> Reader<'a> {
         (0..length).map(|_| Ok(self.number(4)? as u32)).collect()
     }
 
+    fn longs(&mut self) -> Result<Vec<u64>, String> {
+        let length = self.byte()?;
+        (0..length).map(|_| self.number(8)).collect()
+    }
+
     fn call(&mut self, kind: u8) -> Result<Call, String> {
         let blank = usize::from(kind).checked_sub(1).and_then(Call::blank);
         let mut call = blank.ok_or(BROKEN)?;
@@ -70,7 +75,8 @@ impl<'a> Reader<'a> {
                 Place::Word(word) => *word = self.number(4)? as u32,
                 Place::Policy(bytes) | Place::Bytes(bytes) => *bytes = self.string()?,
                 Place::Numbers(numbers) => *numbers = self.numbers()?,
-                Place::Totals(totals) => *totals = self.totals()?,
+                Place::Totals(totals) | Place::Table(totals) => *totals = self.totals()?,
+                Place::Longs(longs) => *longs = self.longs()?,
                 Place::Work(work) => {
                     for numbers in work {
                         *numbers = self.numbers()?;
@@ -97,6 +103,9 @@ impl<'a> Reader<'a> {
         }
         if writes_list(kind) {
             outcome.struck = self.string()?;
+        }
+        if writes_reasons(kind) {
+            outcome.reasons = self.longs()?;
         }
         Ok(outcome)
     }

@@ -1,6 +1,6 @@
 //! Writes a file of stored cases.
 
-use super::parts::{writes_bytes, writes_list, writes_state, writes_totals};
+use super::parts::{writes_bytes, writes_list, writes_reasons, writes_state, writes_totals};
 use super::MAGIC;
 use crate::call::{Call, Given, Outcome};
 
@@ -30,7 +30,8 @@ fn body(call: &Call, outcome: &Outcome) -> Vec<u8> {
             Given::Word(word) => put_number(&mut body, *word as usize),
             Given::Policy(bytes) | Given::Bytes(bytes) => put_string(&mut body, bytes),
             Given::Numbers(numbers) => put_numbers(&mut body, numbers),
-            Given::Totals(totals) => put_totals(&mut body, totals),
+            Given::Totals(totals) | Given::Table(totals) => put_totals(&mut body, totals),
+            Given::Longs(longs) => put_longs(&mut body, longs),
             Given::Work(work) => work.iter().for_each(|slice| put_numbers(&mut body, slice)),
         }
     }
@@ -46,6 +47,9 @@ fn body(call: &Call, outcome: &Outcome) -> Vec<u8> {
     }
     if writes_list(call.kind()) {
         put_string(&mut body, &outcome.struck);
+    }
+    if writes_reasons(call.kind()) {
+        put_longs(&mut body, &outcome.reasons);
     }
     body
 }
@@ -65,6 +69,13 @@ fn put_totals(out: &mut Vec<u8>, totals: &[u32]) {
     out.push(totals.len() as u8);
     for &total in totals {
         put_number(out, total as usize);
+    }
+}
+
+fn put_longs(out: &mut Vec<u8>, longs: &[u64]) {
+    out.push(longs.len() as u8);
+    for long in longs {
+        out.extend(long.to_be_bytes());
     }
 }
 

@@ -91,6 +91,18 @@ fn calls() -> Vec<Call> {
         },
         call!(Why, asked(1), state: state(), y: 1),
         Call::Check { file: file() },
+        Call::WhyRun {
+            reading,
+            file: file(),
+            marks: vec![1, 0],
+            state: state(),
+            events: vec![1, 17],
+            reasons: vec![7; 3],
+            ticks: vec![7; 2],
+            rests: vec![7; 2],
+            prepared: vec![FILLER; 2],
+            work: [0, 1, 2, 3, 4].map(|_| vec![7; 2]),
+        },
     ]
 }
 
@@ -99,8 +111,10 @@ fn refused(number: u64, call: Call) -> Written {
     let (bytes, state) = (call.lent_bytes().to_vec(), call.lent_state().to_vec());
     let totals = call.lent_totals().to_vec();
     let list = call.lent_list().to_vec();
+    let reasons = call.lent_reasons().to_vec();
     let refused = written(&name, call, number, bytes, state);
-    refused.with_totals(&totals).with_list(&list)
+    let refused = refused.with_totals(&totals).with_list(&list);
+    refused.with_reasons(&reasons)
 }
 
 #[cfg(test)]

@@ -97,4 +97,8 @@ faults! {
     LowestOutputOnly
     OutputJudgedWithXAsRead
     ReasonForWhatIsNotEdited
+    StateIsNotCarriedOn
+    StateBeforeRoom
+    ReasonsPastTheEvents
+    EventsBeforeMarks
 }

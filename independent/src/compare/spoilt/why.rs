@@ -5,6 +5,7 @@ use crate::basis::Basis;
 use crate::engine::{refusal_in, Engine, Model};
 use crate::index;
 use crate::parse;
+use crate::why::Told;
 
 pub fn why(spoilt: &Spoilt, basis: Basis, state: &[u16], x: u8, y: u8) -> u64 {
     let answer = Model.why(basis, state, x, y);
@@ -33,6 +34,42 @@ pub fn why(spoilt: &Spoilt, basis: Basis, state: &[u16], x: u8, y: u8) -> u64 {
             answer & 0xFFFF_FFFF | input << 32 | (answer >> 16 & 0xFFFF) << 40
         }
         Fault::ReasonForWhatIsNotEdited if output == 0 => answer | 2 << 32,
+        _ => answer,
+    }
+}
+
+pub fn why_run(spoilt: &Spoilt, basis: Basis, state: &mut [u16], events: &[u8], told: Told) -> u64 {
+    let before = state.to_vec();
+    let mut reasons = told.reasons.to_vec();
+    let lent = Told {
+        reasons: &mut reasons,
+        ticks: told.ticks,
+        rests: told.rests,
+        prepared: told.prepared,
+        work: told.work,
+    };
+    let answer = Model.why_run(basis, state, events, lent);
+    let one = |event: &u8| Model.why(basis, &before, event & 15, event >> 4);
+    match spoilt.fault {
+        Fault::StateIsNotCarriedOn if refusal_in(answer) == 0 => {
+            let places = reasons.iter_mut().zip(events);
+            places.for_each(|(place, event)| *place = one(event));
+        }
+        Fault::ReasonsPastTheEvents if refusal_in(answer) == 0 => {
+            reasons[events.len()..].fill(0);
+        }
+        _ => {}
+    }
+    told.reasons.copy_from_slice(&reasons);
+    match (spoilt.fault, answer) {
+        (Fault::StateBeforeRoom, 23) if one(&0) == 16 => 16,
+        (Fault::EventsBeforeMarks, 20) => {
+            let mask = parse::check(basis.file).expect("it was read").event_mask();
+            match events.iter().any(|event| event & !mask != 0) {
+                true => 15,
+                false => 20,
+            }
+        }
         _ => answer,
     }
 }
