@@ -23,6 +23,9 @@ enum { STATION = GROOVEPAWN_STATION_LEN, TOTALS = GROOVEPAWN_TOTALS_LEN };
 static uint16_t state[NUMBERS], index_of_file[INDEX], bays[BAYS * NUMBERS], station[STATION];
 static uint32_t totals[TOTALS];
 static uint16_t work[5][STATES];
+static uint32_t tables[2][STATES];
+static uint8_t prepared[STATES];
+static uint64_t reasons[EVENTS];
 static uint8_t reading;
 
 /* 256 rules at location 0 that hold and each take one event, over 4 clocks; those to location 1, which has no rules, lead nowhere. */
@@ -56,6 +59,7 @@ static const uint8_t any[] = {4, 'P', 'B', 'C', 'A', 4, 'D', 'F', 'G', 'H', 0, 1
 
 static uint64_t answer;
 static void nothing(void) { answer = 0; }
+static void check(void) { answer = groovepawn_check(file, length); }
 static void prepare(void) { answer = groovepawn_prepare(reading, file, length, marks, STATES); }
 static void prepare_fast(void) {
     answer = groovepawn_prepare_fast(reading, file, length, marks, STATES, work[0], STATES, work[1], STATES, work[2], STATES, work[3], STATES, work[4],
@@ -67,6 +71,10 @@ static void run(void) { answer = groovepawn_run(reading, file, length, marks, ST
 static void join(void) { answer = groovepawn_join(file, length, any, sizeof any, joined, sizeof joined); }
 static void clean(void) { answer = groovepawn_clean(reading, file, length, cleaned, sizeof cleaned, struck, sizeof struck); }
 static void why(void) { answer = groovepawn_why(reading, file, length, marks, STATES, state, NUMBERS, 0, 0); }
+static void why_run(void) {
+    answer = groovepawn_why_run(reading, file, length, marks, STATES, state, NUMBERS, quiet, EVENTS, reasons, EVENTS, tables[0], STATES, tables[1], STATES,
+                                prepared, STATES, work[0], STATES, work[1], STATES, work[2], STATES, work[3], STATES, work[4], STATES);
+}
 static void ticks(void) { answer = groovepawn_ticks(12345, 100, 1); }
 static void wave_write(void) { text_length = (answer = groovepawn_wave_write(file, length, restless, EVENTS, text, TEXT)) >> 8; }
 static void wave_read(void) { answer = groovepawn_wave_read(file, length, text, text_length, events, EVENTS); }
@@ -82,12 +90,13 @@ static void meter_input(void) { answer = groovepawn_meter_input(reading, file, l
 static void meter_output(void) { answer = groovepawn_meter_output(reading, file, length, marks, STATES, station, STATION, totals, TOTALS, 4, 15, 0); }
 
 static const struct { const char *name; void (*call)(void); } calls[] = {
-    {"groovepawn_prepare", prepare}, {"groovepawn_prepare_fast", prepare_fast}, {"groovepawn_index", build},
+    {"groovepawn_check", check}, {"groovepawn_prepare", prepare}, {"groovepawn_prepare_fast", prepare_fast}, {"groovepawn_index", build},
     {"groovepawn_input", input}, {"groovepawn_output", output}, {"groovepawn_run", run},
     {"groovepawn_input_indexed", input_indexed}, {"groovepawn_output_indexed", output_indexed},
     {"groovepawn_bays_new", bays_new}, {"groovepawn_bay_input", bay_input}, {"groovepawn_bay_output", bay_output},
     {"groovepawn_meter_new", meter_new}, {"groovepawn_meter_input", meter_input}, {"groovepawn_meter_output", meter_output},
-    {"groovepawn_join", join}, {"groovepawn_clean", clean}, {"groovepawn_why", why}, {"groovepawn_ticks", ticks},
+    {"groovepawn_join", join}, {"groovepawn_clean", clean}, {"groovepawn_why", why}, {"groovepawn_why_run", why_run},
+    {"groovepawn_ticks", ticks},
     {"groovepawn_wave_write", wave_write}, {"groovepawn_wave_read", wave_read},
 };
 enum { CALLS = sizeof calls / sizeof *calls };

@@ -52,6 +52,7 @@ use meter::Lent;
 // The modules of the model name each other from the root.
 use model::*;
 use std::process::ExitCode;
+use why::Told;
 
 const USAGE: &str = "usage: agree GROUPS SEED\n       agree cleanings";
 
@@ -130,5 +131,6 @@ impl Engine for Side<'_> {
         prepare_fast(reading: u8, file: &[u8], marks: &mut [u8], work: &mut Work);
         clean(reading: u8, file: &[u8], cleaned: &mut [u8], struck: &mut [u8]);
         why(basis: Basis, state: &[u16], x: u8, y: u8);
+        why_run(basis: Basis, state: &mut [u16], events: &[u8], told: Told);
     }
 }

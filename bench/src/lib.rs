@@ -28,5 +28,6 @@ mod random;
 mod ready;
 pub mod report;
 pub mod streams;
+pub mod why_runs;
 pub mod whys;
 pub mod work;

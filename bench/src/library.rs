@@ -115,3 +115,38 @@ pub fn output_indexed(basis: Basis, index: &[u16], state: &mut [u16], x: u8, y: 
     let (reading, file, marks) = basis.parts();
     ask!(groovepawn_output_indexed[reading][file, index, marks, state][x, y])
 }
+
+/// What reasons for a run work in.
+pub struct Room {
+    ticks: Vec<u32>,
+    rests: Vec<u32>,
+    prepared: Vec<u8>,
+    work: [Vec<u16>; 5],
+}
+
+impl Room {
+    pub fn new(states: usize) -> Room {
+        Room {
+            ticks: vec![0; states],
+            rests: vec![0; states],
+            prepared: vec![0; states],
+            work: [0; 5].map(|_: u8| vec![0; states]),
+        }
+    }
+}
+
+/// Why the halves of each event of a run are edited.
+pub fn why_run(
+    basis: Basis,
+    state: &mut [u16],
+    events: &[u8],
+    reasons: &mut [u64],
+    room: &mut Room,
+) -> u64 {
+    let (reading, file, marks) = basis.parts();
+    let (ticks, rests) = (&mut room.ticks[..], &mut room.rests[..]);
+    let prepared = &mut room.prepared[..];
+    let [a, b, c, d, e] = room.work.each_mut().map(Vec::as_mut_slice);
+    ask!(groovepawn_why_run[reading]
+        [file, marks, state, events, reasons, ticks, rests, prepared, a, b, c, d, e][])
+}

@@ -6,7 +6,9 @@ use bench::cleanings::{self, CLEANED};
 use bench::engine::{Engine, Plain};
 use bench::maker::Maker;
 use bench::streams::{Stream, Wave, STREAMS, WAVES};
-use bench::{cases, command, engines, indexes, instructions, measure, report, whys, work};
+use bench::{
+    cases, command, engines, indexes, instructions, measure, report, why_runs, whys, work,
+};
 use std::process::ExitCode;
 
 fn main() -> ExitCode {
@@ -21,6 +23,7 @@ fn perform(words: &[&str]) -> Result<(), String> {
         ["indexed"] => compare_indexed(),
         ["why"] => compare_why(""),
         ["why", policy] => compare_why(policy),
+        ["why_run"] => compare_why_run(),
         ["instructions", side, ticks] => count(side, ticks, STREAMS[0].name, instructions::run),
         ["instructions", side, ticks, stream] => count(side, ticks, stream, instructions::run),
         ["instructions", side, calls, stream, "input"] => {
@@ -47,7 +50,7 @@ fn usage() -> String {
     let policies = PREPARED.iter().chain(&CLEANED);
     let policies: Vec<&str> = policies.map(|policy| policy.name).collect();
     format!(
-        "usage:\n  bench\n  bench engines [POLICY]\n  bench indexed\n  bench why [POLICY]\n  bench instructions plain|library TICKS [STREAM]\n  \
+        "usage:\n  bench\n  bench engines [POLICY]\n  bench indexed\n  bench why [POLICY]\n  bench why_run\n  bench instructions plain|library TICKS [STREAM]\n  \
          bench instructions plain|library CALLS STREAM input|output\n  \
          bench instructions plain|library CALLS WAVE write|read\n  \
          bench instructions plain|library CALLS POLICY prepare\n  \
@@ -94,6 +97,12 @@ fn compare_indexed() -> Result<(), String> {
     for row in indexes::rows()? {
         println!("{row}");
     }
+    Ok(())
+}
+
+/// Reasons for a run, beside the run alone.
+fn compare_why_run() -> Result<(), String> {
+    println!("{}\n{}", why_runs::heading(), why_runs::row()?);
     Ok(())
 }
 
