@@ -51,17 +51,24 @@ crates = {crate for crate, _ in modules} | {path.split("/")[1] for path in glob.
 code = code_names()
 CODE_ANYWHERE = {name for _, name in code}
 C_NAMES = {name for path in glob.glob("include/*.h") for name in re.findall(r"\b\w*(?:groovepawn|GROOVEPAWN)_\w+", open(path).read())}
-# Words of the language, and the mark at the head of a file of stored cases.
-LANGUAGE = set("ensures requires unfolding pub self const static inline u8 u16 u32 u64 usize main memset GPV2".split())
+# Words of the language, of the toolchain and of the system, and the mark at the head of a file of stored cases.
+LANGUAGE = set("ensures requires unfolding pub self const static inline u8 u16 u32 u64 usize main rt memset fstat ftruncate GPV2".split())
+LIBRARY = ("std", "os", "io", "libc")
 
 
 def spans(line):
-    """What a line cites: (crate, module, name, dotted), the crate and module as they stand at that point of the line: crate: `Module.name`, `name`, .."""
+    """What a line cites: (crate, module, name, dotted), the crate and module as they stand at that point of the line: crate: `Module.name`, `name`, ..
+    A crate that is named in parentheses is named for what stands in them."""
     crate = key = None
-    for word in re.finditer(r"(\w+): (?=`)|`([^`]+)`", line):
-        if word[1]:
-            if word[1] in crates:
-                crate, key = word[1], None
+    outside = []
+    for word in re.finditer(r"(\w+): (?=`)|`([^`]+)`|[()]", line):
+        if word[0] == "(":
+            outside.append((crate, key))
+        elif word[0] == ")":
+            crate, key = outside.pop() if outside else (crate, key)
+        elif word[1] in crates:
+            crate, key = word[1], None
+        if not word[2]:
             continue
         dotted = re.match(r"([A-Z]\w*)\.([^\s.]+)$", word[2])
         if crate and dotted:
@@ -195,7 +202,7 @@ def is_there(crate, key, name, dotted):
         return name in crates or path_there(name)
     if "::" in name:
         first, *rest = name.split("::")
-        return first == "std" or all(declared_in(first if first in crates else None, each) for each in ([] if first in crates else [first]) + rest)
+        return first in LIBRARY or all(declared_in(first if first in crates else None, each) for each in ([] if first in crates else [first]) + rest)
     if name in C_NAMES or (name.startswith("_") and "groovepawn" + name in C_NAMES):
         return True
     if key and home_of(key, name):
