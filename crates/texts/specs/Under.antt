@@ -17,6 +17,18 @@ pub record LinesUnder (before : List ℕ) (at : ℕ) (all : List ℕ) (next : �
 pub under-start : (before : List ℕ) (at : ℕ) (all : List ℕ) → LinesUnder before at all at before all
 under-start before at all = record { done = []; wrote = wrote-none before at; whole = refl; same = refl }
 
+-- A part more is written.
+pub under-on : {before : List ℕ} {at : ℕ} {all : List ℕ} {next : ℕ} {now rest piece more : List ℕ} {r : ℕ} {after : List ℕ} → at ≤ length before →
+    LinesUnder before at all next now rest → rest ≡ piece ++ more → Wrote now next piece r after → length after ≡ length now →
+    LinesUnder before at all r after more
+under-on {piece = piece} {more = more} h u e w l =
+    record {
+      done = u .done ++ piece;
+      wrote = wrote-then h (u .wrote) w;
+      whole = u .whole ∙ ap (λ (z : List ℕ). u .done ++ z) e ∙ sym (append-assoc (u .done) piece more);
+      same = l ∙ u .same;
+    }
+
 module _ {before : List ℕ} {at : ℕ} {all : List ℕ} (room : at + length all ≤ length before) {next : ℕ} {now rest : List ℕ}
     (u : LinesUnder before at all next now rest) where
   -- There is room for the next part.
@@ -27,13 +39,7 @@ module _ {before : List ℕ} {at : ℕ} {all : List ℕ} (room : at + length all
   -- It is written.
   pub under-more : {piece more : List ℕ} {r : ℕ} {after : List ℕ} → rest ≡ piece ++ more → Wrote now next piece r after → length after ≡ length now →
       LinesUnder before at all r after more
-  under-more {piece} {more} e w l =
-      record {
-        done = u .done ++ piece;
-        wrote = wrote-then (omega arith) (u .wrote) w;
-        whole = u .whole ∙ ap (λ (z : List ℕ). u .done ++ z) e ∙ sym (append-assoc (u .done) piece more);
-        same = l ∙ u .same;
-      }
+  under-more e w l = under-on (omega arith) u e w l
 
   -- The rest is the last part.
   pub under-last : {r : ℕ} {after : List ℕ} → Wrote now next rest r after → Wrote before at all r after

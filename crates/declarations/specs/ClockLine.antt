@@ -1,0 +1,177 @@
+-- A clock's line, by what was found of it.
+use mathlib.Core.Path.{_≡_, refl, ap, sym, _∙_}
+use mathlib.Core.Bool.{Bool, true, false, cond}
+use mathlib.Core.List.{List, [], _∷_, _++_}
+use mathlib.Core.Option.{Option, none, some}
+use Prim.Native.Nat.{ℕ, zero, suc, _+_, _-_, _≤_, _<_}
+use native.Mathlib.Omega.{arith}
+use lib.Dec.{leb, ltb}
+use lib.ListN.{length, take, drop, set, length-set}
+use borrow.Author.Tests.{lt-ltb, le-ltb, le-leb, lt-leb, ltb-true}
+use Rattle.streams.specs.Answer.{Answer, refused, gives, answer, unless, _orElse_}
+use Rattle.policy.specs.Rules.{Rule}
+use Rattle.policy.specs.Check.{ceilingGood}
+use Rattle.policy.specs.File.{part}
+use Rattle.wording.specs.Words.{Word, Line}
+use Rattle.wording.specs.Names.{find, isName, must, free, numbered, _andThen_}
+use Rattle.words.specs.Counted.{numberOf, numbered-then}
+use Rattle.words.specs.Spans.{spans, Within}
+use Rattle.wording.specs.Reader.{Draft, clockLine}
+use Rattle.words.specs.Firsts.{Shaped}
+use Rattle.declarations.specs.Fresh.{nameRefusal, refuse, clock-new, spans-long, spans-more, within-more, take-more}
+use Rattle.declarations.specs.Table.{draftOf, lineSaid, Fit}
+use Rattle.declarations.specs.declared.table.Table.{Table}
+
+abbrev pub withClock : Draft → Word → ℕ → Draft
+withClock d w c =
+    record {
+      inputs = d .inputs;
+      outputs = d .outputs;
+      names = d .names;
+      clocks = d .clocks ++ (w ∷ []);
+      ceilings = d .ceilings ++ (c ∷ []);
+      places = d .places;
+      left = d .left;
+      rules = d .rules;
+      stage = 3;
+      source = d .source;
+    }
+
+abbrev pub clockRefusal : ℕ → ℕ → ℕ
+clockRefusal c n = unless (ceilingGood c) 4 orElse unless (ltb n 4) 33
+
+pub ceiling-none : (c n : ℕ) → c < 1 → 4 ≡ clockRefusal c n
+ceiling-none c n h = rw (lt-leb 1 c h)
+
+pub ceiling-large : (c n : ℕ) → 1 ≤ c → 1001 < c → 4 ≡ clockRefusal c n
+ceiling-large c n h l = rw (le-leb 1 c h, lt-leb c 1001 l)
+
+pub clock-room : (c n : ℕ) → 1 ≤ c → c ≤ 1001 → n < 4 → 0 ≡ clockRefusal c n
+clock-room c n h l g = rw (le-leb 1 c h, le-leb c 1001 l, lt-ltb n 4 g)
+
+pub clock-full : (c n : ℕ) → 1 ≤ c → c ≤ 1001 → 4 ≤ n → 33 ≡ clockRefusal c n
+clock-full c n h l g = rw (le-leb 1 c h, le-leb c 1001 l, le-ltb n 4 g)
+
+pub clock-form : (d : Draft) (n : ℕ) (v w : Word) (l : Line) → (n ≡ 2 → ⊥) → Shaped n v w l → refused 30 ≡ clockLine d l
+unfolding clockLine
+clock-form d zero v w l h e = rw e
+clock-form d (suc zero) v w l h e = rw (e .0)
+clock-form d (suc (suc zero)) v w l h e = absurd (h refl)
+clock-form d (suc (suc (suc n))) v w l h e = rw (e .2)
+
+-- A ceiling and room, as one refusal.
+last-of : (s t : Bool) (a : Answer Draft) → must s 4 (must t 33 a) ≡ refuse (unless s 4 orElse unless t 33) a
+last-of true true a = refl
+last-of true false a = refl
+last-of false t a = refl
+
+module _ (d : Draft) (v w : Word) (l : Line) (two : l ≡ v ∷ w ∷ []) where
+  -- The line as its refusals in their order.
+  abbrev name : ℕ
+  name = nameRefusal (isName v) (find 0 v (d .names)) (find 0 v (d .clocks))
+
+  abbrev last : ℕ → Answer Draft
+  last c = refuse (clockRefusal c (length (d .clocks))) (gives (withClock d v c))
+
+  steps : clockLine d l ≡ must (leb (d .stage) 3) 30 (refuse name (numberOf w andThen last))
+  unfolding clockLine
+  steps =
+      ap (clockLine d) two
+      ∙ ap (must (leb (d .stage) 3) 30)
+      (clock-new (isName v) (find 0 v (d .names)) (find 0 v (d .clocks)) _
+      ∙ ap (refuse name) (numbered-then w _ ∙ ap (λ (go : ℕ → Answer Draft). numberOf w andThen go) (λ i c. last-of (ceilingGood c) (ltb (length (d .clocks)) 4) (gives (withClock d v c)) i)))
+
+  pub clock-late : 3 < d .stage → refused 30 ≡ clockLine d l
+  clock-late h = sym (steps ∙ rw (lt-leb (d .stage) 3 h))
+
+  refusing : {A : Type 0} (n : ℕ) (x : A) (a : Answer A) → (n ≡ 0 → ⊥) → answer n x ≡ refuse n a
+  refusing zero x a z = absurd (z refl)
+  refusing (suc n) x a z = refl
+
+  module _ (h : d .stage ≤ 3) where
+    timely : clockLine d l ≡ refuse name (numberOf w andThen last)
+    timely = steps ∙ rw (le-leb (d .stage) 3 h)
+
+    pub clock-named : (r : ℕ) (x : Draft) → r ≡ name → (r ≡ 0 → ⊥) → answer r x ≡ clockLine d l
+    clock-named r x e z = refusing r x (numberOf w andThen last) z ∙ ap (λ (n : ℕ). refuse n (numberOf w andThen last)) e ∙ sym timely
+
+    module _ (fresh : 0 ≡ name) (q c : ℕ) (number : answer q c ≡ numberOf w) where
+      then : clockLine d l ≡ answer q c andThen last
+      then = timely ∙ ap (λ (n : ℕ). refuse n (numberOf w andThen last)) (sym fresh) ∙ ap (λ (a : Answer ℕ). a andThen last) (sym number)
+
+      no-number : (n : ℕ) (x : Draft) → (n ≡ 0 → ⊥) → answer n x ≡ answer n c andThen last
+      no-number zero x z = absurd (z refl)
+      no-number (suc n) x z = refl
+
+      pub clock-number : (x : Draft) → (q ≡ 0 → ⊥) → answer q x ≡ clockLine d l
+      clock-number x z = no-number q x z ∙ sym then
+
+      module _ (zero-q : q ≡ 0) where
+        lasts : clockLine d l ≡ last c
+        lasts = then ∙ ap (λ (n : ℕ). answer n c andThen last) zero-q
+
+        pub clock-last : (r : ℕ) (x : Draft) → r ≡ clockRefusal c (length (d .clocks)) → (r ≡ 0 → ⊥) → answer r x ≡ clockLine d l
+        clock-last r x e z = refusing r x (gives (withClock d v c)) z ∙ ap (λ (n : ℕ). refuse n (gives (withClock d v c))) e ∙ sym lasts
+
+        pub clock-given : 0 ≡ clockRefusal c (length (d .clocks)) → gives (withClock d v c) ≡ clockLine d l
+        clock-given e = ap (λ (n : ℕ). refuse n (gives (withClock d v c))) e ∙ sym lasts
+
+-- A clock more in the table.
+abbrev pub moreClock : Table → ℕ → ℕ → ℕ → Table
+moreClock t a b c =
+    record {
+      tags = t .tags;
+      starts = t .starts;
+      ends = t .ends;
+      cstarts = set (t .cstarts) (t .clocks) a;
+      cends = set (t .cends) (t .clocks) b;
+      ceilings = set (t .ceilings) (t .clocks) c;
+      pstarts = t .pstarts;
+      pends = t .pends;
+      left = t .left;
+      inputs = t .inputs;
+      signals = t .signals;
+      clocks = t .clocks + 1;
+      places = t .places;
+      stage = 3;
+      source = t .source;
+    }
+
+module _ {text : List ℕ} {t : Table} (f : Fit text t) (a b c : ℕ) (h : t .clocks < 4) where
+  pub clock-more : (rules : List Rule) → draftOf text (moreClock t a b c) rules ≡ withClock (draftOf text t rules) (part text a (b - a)) c
+  clock-more rules =
+      let d = draftOf text t rules in
+      let names = spans-more text (t .cstarts) (t .cends) (t .clocks) a b (omega (arith, f .cstarts-long)) (omega (arith, f .cends-long)) in
+      let tops = take-more (t .ceilings) (t .clocks) c (omega (arith, f .ceilings-long)) in
+      (λ i. record { inputs = d .inputs; outputs = d .outputs; names = d .names; clocks = names i; ceilings = tops i; places = d .places; left = d .left; rules = rules; stage = 3; source = d .source })
+
+  pub fit-clock : a ≤ b → b ≤ length text → Fit text (moreClock t a b c)
+  fit-clock o m =
+      record {
+        inputs = f .inputs;
+        outputs = f .outputs;
+        order = f .order;
+        clocks = omega arith;
+        places = f .places;
+        first = λ k. absurd (omega arith);
+        tags-long = f .tags-long;
+        starts-long = f .starts-long;
+        ends-long = f .ends-long;
+        cstarts-long = length-set (t .cstarts) (t .clocks) a ∙ f .cstarts-long;
+        cends-long = length-set (t .cends) (t .clocks) b ∙ f .cends-long;
+        ceilings-long = length-set (t .ceilings) (t .clocks) c ∙ f .ceilings-long;
+        pstarts-long = f .pstarts-long;
+        pends-long = f .pends-long;
+        left-long = f .left-long;
+        names = f .names;
+        clock-names = within-more text (t .cstarts) (t .cends) (t .clocks) a b (omega (arith, f .cstarts-long)) (omega (arith, f .cends-long)) (f .clock-names) o m;
+        place-names = f .place-names;
+      }
+
+pub room-of : (c n : ℕ) → clockRefusal c n ≡ 0 → n < 4
+room-of c n h = go (ceilingGood c) (ltb n 4) refl h
+  where
+    go : (s t : Bool) → ltb n 4 ≡ t → (unless s 4 orElse unless t 33) ≡ 0 → n < 4
+    go true true e k = ltb-true n 4 e
+    go true false e k = absurd (omega arith)
+    go false t e k = absurd (omega arith)

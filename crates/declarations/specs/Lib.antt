@@ -1,0 +1,6 @@
+pub mod Table
+pub mod Fresh
+pub mod ClockLine
+pub mod PlaceLine
+pub mod Letters
+pub mod SignalLine

@@ -1,0 +1,261 @@
+-- A signal's line, by what was found of it.
+use mathlib.Core.Path.{_≡_, refl, ap, sym, _∙_}
+use mathlib.Core.Bool.{Bool, true, false, cond}
+use mathlib.Core.List.{List, [], _∷_, _++_}
+use Prim.Native.Nat.{ℕ, zero, suc, _+_, _-_, _≤_, _<_}
+use native.Mathlib.Omega.{arith}
+use lib.Dec.{leb, ltb}
+use lib.ListN.{length, take, drop, set, length-set, length-drop}
+use lib.Seq.{take-add, length-take-le, take-set-le, drop-set-add, take-suc-set}
+use borrow.Author.Tests.{lt-ltb, le-ltb, lt-leb, le-leb}
+use Rattle.streams.specs.Answer.{Answer, refused, gives, answer}
+use Rattle.policy.specs.Rules.{Rule}
+use Rattle.policy.specs.File.{part}
+use Rattle.wording.specs.Words.{Word, Line}
+use Rattle.wording.specs.Names.{find, isName, must, _andThen_}
+use Rattle.words.specs.Spans.{spans, Within}
+use Rattle.wording.specs.Reader.{Draft, tags, letter, withInput, withOutput, signalLine, inputLine, outputLine}
+use Rattle.words.specs.Firsts.{Shaped}
+use Rattle.declarations.specs.Fresh.{nameRefusal, refuse, signal-new, spans-more, within-more, take-more}
+use Rattle.declarations.specs.Table.{draftOf, Fit}
+use Rattle.declarations.specs.declared.table.Table.{Table}
+
+-- A refusal of the second word, if there is one.
+abbrev pub wanted : ℕ → ℕ → ℕ
+wanted zero r = 0
+wanted (suc zero) r = 0
+wanted (suc (suc n)) r = r
+
+pub wanted-none : (n r : ℕ) → n < 2 → 0 ≡ wanted n r
+wanted-none zero r h = refl
+wanted-none (suc zero) r h = refl
+wanted-none (suc (suc n)) r h = absurd (omega arith)
+
+pub wanted-some : (n r : ℕ) → 2 ≤ n → r ≡ wanted n r
+wanted-some zero r h = absurd (omega arith)
+wanted-some (suc zero) r h = absurd (omega arith)
+wanted-some (suc (suc n)) r h = refl
+
+abbrev pub nameFound : List ℕ → Table → Word → ℕ
+nameFound text t w = nameRefusal (isName w) (find 0 w (spans text (t .starts) (t .ends) 0 (t .signals))) (find 0 w (spans text (t .cstarts) (t .cends) 0 (t .clocks)))
+
+-- The letter, then the refusal r of the name, then room.
+abbrev pub signalTag : (before : List ℕ) (count r : ℕ) → Word → Answer ℕ
+signalTag before count r w = letter before w andThen λ t. refuse r (must (ltb count 4) 33 (gives t))
+
+module _ (before : List ℕ) (count : ℕ) (w : Word) (q c : ℕ) (e : answer q c ≡ letter before w) where
+  pub tag-not : (r : ℕ) → (q ≡ 0 → ⊥) → answer q c ≡ signalTag before count r w
+  tag-not r z = go q z ∙ ap (λ (a : Answer ℕ). a andThen λ t. refuse r (must (ltb count 4) 33 (gives t))) e
+    where
+      go : (n : ℕ) → (n ≡ 0 → ⊥) → answer n c ≡ answer n c andThen λ t. refuse r (must (ltb count 4) 33 (gives t))
+      go zero k = absurd (k refl)
+      go (suc n) k = refl
+
+  module _ (z : q ≡ 0) where
+    there : (r : ℕ) → signalTag before count r w ≡ refuse r (must (ltb count 4) 33 (gives c))
+    there r = ap (λ (a : Answer ℕ). a andThen λ t. refuse r (must (ltb count 4) 33 (gives t))) (sym e ∙ ap (λ (n : ℕ). answer n c) z)
+
+    pub tag-named : (r x : ℕ) {s : ℕ} → r ≡ s → (r ≡ 0 → ⊥) → answer r x ≡ signalTag before count s w
+    tag-named r x {s = s} f k = go r k ∙ ap (λ (n : ℕ). refuse n (must (ltb count 4) 33 (gives c))) f ∙ sym (there s)
+      where
+        go : (n : ℕ) → (n ≡ 0 → ⊥) → answer n x ≡ refuse n (must (ltb count 4) 33 (gives c))
+        go zero y = absurd (y refl)
+        go (suc n) y = refl
+
+    pub tag-full : {s : ℕ} → 0 ≡ s → 4 ≤ count → refused 33 ≡ signalTag before count s w
+    tag-full {s = s} f h = sym (there s ∙ rw (← f, le-ltb count 4 h))
+
+    pub tag-given : {s : ℕ} → 0 ≡ s → count < 4 → answer q c ≡ signalTag before count s w
+    tag-given {s = s} f h = rw z (sym (there s ∙ rw (← f, lt-ltb count 4 h)))
+
+-- A signal more in the table.
+abbrev pub moreSignal : Table → (a b c inputs stage : ℕ) → Table
+moreSignal t a b c inputs stage =
+    record {
+      tags = set (t .tags) (t .signals) c;
+      starts = set (t .starts) (t .signals) a;
+      ends = set (t .ends) (t .signals) b;
+      cstarts = t .cstarts;
+      cends = t .cends;
+      ceilings = t .ceilings;
+      pstarts = t .pstarts;
+      pends = t .pends;
+      left = t .left;
+      inputs = inputs;
+      signals = t .signals + 1;
+      clocks = t .clocks;
+      places = t .places;
+      stage = stage;
+      source = t .source;
+    }
+
+module _ {text : List ℕ} {t : Table} (f : Fit text t) (a b c : ℕ) (h : t .signals < 8) where
+  names-more : spans text (set (t .starts) (t .signals) a) (set (t .ends) (t .signals) b) 0 (t .signals + 1) ≡ spans text (t .starts) (t .ends) 0 (t .signals) ++ (part text a (b - a) ∷ [])
+  names-more = spans-more text (t .starts) (t .ends) (t .signals) a b (omega (arith, f .starts-long)) (omega (arith, f .ends-long))
+
+  fit-signal : (inputs stage : ℕ) → inputs ≤ 4 → t .signals + 1 ≤ inputs + 4 → inputs ≤ t .signals + 1 → (stage ≤ 1 → t .signals + 1 ≡ inputs) → a ≤ b → b ≤ length text → Fit text (moreSignal t a b c inputs stage)
+  fit-signal inputs stage i o r k l m =
+      record {
+        inputs = i;
+        outputs = o;
+        order = r;
+        clocks = f .clocks;
+        places = f .places;
+        first = k;
+        tags-long = length-set (t .tags) (t .signals) c ∙ f .tags-long;
+        starts-long = length-set (t .starts) (t .signals) a ∙ f .starts-long;
+        ends-long = length-set (t .ends) (t .signals) b ∙ f .ends-long;
+        cstarts-long = f .cstarts-long;
+        cends-long = f .cends-long;
+        ceilings-long = f .ceilings-long;
+        pstarts-long = f .pstarts-long;
+        pends-long = f .pends-long;
+        left-long = f .left-long;
+        names = within-more text (t .starts) (t .ends) (t .signals) a b (omega (arith, f .starts-long)) (omega (arith, f .ends-long)) (f .names) l m;
+        clock-names = f .clock-names;
+        place-names = f .place-names;
+      }
+
+module _ {text : List ℕ} {t : Table} (f : Fit text t) (a b c : ℕ) where
+  -- An input, before all outputs.
+  module _ (h : t .inputs < 4) (s : t .stage ≤ 1) where
+    pub input-more : (rules : List Rule) → draftOf text (moreSignal t a b c (t .signals + 1) 1) rules ≡ withInput (draftOf text t rules) c (part text a (b - a))
+    input-more rules =
+        let d = draftOf text t rules in
+        let same = f .first s in
+        let names = names-more f a b c (omega (arith, same)) in
+        let ins : take (t .signals + 1) (set (t .tags) (t .signals) c) ≡ take (t .inputs) (t .tags) ++ (c ∷ []) =
+        take-more (t .tags) (t .signals) c (omega (arith, same, f .tags-long)) ∙ ap (λ (n : ℕ). take n (t .tags) ++ (c ∷ [])) same in
+        let x : t .signals + 1 - (t .signals + 1) ≡ 0 = omega arith in
+        let y : t .signals - t .inputs ≡ 0 = omega (arith, same) in
+        let outs : take (t .signals + 1 - (t .signals + 1)) (drop (t .signals + 1) (set (t .tags) (t .signals) c)) ≡ take (t .signals - t .inputs) (drop (t .inputs) (t .tags)) = rw (x, y) in
+        (λ i. record { inputs = ins i; outputs = outs i; names = names i; clocks = d .clocks; ceilings = d .ceilings; places = d .places; left = d .left; rules = rules; stage = 1; source = d .source })
+
+    pub fit-input : a ≤ b → b ≤ length text → Fit text (moreSignal t a b c (t .signals + 1) 1)
+    fit-input l m =
+        let same = f .first s in
+        fit-signal f a b c (omega (arith, same)) (t .signals + 1) 1 (omega (arith, same)) (omega arith) (omega arith) (λ k. refl) l m
+
+  -- An output.
+  module _ (h : t .signals < t .inputs + 4) where
+    pub output-more : (rules : List Rule) → draftOf text (moreSignal t a b c (t .inputs) 2) rules ≡ withOutput (draftOf text t rules) c (part text a (b - a))
+    output-more rules =
+        let d = draftOf text t rules in
+        let order = f .order in
+        let few = f .inputs in
+        let names = names-more f a b c (omega arith) in
+        let ins = take-set-le (t .inputs) (t .tags) (t .signals) c order in
+        let m = t .signals - t .inputs in
+        let at : t .signals ≡ t .inputs + m = omega arith in
+        let size : t .signals + 1 - t .inputs ≡ suc m = omega arith in
+        let outs : take (t .signals + 1 - t .inputs) (drop (t .inputs) (set (t .tags) (t .signals) c)) ≡ take m (drop (t .inputs) (t .tags)) ++ (c ∷ []) =
+        (λ i. take (size i) (drop (t .inputs) (set (t .tags) (at i) c)))
+        ∙ ap (take (suc m)) (drop-set-add (t .inputs) (t .tags) m c)
+        ∙ take-suc-set (drop (t .inputs) (t .tags)) m c (omega (arith, length-drop (t .inputs) (t .tags), f .tags-long)) in
+        (λ i. record { inputs = ins i; outputs = outs i; names = names i; clocks = d .clocks; ceilings = d .ceilings; places = d .places; left = d .left; rules = rules; stage = 2; source = d .source })
+
+    pub fit-output : a ≤ b → b ≤ length text → Fit text (moreSignal t a b c (t .inputs) 2)
+    fit-output l m =
+        let order = f .order in
+        let few = f .inputs in
+        fit-signal f a b c (omega arith) (t .inputs) 2 few (omega arith) (omega arith) (λ k. absurd (omega arith)) l m
+
+-- The line by its words, for either kind of signal.
+module _ (d : Draft) (count : ℕ) (go : ℕ → Word → Draft) where
+  pub signal-form : (n : ℕ) (v w : Word) (l : Line) → (1 ≤ n → n ≤ 2 → ⊥) → Shaped n v w l → refused 30 ≡ signalLine d count go l
+  unfolding signalLine
+  signal-form zero v w l h e = rw e
+  signal-form (suc zero) v w l h e = absurd (h (omega arith) (omega arith))
+  signal-form (suc (suc zero)) v w l h e = absurd (h (omega arith) (omega arith))
+  signal-form (suc (suc (suc n))) v w l h e = rw (e .2)
+
+  one-word : (x : Answer ℕ) (k : Bool) → (x andThen λ t. must k 33 (gives (go t []))) ≡ (x andThen λ t. must k 33 (gives t)) andThen λ t. gives (go t [])
+  one-word (refused n) k = refl
+  one-word (gives t) true = refl
+  one-word (gives t) false = refl
+
+  two-words : (w : Word) (x : Answer ℕ) (r : ℕ) (k : Bool) → (x andThen λ t. refuse r (must k 33 (gives (go t w)))) ≡ (x andThen λ t. refuse r (must k 33 (gives t))) andThen λ t. gives (go t w)
+  two-words w (refused n) r k = refl
+  two-words w (gives t) zero true = refl
+  two-words w (gives t) zero false = refl
+  two-words w (gives t) (suc r) k = refl
+
+  abbrev named : Word → ℕ
+  named w = nameRefusal (isName w) (find 0 w (d .names)) (find 0 w (d .clocks))
+
+  pub signal-line : (n : ℕ) (v w : Word) (l : Line) → 1 ≤ n → n ≤ 2 → Shaped n v w l → signalLine d count go l ≡ signalTag (tags d) count (wanted n (named w)) v andThen λ t. gives (go t w)
+  unfolding signalLine
+  signal-line zero v w l a b e = absurd (omega arith)
+  signal-line (suc zero) v w l a b e = rw (e .0, e .1) (one-word (letter (tags d) v) (ltb count 4))
+  signal-line (suc (suc zero)) v w l a b e =
+      rw e (ap (λ (f : ℕ → Answer Draft). letter (tags d) v andThen f) (λ i t. signal-new (isName w) (find 0 w (d .names)) (find 0 w (d .clocks)) (must (ltb count 4) 33 (gives (go t w))) i)
+      ∙ two-words w (letter (tags d) v) (named w) (ltb count 4))
+  signal-line (suc (suc (suc n))) v w l a b e = absurd (omega arith)
+
+-- Of what the code has.
+module _ {text : List ℕ} {t : Table} (f : Fit text t) (rules : List Rule) where
+  pub tags-whole : tags (draftOf text t rules) ≡ take (t .signals) (t .tags)
+  tags-whole =
+      let order = f .order in
+      let e : t .signals ≡ t .inputs + (t .signals - t .inputs) = omega arith in
+      sym (ap (λ (n : ℕ). take n (t .tags)) e ∙ take-add (t .inputs) (t .signals - t .inputs) (t .tags))
+
+  pub inputs-long : length (take (t .inputs) (t .tags)) ≡ t .inputs
+  inputs-long = length-take-le (t .inputs) (t .tags) (omega (arith, f .tags-long, f .inputs))
+
+  pub outputs-long : length (take (t .signals - t .inputs) (drop (t .inputs) (t .tags))) ≡ t .signals - t .inputs
+  outputs-long = length-take-le (t .signals - t .inputs) (drop (t .inputs) (t .tags)) (omega (arith, length-drop (t .inputs) (t .tags), f .tags-long, f .inputs, f .outputs, f .order))
+
+  module _ (n : ℕ) (v w : Word) (l : Line) (s : Shaped n v w l) where
+    abbrev d : Draft
+    d = draftOf text t rules
+
+    pub input-late : 1 < t .stage → refused 30 ≡ inputLine d l
+    unfolding inputLine
+    input-late h = rw (lt-leb (t .stage) 1 h)
+
+    pub output-late : 2 < t .stage → refused 30 ≡ outputLine d l
+    unfolding outputLine
+    output-late h = rw (lt-leb (t .stage) 2 h)
+
+    pub input-form : t .stage ≤ 1 → (1 ≤ n → n ≤ 2 → ⊥) → refused 30 ≡ inputLine d l
+    unfolding inputLine
+    input-form h k = rw (le-leb (t .stage) 1 h) (signal-form d (length (d .inputs)) (withInput d) n v w l k s)
+
+    pub output-form : t .stage ≤ 2 → (1 ≤ n → n ≤ 2 → ⊥) → refused 30 ≡ outputLine d l
+    unfolding outputLine
+    output-form h k = rw (le-leb (t .stage) 2 h) (signal-form d (length (d .outputs)) (withOutput d) n v w l k s)
+
+    module _ (a : 1 ≤ n) (b : n ≤ 2) (q c : ℕ) where
+      -- The letter's answer carried on.
+      carried : (r : ℕ) (x : Draft) (go : ℕ → Word → Draft) → (r ≡ 0 → ⊥) → answer r x ≡ answer r c andThen λ u. gives (go u w)
+      carried zero x go z = absurd (z refl)
+      carried (suc r) x go z = refl
+
+      module _ (h : t .stage ≤ 1) (e : answer q c ≡ signalTag (take (t .signals) (t .tags)) (t .inputs) (wanted n (nameFound text t w)) v) where
+        input-is : inputLine d l ≡ answer q c andThen λ u. gives (withInput d u w)
+        unfolding inputLine
+        input-is =
+            rw (le-leb (t .stage) 1 h) (signal-line d (length (d .inputs)) (withInput d) n v w l a b s
+            ∙ (λ i. signalTag (tags-whole i) (inputs-long i) (wanted n (nameFound text t w)) v andThen λ u. gives (withInput d u w))
+            ∙ ap (λ (z : Answer ℕ). z andThen λ u. gives (withInput d u w)) (sym e))
+
+        pub input-not : (x : Draft) → (q ≡ 0 → ⊥) → answer q x ≡ inputLine d l
+        input-not x z = carried q x (withInput d) z ∙ sym input-is
+
+        pub input-given : q ≡ 0 → gives (withInput d c w) ≡ inputLine d l
+        input-given z = sym (input-is ∙ ap (λ (r : ℕ). answer r c andThen λ u. gives (withInput d u w)) z)
+
+      module _ (h : t .stage ≤ 2) (e : answer q c ≡ signalTag (take (t .signals) (t .tags)) (t .signals - t .inputs) (wanted n (nameFound text t w)) v) where
+        output-is : outputLine d l ≡ answer q c andThen λ u. gives (withOutput d u w)
+        unfolding outputLine
+        output-is =
+            rw (le-leb (t .stage) 2 h) (signal-line d (length (d .outputs)) (withOutput d) n v w l a b s
+            ∙ (λ i. signalTag (tags-whole i) (outputs-long i) (wanted n (nameFound text t w)) v andThen λ u. gives (withOutput d u w))
+            ∙ ap (λ (z : Answer ℕ). z andThen λ u. gives (withOutput d u w)) (sym e))
+
+        pub output-not : (x : Draft) → (q ≡ 0 → ⊥) → answer q x ≡ outputLine d l
+        output-not x z = carried q x (withOutput d) z ∙ sym output-is
+
+        pub output-given : q ≡ 0 → gives (withOutput d c w) ≡ outputLine d l
+        output-given z = sym (output-is ∙ ap (λ (r : ℕ). answer r c andThen λ u. gives (withOutput d u w)) z)

@@ -1,0 +1,157 @@
+-- What the code has of the lines that it has read, as what the definitions have of them.
+use mathlib.Core.Path.{_≡_, refl, ap, sym, _∙_}
+use mathlib.Core.Bool.{Bool, true, false, cond}
+use mathlib.Core.List.{List, [], _∷_, _++_}
+use mathlib.Core.Option.{Option, none, some}
+use Prim.Native.Nat.{ℕ, zero, suc, _+_, _-_, _≤_, _<_}
+use native.Mathlib.Omega.{arith}
+use lib.Dec.{leb, ltb}
+use lib.ListN.{length, getD, take, drop, set}
+use borrow.Author.Tests.{lt-ltb, le-ltb, le-leb, lt-leb}
+use Rattle.streams.specs.Answer.{Answer, refused, gives, answer}
+use Rattle.policy.specs.Rules.{Rule}
+use Rattle.policy.specs.File.{part}
+use Rattle.wording.specs.Words.{Word, Line}
+use Rattle.wording.specs.Names.{find}
+use Rattle.words.specs.Spans.{spans, Within, placeBelow}
+use Rattle.wording.specs.Reader.{Draft, risen, atLine}
+use Rattle.words.specs.Firsts.{Shaped}
+use Rattle.declarations.specs.declared.table.Table.{Table}
+use Rattle.declarations.specs.declared.table.Lined.{Lined}
+
+abbrev pub draftOf : List ℕ → Table → List Rule → Draft
+draftOf text t rules =
+    record {
+      inputs = take (t .inputs) (t .tags);
+      outputs = take (t .signals - t .inputs) (drop (t .inputs) (t .tags));
+      names = spans text (t .starts) (t .ends) 0 (t .signals);
+      clocks = spans text (t .cstarts) (t .cends) 0 (t .clocks);
+      ceilings = take (t .clocks) (t .ceilings);
+      places = spans text (t .pstarts) (t .pends) 0 (t .places);
+      left = take (t .places) (t .left);
+      rules = rules;
+      stage = t .stage;
+      source = placeBelow 64 (t .source);
+    }
+
+abbrev pub lineSaid : List ℕ → List Rule → Lined → Answer Draft
+lineSaid text rules r = answer (r .refusal) (draftOf text (r .table) rules)
+
+-- The counts are in their limits, the names within the text, and no output stands before the last input.
+pub record Fit (text : List ℕ) (t : Table) : Type 0 where
+  pub inputs : t .inputs ≤ 4
+  pub outputs : t .signals ≤ t .inputs + 4
+  pub order : t .inputs ≤ t .signals
+  pub clocks : t .clocks ≤ 4
+  pub places : t .places ≤ 64
+  pub first : t .stage ≤ 1 → t .signals ≡ t .inputs
+  pub tags-long : length (t .tags) ≡ 8
+  pub starts-long : length (t .starts) ≡ 8
+  pub ends-long : length (t .ends) ≡ 8
+  pub cstarts-long : length (t .cstarts) ≡ 4
+  pub cends-long : length (t .cends) ≡ 4
+  pub ceilings-long : length (t .ceilings) ≡ 4
+  pub pstarts-long : length (t .pstarts) ≡ 64
+  pub pends-long : length (t .pends) ≡ 64
+  pub left-long : length (t .left) ≡ 64
+  pub names : Within text (t .starts) (t .ends) (t .signals)
+  pub clock-names : Within text (t .cstarts) (t .cends) (t .clocks)
+  pub place-names : Within text (t .pstarts) (t .pends) (t .places)
+
+-- `at`.
+pub at-form : (d : Draft) (n : ℕ) (v w : Word) (l : Line) → (n ≡ 1 → ⊥) → Shaped n v w l → refused 30 ≡ atLine d l
+unfolding atLine
+at-form d zero v w l h e = rw e
+at-form d (suc zero) v w l h e = absurd (h refl)
+at-form d (suc (suc zero)) v w l h e = rw e
+at-form d (suc (suc (suc n))) v w l h e = rw (e .2)
+
+module _ (d : Draft) (v : Word) (l : Line) (one : l ≡ v ∷ []) {n k : ℕ} (e : find 0 v (d .places) ≡ placeBelow n k) where
+  pub at-unknown : n ≤ k → refused 31 ≡ atLine d l
+  unfolding atLine
+  at-unknown h = rw (one, e, le-ltb k n h)
+
+  pub at-falls : k < n → {s : ℕ} → d .source ≡ some s → k < s → refused 34 ≡ atLine d l
+  unfolding atLine
+  at-falls h {s = s} f g = rw (one, e, lt-ltb k n h, f, lt-leb s k g)
+
+  pub at-rises : k < n → risen d (d .source) k ≡ true →
+      gives (record { inputs = d .inputs; outputs = d .outputs; names = d .names; clocks = d .clocks; ceilings = d .ceilings; places = d .places; left = d .left; rules = d .rules; stage = 5; source = some k }) ≡ atLine d l
+  unfolding atLine
+  at-rises h f = rw (one, e, lt-ltb k n h, f)
+
+-- By the source as a number.
+pub source-some : (s : ℕ) → s < 64 → placeBelow 64 s ≡ some s
+source-some s h = rw (lt-ltb s 64 h)
+
+pub source-none : (s : ℕ) → 64 ≤ s → placeBelow 64 s ≡ none
+source-none s h = rw (le-ltb s 64 h)
+
+pub rises-first : (d : Draft) (s k : ℕ) → 64 ≤ s → risen d (placeBelow 64 s) k ≡ true
+rises-first d s k h = rw (le-ltb s 64 h)
+
+pub rises-on : (d : Draft) (s k : ℕ) → s < 64 → s ≤ k → risen d (placeBelow 64 s) k ≡ true
+rises-on d s k h l = rw (lt-ltb s 64 h) (le-leb s k l)
+
+pub shaped-one : (n : ℕ) (v w : Word) (l : Line) → n ≡ 1 → Shaped n v w l → l ≡ v ∷ []
+shaped-one zero v w l e s = absurd (omega arith)
+shaped-one (suc zero) v w l e s = s .0
+shaped-one (suc (suc n)) v w l e s = absurd (omega arith)
+
+-- A location that rules begin at.
+abbrev pub atPlace : Table → ℕ → Table
+atPlace t k =
+    record {
+      tags = t .tags;
+      starts = t .starts;
+      ends = t .ends;
+      cstarts = t .cstarts;
+      cends = t .cends;
+      ceilings = t .ceilings;
+      pstarts = t .pstarts;
+      pends = t .pends;
+      left = t .left;
+      inputs = t .inputs;
+      signals = t .signals;
+      clocks = t .clocks;
+      places = t .places;
+      stage = 5;
+      source = k;
+    }
+
+pub at-given : (text : List ℕ) (t : Table) (rules : List Rule) (v : Word) (l : Line) → l ≡ v ∷ [] → {k : ℕ} → find 0 v (spans text (t .pstarts) (t .pends) 0 (t .places)) ≡ placeBelow (t .places) k →
+    k < t .places → t .places ≤ 64 → risen (draftOf text t rules) (placeBelow 64 (t .source)) k ≡ true → gives (draftOf text (atPlace t k) rules) ≡ atLine (draftOf text t rules) l
+at-given text t rules v l one {k = k} e h m f =
+    let d = draftOf text t rules in
+    let s = source-some k (omega arith) in
+    (λ i. gives (record { inputs = d .inputs; outputs = d .outputs; names = d .names; clocks = d .clocks; ceilings = d .ceilings; places = d .places; left = d .left; rules = rules; stage = 5; source = s i }))
+    ∙ at-rises d v l one e h f
+
+pub fit-at : {text : List ℕ} {t : Table} → Fit text t → (k : ℕ) → Fit text (atPlace t k)
+fit-at f k =
+    record {
+      inputs = f .inputs;
+      outputs = f .outputs;
+      order = f .order;
+      clocks = f .clocks;
+      places = f .places;
+      first = λ h. absurd (omega arith);
+      tags-long = f .tags-long;
+      starts-long = f .starts-long;
+      ends-long = f .ends-long;
+      cstarts-long = f .cstarts-long;
+      cends-long = f .cends-long;
+      ceilings-long = f .ceilings-long;
+      pstarts-long = f .pstarts-long;
+      pends-long = f .pends-long;
+      left-long = f .left-long;
+      names = f .names;
+      clock-names = f .clock-names;
+      place-names = f .place-names;
+    }
+
+pub shaped-two : (n : ℕ) (v w : Word) (l : Line) → n ≡ 2 → Shaped n v w l → l ≡ v ∷ w ∷ []
+shaped-two zero v w l e s = absurd (omega arith)
+shaped-two (suc zero) v w l e s = absurd (omega arith)
+shaped-two (suc (suc zero)) v w l e s = s
+shaped-two (suc (suc (suc n))) v w l e s = absurd (omega arith)

@@ -1,0 +1,14 @@
+pub mod Words
+pub mod Laid
+pub mod Names
+pub mod Reader
+pub mod Writer
+pub mod NamesBack
+pub mod FileBack
+pub mod ConditionsBack
+pub mod RuleBack
+pub mod LinesBack
+pub mod Back
+pub mod Refuses
+pub mod Computing
+pub mod Samples

@@ -1,0 +1,394 @@
+-- The reader: a text's lines one after another, and a rule's words one after another.
+use mathlib.Core.Bool.{Bool, true, false, cond, _&&_}
+use mathlib.Core.List.{List, [], _∷_, _++_}
+use mathlib.Core.Option.{Option, none, some}
+use Prim.Native.Nat.{ℕ, zero, suc, _+_, _*_, _/_, _%_, _^_, min, max}
+use lib.Dec.{leb, ltb, eqb}
+use lib.ListN.{length, replicate}
+use Rattle.streams.specs.Answer.{Answer, refused, gives}
+use Rattle.policy.specs.Rules.{Bound, Rule, Policy}
+use Rattle.policy.specs.Check.{isCapital, among, ceilingGood, boundsGood, refusalOf}
+use Rattle.policy.specs.Bytes.{bytesOf}
+use Rattle.wording.specs.Words.{Word, Line, linesOf}
+use Rattle.wording.specs.Names.{find, is, isName, _andThen_, must, known, free, numbered, through, lettersOf}
+
+-- What the lines so far have said. The stage is 1 after an input, 2 after an output, 3 after a clock, 4 after a location, 5 after an `at`. For each
+-- signal, the inputs first, stands its name, or no byte for none; for each location its byte.
+pub record Draft : Type 0 where
+  pub inputs : List ℕ
+  pub outputs : List ℕ
+  pub names : List Word
+  pub clocks : List Word
+  pub ceilings : List ℕ
+  pub places : List Word
+  pub left : List ℕ
+  pub rules : List Rule
+  pub stage : ℕ
+  pub source : Option ℕ
+
+abbrev pub empty : Draft
+empty =
+    record {
+      inputs = [];
+      outputs = [];
+      names = [];
+      clocks = [];
+      ceilings = [];
+      places = [];
+      left = [];
+      rules = [];
+      stage = 0;
+      source = none;
+    }
+
+-- The letter of a signal. 30: no capital letter. 31: it is taken.
+abbrev pub letter : List ℕ → Word → Answer ℕ
+letter before [] = refused 30
+letter before (t ∷ []) = must (isCapital t) 30 (cond (among t before) (refused 31) (gives t))
+letter before (t ∷ u ∷ us) = refused 30
+
+-- A new name: 30 if it is none, 31 if it is taken.
+abbrev pub newName : Word → List Word → Answer Draft → Answer Draft
+newName w names a = must (isName w) 30 (free (find 0 w names) a)
+
+module _ (d : Draft) where
+  abbrev pub tags : List ℕ
+  tags = d .inputs ++ d .outputs
+
+  -- Signals and clocks have one space of names.
+  abbrev pub newSignal : Word → Answer Draft → Answer Draft
+  newSignal w a = newName w (d .names) (free (find 0 w (d .clocks)) a)
+
+  abbrev pub withInput : ℕ → Word → Draft
+  withInput t name =
+      record {
+        inputs = d .inputs ++ (t ∷ []);
+        outputs = d .outputs;
+        names = d .names ++ (name ∷ []);
+        clocks = d .clocks;
+        ceilings = d .ceilings;
+        places = d .places;
+        left = d .left;
+        rules = d .rules;
+        stage = 1;
+        source = d .source;
+      }
+
+  abbrev pub withOutput : ℕ → Word → Draft
+  withOutput t name =
+      record {
+        inputs = d .inputs;
+        outputs = d .outputs ++ (t ∷ []);
+        names = d .names ++ (name ∷ []);
+        clocks = d .clocks;
+        ceilings = d .ceilings;
+        places = d .places;
+        left = d .left;
+        rules = d .rules;
+        stage = 2;
+        source = d .source;
+      }
+
+  -- `LETTER` or `LETTER NAME`. 33: more than the file has room for.
+  unfoldable pub signalLine : (count : ℕ) → (ℕ → Word → Draft) → Line → Answer Draft
+  signalLine count go [] = refused 30
+  signalLine count go (w ∷ []) = letter tags w andThen λ t. must (ltb count 4) 33 (gives (go t []))
+  signalLine count go (w ∷ n ∷ []) = letter tags w andThen λ t. newSignal n (must (ltb count 4) 33 (gives (go t n)))
+  signalLine count go (w ∷ n ∷ v ∷ ws) = refused 30
+
+  unfoldable pub inputLine : Line → Answer Draft
+  inputLine ws = must (leb (d .stage) 1) 30 (signalLine (length (d .inputs)) withInput ws)
+
+  unfoldable pub outputLine : Line → Answer Draft
+  outputLine ws = must (leb (d .stage) 2) 30 (signalLine (length (d .outputs)) withOutput ws)
+
+  -- 4: a ceiling that is 0 or above 1,001.
+  unfoldable pub clockLine : Line → Answer Draft
+  clockLine [] = refused 30
+  clockLine (w ∷ []) = refused 30
+  clockLine (w ∷ n ∷ []) =
+      must (leb (d .stage) 3) 30 (newName w (d .clocks) (free (find 0 w (d .names)) (numbered n
+      λ c.
+      must (ceilingGood c) 4 (must (ltb (length (d .clocks)) 4) 33 (gives (record {
+        inputs = d .inputs;
+        outputs = d .outputs;
+        names = d .names;
+        clocks = d .clocks ++ (w ∷ []);
+        ceilings = d .ceilings ++ (c ∷ []);
+        places = d .places;
+        left = d .left;
+        rules = d .rules;
+        stage = 3;
+        source = d .source;
+      }))))))
+  clockLine (w ∷ n ∷ v ∷ ws) = refused 30
+
+  unfoldable pub newPlace : Word → ℕ → Answer Draft
+  newPlace w byte =
+      must (leb (d .stage) 4) 30 (newName w (d .places) (must (ltb (length (d .places)) 64) 33 (gives (record {
+        inputs = d .inputs;
+        outputs = d .outputs;
+        names = d .names;
+        clocks = d .clocks;
+        ceilings = d .ceilings;
+        places = d .places ++ (w ∷ []);
+        left = d .left ++ (byte ∷ []);
+        rules = d .rules;
+        stage = 4;
+        source = d .source;
+      }))))
+
+  -- `NAME`, or `NAME must be left`.
+  unfoldable pub locationLine : Line → Answer Draft
+  locationLine [] = refused 30
+  locationLine (w ∷ []) = newPlace w 0
+  locationLine (w ∷ a ∷ []) = refused 30
+  locationLine (w ∷ a ∷ b ∷ []) = refused 30
+  locationLine (w ∷ a ∷ b ∷ c ∷ []) = must (is "must" a && (is "be" b && is "left" c)) 30 (newPlace w 1)
+  locationLine (w ∷ a ∷ b ∷ c ∷ v ∷ ws) = refused 30
+
+  -- 34: the location stands before that of the `at` before.
+  abbrev pub risen : Option ℕ → ℕ → Bool
+  risen none k = true
+  risen (some s) k = leb s k
+
+  unfoldable pub atLine : Line → Answer Draft
+  atLine [] = refused 30
+  atLine (w ∷ []) =
+      known (find 0 w (d .places)) λ k.
+      must (risen (d .source) k) 34 (gives (record {
+        inputs = d .inputs;
+        outputs = d .outputs;
+        names = d .names;
+        clocks = d .clocks;
+        ceilings = d .ceilings;
+        places = d .places;
+        left = d .left;
+        rules = d .rules;
+        stage = 5;
+        source = some k;
+      }))
+  atLine (w ∷ v ∷ ws) = refused 30
+
+-- What may come next in a rule: its first word; a condition or the arrow; the arrow after `any`; after a clock's name its sign; after the sign a number;
+-- after the arrow the target; after that nothing or `reset`; after that names of clocks.
+pub data Part : Type 0 where
+  opening more arrow : Part
+  sign atLeast atMost : ℕ → Part
+  goes gone clears : Part
+
+-- What the words so far have said. The masks are over the inputs and then the outputs.
+pub record Begun : Type 0 where
+  pub part : Part
+  pub care : ℕ
+  pub value : ℕ
+  pub bounds : List Bound
+  pub target : ℕ
+  pub reset : ℕ
+
+abbrev pub noBound : Bound
+noBound = record { low = 0; high = 65535 }
+
+abbrev pub bare : ℕ → Begun
+bare clocks = record { part = opening; care = 0; value = 0; bounds = replicate clocks noBound; target = 0; reset = 0 }
+
+abbrev pub turn : Part → Begun → Begun
+turn part b =
+    record { part = part; care = b .care; value = b .value; bounds = b .bounds; target = b .target; reset = b .reset }
+
+-- The bit i of a mask is not yet set.
+abbrev pub unset : ℕ → ℕ → Bool
+unset mask i = eqb (mask / 2 ^ i % 2) 0
+
+-- A condition on the signal i: 1 on, 0 off. 31: it has one already.
+unfoldable pub onSignal : Begun → ℕ → ℕ → Answer Begun
+onSignal b v i =
+    must (unset (b .care) i) 31 (gives (record {
+      part = more;
+      care = b .care + 2 ^ i;
+      value = b .value + v * 2 ^ i;
+      bounds = b .bounds;
+      target = b .target;
+      reset = b .reset;
+    }))
+
+-- Both bounds hold, this one and those before it.
+abbrev pub atLeastOf : ℕ → Bound → Bound
+atLeastOf n b = record { low = max n (b .low); high = b .high }
+
+abbrev pub atMostOf : ℕ → Bound → Bound
+atMostOf n b = record { low = b .low; high = min n (b .high) }
+
+unfoldable pub change : (Bound → Bound) → ℕ → List Bound → List Bound
+change f k [] = []
+change f zero (b ∷ bs) = f b ∷ bs
+change f (suc k) (b ∷ bs) = b ∷ change f k bs
+
+unfoldable pub onBound : Begun → ℕ → (Bound → Bound) → Begun
+onBound b k f =
+    record { part = more; care = b .care; value = b .value; bounds = change f k (b .bounds); target = b .target; reset = b .reset }
+
+unfoldable pub onTarget : Begun → ℕ → Begun
+onTarget b t = record { part = gone; care = b .care; value = b .value; bounds = b .bounds; target = t; reset = b .reset }
+
+unfoldable pub onReset : Begun → ℕ → Answer Begun
+onReset b k =
+    must (unset (b .reset) k) 31 (gives (record {
+      part = clears;
+      care = b .care;
+      value = b .value;
+      bounds = b .bounds;
+      target = b .target;
+      reset = b .reset + 2 ^ k;
+    }))
+
+-- What a rule may name: the letters and the names of the signals, the clocks, the locations.
+pub record Scope : Type 0 where
+  pub letters : List ℕ
+  pub names : List Word
+  pub clocks : List Word
+  pub places : List Word
+
+abbrev pub scope : Draft → Scope
+scope d = record { letters = tags d; names = d .names; clocks = d .clocks; places = d .places }
+
+-- The signal that a word names, by its letter or by its name.
+abbrev pub signalBy : List ℕ → List Word → Word → Option ℕ
+signalBy letters names [] = none
+signalBy letters names (c ∷ cs) = cond (isCapital c) (find 0 (c ∷ cs) (lettersOf letters)) (find 0 (c ∷ cs) names)
+
+unfoldable pub signal : Scope → Word → Option ℕ
+signal d w = signalBy (d .letters) (d .names) w
+
+module _ (d : Scope) (b : Begun) where
+  -- A word that is a signal, or else a clock.
+  abbrev pub signalOr : Word → Option ℕ → Answer Begun
+  signalOr w none = known (find 0 w (d .clocks)) λ k. gives (turn (sign k) b)
+  signalOr w (some i) = onSignal b 1 i
+
+  -- `A`, `!A`, a signal's name with or without `!`, or a clock's name.
+  unfoldable pub condition : Word → Answer Begun
+  condition [] = refused 30
+  condition (c ∷ cs) =
+      cond (eqb c 33) (known (signal d cs) (onSignal b 0)) (signalOr (c ∷ cs) (signal d (c ∷ cs)))
+
+  unfoldable pub wordAt : Part → Word → Answer Begun
+  wordAt opening w = cond (is "any" w) (gives (turn arrow b)) (condition w)
+  wordAt more w = cond (is "->" w) (gives (turn goes b)) (condition w)
+  wordAt arrow w = must (is "->" w) 30 (gives (turn goes b))
+  wordAt (sign k) w = cond (is ">=" w) (gives (turn (atLeast k) b)) (must (is "<=" w) 30 (gives (turn (atMost k) b)))
+  wordAt (atLeast k) w = numbered w λ n. gives (onBound b k (atLeastOf n))
+  wordAt (atMost k) w = numbered w λ n. gives (onBound b k (atMostOf n))
+  wordAt goes w =
+      cond (is "violation" w) (gives (onTarget b 255)) (known (find 0 w (d .places)) λ t. gives (onTarget b t))
+  wordAt gone w = must (is "reset" w) 30 (gives (turn clears b))
+  wordAt clears w = known (find 0 w (d .clocks)) (onReset b)
+
+abbrev pub ruleWord : Scope → Begun → Word → Answer Begun
+ruleWord d b w = wordAt d b (b .part) w
+
+-- A rule may end after its target, or after a clock that is reset.
+abbrev pub ends : Begun → Part → Bool
+ends b opening = false
+ends b more = false
+ends b arrow = false
+ends b (sign k) = false
+ends b (atLeast k) = false
+ends b (atMost k) = false
+ends b goes = false
+ends b gone = true
+ends b clears = ltb 0 (b .reset)
+
+unfoldable pub ruleOf : Draft → ℕ → Begun → Rule
+ruleOf d source b =
+    let inputs = 2 ^ length (d .inputs) in
+    record {
+      source = source;
+      inCare = b .care % inputs;
+      inValue = b .value % inputs;
+      outCare = b .care / inputs;
+      outValue = b .value / inputs;
+      reset = b .reset;
+      target = b .target;
+      bounds = b .bounds;
+    }
+
+module _ (d : Draft) where
+  unfoldable pub addRule : Rule → Draft
+  addRule r =
+      record {
+        inputs = d .inputs;
+        outputs = d .outputs;
+        names = d .names;
+        clocks = d .clocks;
+        ceilings = d .ceilings;
+        places = d .places;
+        left = d .left;
+        rules = d .rules ++ (r ∷ []);
+        stage = 5;
+        source = d .source;
+      }
+
+  -- 7: a bound that is not within its ceiling, or a low above its high.
+  unfoldable pub ruleLine : Line → Option ℕ → Answer Draft
+  ruleLine ws none = refused 30
+  ruleLine ws (some source) =
+      through (ruleWord (scope d)) (bare (length (d .clocks))) ws andThen λ b.
+      must (ends b (b .part)) 30 (must (boundsGood (d .ceilings) (b .bounds)) 7
+      (must (ltb (length (d .rules)) 256) 33 (gives (addRule (ruleOf d source b)))))
+
+  unfoldable pub readLine : Line → Answer Draft
+  readLine [] = gives d
+  readLine (w ∷ ws) =
+      cond (is "input" w) (inputLine d ws)
+      (cond (is "output" w) (outputLine d ws)
+      (cond (is "clock" w) (clockLine d ws)
+      (cond (is "location" w) (locationLine d ws)
+      (cond (is "at" w) (atLine d ws)
+      (ruleLine (w ∷ ws) (d .source))))))
+
+-- What a text gives, or a refusal's number and the line that it stands in. In line 0 stands what the file's own check refuses.
+pub data FromText (A : Type 0) : Type 0 where
+  stops : (number line : ℕ) → FromText A
+  reads : A → FromText A
+
+-- Lines one after another, the first with the number `line`.
+abbrev pub proceed : ℕ → Answer Draft → (Draft → FromText Draft) → FromText Draft
+proceed line (refused n) go = stops n line
+proceed line (gives d) go = go d
+
+unfoldable pub readLines : ℕ → Draft → List Line → FromText Draft
+readLines line d [] = reads d
+readLines line d (l ∷ ls) = proceed line (readLine d l) (λ e. readLines (suc line) e ls)
+
+-- The reading is the caller's: no text says it.
+unfoldable pub policyFrom : ℕ → Draft → Policy
+policyFrom reading d =
+    record {
+      reading = reading;
+      inputs = d .inputs;
+      outputs = d .outputs;
+      ceilings = d .ceilings;
+      locations = length (d .places);
+      left = d .left;
+      rules = d .rules;
+    }
+
+abbrev pub saidBy : ℕ → FromText Draft → FromText Policy
+saidBy reading (stops n line) = stops n line
+saidBy reading (reads d) = reads (policyFrom reading d)
+
+unfoldable pub policyFromText : ℕ → List ℕ → FromText Policy
+policyFromText reading text = saidBy reading (readLines 1 empty (linesOf text))
+
+-- The file, which passes its own check. It has no reading, so any will do here.
+abbrev pub passed : ℕ → List ℕ → FromText (List ℕ)
+passed zero f = reads f
+passed (suc n) f = stops (suc n) 0
+
+abbrev pub filed : FromText Policy → FromText (List ℕ)
+filed (stops n line) = stops n line
+filed (reads p) = passed (refusalOf (bytesOf p)) (bytesOf p)
+
+unfoldable pub fileFromText : List ℕ → FromText (List ℕ)
+fileFromText text = filed (policyFromText 1 text)
