@@ -142,7 +142,7 @@ module _ (inputs outputs : ℕ) (cs : List ℕ) (locations : ℕ) where
         },
       )
 
-  rules-good : (before : ℕ) (rs : List Rule) → rulesRefusal inputs outputs cs locations before rs ≡ 0 →
+  pub rules-good : (before : ℕ) (rs : List Rule) → rulesRefusal inputs outputs cs locations before rs ≡ 0 →
       Rising before rs × Each (Ruled inputs outputs cs locations) rs
   unfolding rulesRefusal
   rules-good before [] e = (rising-none, each-none)

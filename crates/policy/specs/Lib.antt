@@ -18,5 +18,6 @@ pub mod Bytes
 pub mod ReadBack
 pub mod WrittenBytes
 pub mod WrittenPasses
+pub mod FileBack
 pub mod Layout
 pub mod LayoutLaws

@@ -12,8 +12,8 @@ use Rattle.policy.specs.File.{inputCount, outputsAt, outputCount, clocks
 use Rattle.policy.specs.File.{rulesStart, rulesEnd, inputTags, outputTags, ceilingsOf, locationBytes, rulesOf, policyOf}
 use Rattle.policy.specs.Parts.{rules-part}
 use Rattle.policy.specs.Bytes.{pairBytes, pairsBytes, boundsBytes, ruleBytes, rulesBytes, countsBytes, bytesOf}
-use Rattle.policy.specs.Sound.{WellFormed, Each, each-none, each-more, each-weak}
-use Rattle.policy.specs.Checked.{well-ruled}
+use Rattle.policy.specs.Sound.{WellFormed, NearlyFormed, nearly, Each, each-none, each-more, each-weak}
+use Rattle.policy.specs.Checked.{rules-good}
 
 -- What is read at a position from which on the file is known.
 module _ (f : List ℕ) where
@@ -180,7 +180,7 @@ module _ (p : Policy) where
       (pairs-read (bytesOf p) (at + 1) (p .ceilings) (fromLocations p)
       (items-at (bytesOf p) at (pairsBytes (p .ceilings)) (fromLocations p) at-clocks))
 
-module _ (p : Policy) (w : WellFormed p) where
+module _ (p : Policy) (w : NearlyFormed p) where
   -- There is a byte for each location, so the rules stand after as many bytes as the count of locations says.
   pub locations-back : locationBytes (bytesOf p) ≡ p .left
   locations-back = items-read (bytesOf p) (locationsAt (bytesOf p)) (p .left) (fromRules p) (at-locations p) (w .bytes)
@@ -200,13 +200,36 @@ module _ (p : Policy) (w : WellFormed p) where
       file-after (bytesOf p) (rulesAt (bytesOf p)) (pairBytes (length (p .rules))) (rulesBytes (p .rules)) at-rules (rulesStart (bytesOf p)) refl
 
   pub bounded : Each (Bounded (length (p .ceilings))) (p .rules)
-  bounded = each-weak (λ r q. q .formed .bounds) (well-ruled p w)
+  bounded =
+      each-weak (λ r q. q .formed .bounds)
+      (rules-good (length (p .inputs)) (length (p .outputs)) (p .ceilings) (p .locations) 0 (p .rules) (w .rules) .1)
 
   pub rules-back : rulesOf (bytesOf p) ≡ p .rules
   rules-back =
       rw (rules-part (bytesOf p), count-clocks p, count-rules)
       (rules-read (bytesOf p) (length (p .ceilings)) (rulesStart (bytesOf p)) bounded [] (at-first-rule ∙ sym (append-nil _)))
 
+  pub nearly-length : length (bytesOf p)
+      ≡ 1 + length (p .inputs) + 1 + length (p .outputs) + 1 + 2 * length (p .ceilings) + 1 + p .locations + 2
+      + length (p .rules) * ruleSize (length (p .ceilings))
+  nearly-length =
+      rw (at-inputs p)
+      (simp (length-append, pairs-length) (omega (arith, rules-length (length (p .ceilings)) bounded)))
+
+  pub file-ends : rulesEnd (bytesOf p) ≡ length (bytesOf p)
+  unfolding rulesEnd rulesStart rulesAt locationsAt clocksAt outputsAt
+  file-ends =
+      omega (
+        arith,
+        nearly-length,
+        count-inputs p,
+        count-outputs p,
+        count-clocks p,
+        count-locations p,
+        ap₂ (λ (n k : ℕ). n * ruleSize k) count-rules (count-clocks p),
+      )
+
+module _ (p : Policy) (w : WellFormed p) where
   -- No bound on the numbers is used, only that each location has a byte and each rule a bound for each clock.
   pub read-back : policyOf (p .reading) (bytesOf p) ≡ p
   unfolding policyOf
@@ -218,32 +241,17 @@ module _ (p : Policy) (w : WellFormed p) where
         outputs = outputs-back p i;
         ceilings = ceilings-back p i;
         locations = count-locations p i;
-        left = locations-back i;
-        rules = rules-back i;
+        left = locations-back p (nearly w) i;
+        rules = rules-back p (nearly w) i;
       }
 
   pub bytes-length : length (bytesOf p)
       ≡ 1 + length (p .inputs) + 1 + length (p .outputs) + 1 + 2 * length (p .ceilings) + 1 + p .locations + 2
       + length (p .rules) * ruleSize (length (p .ceilings))
-  bytes-length =
-      rw (at-inputs p)
-      (simp (length-append, pairs-length) (omega (arith, rules-length (length (p .ceilings)) bounded)))
+  bytes-length = nearly-length p (nearly w)
 
   -- "The longest is 5,974 bytes."
   pub bytes-at-most : length (bytesOf p) ≤ 5974
   bytes-at-most =
       let k : ruleSize (length (p .ceilings)) ≤ 23 = omega arith in
       omega (arith, bytes-length, mul-le-mul (w .ruleCount) k)
-
-  pub file-ends : rulesEnd (bytesOf p) ≡ length (bytesOf p)
-  unfolding rulesEnd rulesStart rulesAt locationsAt clocksAt outputsAt
-  file-ends =
-      omega (
-        arith,
-        bytes-length,
-        count-inputs p,
-        count-outputs p,
-        count-clocks p,
-        count-locations p,
-        ap₂ (λ (n k : ℕ). n * ruleSize k) count-rules (count-clocks p),
-      )

@@ -26,6 +26,54 @@ pub record WellFormed (p : Policy) : Type 0 where
   pub rules : rulesRefusal (length (p .inputs)) (length (p .outputs)) (p .ceilings) (p .locations) 0 (p .rules) ≡ 0
   pub states : states p ≤ 65536
 
+-- The same but for refusals 2 and 9 of the whole: that there is a location, and how many states there are.
+pub record NearlyFormed (p : Policy) : Type 0 where
+  pub inputs : length (p .inputs) ≤ 4
+  pub outputs : length (p .outputs) ≤ 4
+  pub clocks : length (p .ceilings) ≤ 4
+  pub inputTags : tagsGood [] (p .inputs) ≡ true
+  pub outputTags : tagsGood (p .inputs) (p .outputs) ≡ true
+  pub ceilings : all ceilingGood (p .ceilings) ≡ true
+  pub locations : p .locations ≤ 64
+  pub bytes : length (p .left) ≡ p .locations
+  pub left : all locationGood (p .left) ≡ true
+  pub ruleCount : length (p .rules) ≤ 256
+  pub rules : rulesRefusal (length (p .inputs)) (length (p .outputs)) (p .ceilings) (p .locations) 0 (p .rules) ≡ 0
+
+pub nearly : {p : Policy} → WellFormed p → NearlyFormed p
+nearly w =
+    record {
+      inputs = w .inputs;
+      outputs = w .outputs;
+      clocks = w .clocks;
+      inputTags = w .inputTags;
+      outputTags = w .outputTags;
+      ceilings = w .ceilings;
+      locations = w .locations;
+      bytes = w .bytes;
+      left = w .left;
+      ruleCount = w .ruleCount;
+      rules = w .rules;
+    }
+
+pub wholly : {p : Policy} → NearlyFormed p → 0 < p .locations → states p ≤ 65536 → WellFormed p
+wholly w start states =
+    record {
+      inputs = w .inputs;
+      outputs = w .outputs;
+      clocks = w .clocks;
+      inputTags = w .inputTags;
+      outputTags = w .outputTags;
+      ceilings = w .ceilings;
+      start = start;
+      locations = w .locations;
+      bytes = w .bytes;
+      left = w .left;
+      ruleCount = w .ruleCount;
+      rules = w .rules;
+      states = states;
+    }
+
 -- P holds of each rule.
 pub data Each (P : Rule → Type 0) : List Rule → Type 0 where
   each-none : Each P []

@@ -1,10 +1,13 @@
--- The file of a policy passes the check.
-use mathlib.Core.Path.{_≡_}
+-- The file of a policy passes the check; without a location, or with too many states, it is refused for that alone.
+use mathlib.Core.Path.{_≡_, refl, _∙_}
+use mathlib.Core.Bool.{Bool, true, false, _&&_}
 use mathlib.Core.List.{List}
-use Prim.Native.Nat.{ℕ, _+_, _*_, _≤_}
+use Prim.Native.Nat.{ℕ, zero, suc, _+_, _*_, _≤_}
 use native.Mathlib.Omega.{arith}
+use lib.Dec.{leb}
 use lib.ListN.{length}
 use borrow.Author.Tests.{le-leb}
+use Rattle.streams.specs.Answer.{_orElse_, unless}
 use Rattle.policy.specs.Rules.{Policy}
 use Rattle.policy.specs.Number.{states}
 use Rattle.policy.specs.File.{ruleSize}
@@ -13,16 +16,29 @@ use Rattle.policy.specs.File.{rulesStart, rulesEnd, inputTags, outputTag
 use Rattle.policy.specs.Check.{sectionRefusal, inputsRefusal, outputsRefusal, clocksRefusal, locationsRefusal, rulesSectionRefusal}
 use Rattle.policy.specs.Check.{refusalOf}
 use Rattle.policy.specs.Bytes.{bytesOf}
-use Rattle.policy.specs.Sound.{WellFormed}
+use Rattle.policy.specs.Sound.{WellFormed, NearlyFormed, nearly}
 use Rattle.policy.specs.ReadBack.{ceilings-back, count-clocks, count-inputs, count-locations, count-outputs, count-rules, file-ends, inputs-back, locations-back, outputs-back, rules-back}
+
+section-refusal : (f : List ℕ) (at width n low high size : ℕ) → n ≤ high → at + width + n * size ≤ length f
+    → sectionRefusal f at width n low high size ≡ unless (leb low n) 2
+unfolding sectionRefusal
+section-refusal f at width n low high size b c =
+    rw (le-leb (at + width) (length f) (omega arith), le-leb n high b, le-leb (at + width + n * size) (length f) c) (go (leb low n))
+  where
+    go : (t : Bool) → (unless (t && true) 2 orElse 0) ≡ unless t 2
+    go true = refl
+    go false = refl
 
 section-passes : (f : List ℕ) (at width n low high size : ℕ) → low ≤ n → n ≤ high → at + width + n * size ≤ length f
     → sectionRefusal f at width n low high size ≡ 0
-unfolding sectionRefusal
-section-passes f at width n low high size a b c =
-    rw (le-leb (at + width) (length f) (omega arith), le-leb low n a, le-leb n high b, le-leb (at + width + n * size) (length f) c)
+section-passes f at width n low high size a b c = section-refusal f at width n low high size b c ∙ rw (le-leb low n a)
 
-module _ (p : Policy) (w : WellFormed p) where
+-- The contents that pass are refused by nothing.
+alone : (n : ℕ) → (n orElse 0) ≡ n
+alone zero = refl
+alone (suc n) = refl
+
+module _ (p : Policy) (w : NearlyFormed p) where
   inputs-pass : inputsRefusal (bytesOf p) ≡ 0
   unfolding inputsRefusal rulesEnd rulesStart rulesAt locationsAt clocksAt outputsAt
   inputs-pass =
@@ -53,15 +69,16 @@ module _ (p : Policy) (w : WellFormed p) where
         w .ceilings,
       )
 
-  locations-pass : locationsRefusal (bytesOf p) ≡ 0
+  locations-refusal : locationsRefusal (bytesOf p) ≡ unless (leb 1 (p .locations)) 2
   unfolding locationsRefusal rulesEnd rulesStart rulesAt
-  locations-pass =
+  locations-refusal =
       rw (
-        section-passes (bytesOf p) (locationsAt (bytesOf p)) 1 (locationCount (bytesOf p)) 1 64 1 (omega (arith, count-locations p))
-            (omega (arith, count-locations p)) (omega (arith, file-ends p w)),
+        section-refusal (bytesOf p) (locationsAt (bytesOf p)) 1 (locationCount (bytesOf p)) 1 64 1 (omega (arith, count-locations p))
+            (omega (arith, file-ends p w)),
         locations-back p w,
         w .left,
-      )
+        count-locations p,
+      ) (alone (unless (leb 1 (p .locations)) 2))
 
   rules-pass : rulesSectionRefusal (bytesOf p) ≡ 0
   unfolding rulesSectionRefusal rulesEnd rulesStart
@@ -77,18 +94,20 @@ module _ (p : Policy) (w : WellFormed p) where
         w .rules,
       )
 
-  pub written-passes : refusalOf (bytesOf p) ≡ 0
+  pub written-refusal : refusalOf (bytesOf p) ≡ (unless (leb 1 (p .locations)) 2 orElse unless (leb (states p) 65536) 9)
   unfolding refusalOf
-  written-passes =
+  written-refusal =
       rw (
         inputs-pass,
         outputs-pass,
         clocks-pass,
-        locations-pass,
+        locations-refusal,
         rules-pass,
         le-leb (length (bytesOf p)) (rulesEnd (bytesOf p)) (omega (arith, file-ends p w)),
         ceilings-back p,
         count-clocks p,
         count-locations p,
-        le-leb (states p) 65536 (w .states),
       )
+
+pub written-passes : (p : Policy) → WellFormed p → refusalOf (bytesOf p) ≡ 0
+written-passes p w = written-refusal p (nearly w) ∙ rw (le-leb 1 (p .locations) (w .start), le-leb (states p) 65536 (w .states))

@@ -14,6 +14,7 @@ use Rattle.policy.specs.Check.{isCapital, among, tagsGood, refusalOf}
 use Rattle.policy.specs.Sound.{WellFormed}
 use Rattle.policy.specs.Checked.{checked-file}
 use Rattle.policy.specs.WrittenPasses.{written-passes}
+use Rattle.policy.specs.FileBack.{file-written}
 use Rattle.texts.specs.Text.{ascii}
 use Rattle.wording.specs.Words.{Word, Line, parts, isSign, kind, linesOf}
 use Rattle.wording.specs.Laid.{allOf, whole, AllWhole, whole-none, whole-more, whole-both, EachWhole, lines-none, lines-more, lines-both, laid-read}
@@ -21,7 +22,6 @@ use Rattle.wording.specs.NamesBack.{decimal-whole, name-whole, letter-wh
 use Rattle.wording.specs.Reader.{Draft, empty, FromText, stops, reads, saidBy, passed, filed, readLines, policyFrom, policyFromText, fileFromText}
 use Rattle.wording.specs.Writer.{clockName, placeName, signalLines, clockLines, leftWords, locationLines, when, odd, signalWord, signalWords, lowWords, highWords, boundWords}
 use Rattle.wording.specs.Writer.{orAny, targetWord, resetNames, afterReset, isAt, atLines, conditionWords, ruleWords, ruleLines, policyLines, margin, textOf, textOfFile}
-use Rattle.wording.specs.FileBack.{file-written}
 use Rattle.wording.specs.LinesBack.{lines-read, policy-said, numbers-aside}
 
 -- Every written word is whole.

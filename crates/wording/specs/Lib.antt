@@ -4,7 +4,6 @@ pub mod Names
 pub mod Reader
 pub mod Writer
 pub mod NamesBack
-pub mod FileBack
 pub mod ConditionsBack
 pub mod RuleBack
 pub mod LinesBack
