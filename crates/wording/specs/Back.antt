@@ -180,7 +180,3 @@ text-passes text f h = go (policyFromText 1 text) h
     go : (r : FromText Policy) → filed r ≡ reads f → refusalOf f ≡ 0
     go (stops n line) k = absurd (let z : _≡_ {A = ℕ} 0 1 = cc in omega arith)
     go (reads p) k = file (refusalOf (bytesOf p)) (bytesOf p) refl k
-
--- So the writer's text for it gives it again.
-pub rewritten : (text f : List ℕ) → ((i : ℕ) → getD f i 0 < 256) → fileFromText text ≡ reads f → fileFromText (textOfFile f) ≡ reads f
-rewritten text f bytes h = any-file-back f bytes (text-passes text f h)

@@ -48,7 +48,7 @@ bit-free : (n c : ℕ) → c < 2 ^ n → unset c n ≡ true
 bit-free n c h = rw (div-eq-of-lt h)
 
 -- A value within its care mask.
-value-bit : (value care : ℕ) → bitAnd value care ≡ value → (value % 2 ≤ care % 2) × (bitAnd (value / 2) (care / 2) ≡ value / 2)
+pub value-bit : (value care : ℕ) → bitAnd value care ≡ value → (value % 2 ≤ care % 2) × (bitAnd (value / 2) (care / 2) ≡ value / 2)
 value-bit value care h = let s = and-step value care in (omega arith, omega arith)
 
 odd-true : (m : ℕ) → odd m ≡ true → m % 2 ≡ 1

@@ -11,3 +11,7 @@ pub mod Back
 pub mod Refuses
 pub mod Computing
 pub mod Samples
+pub mod Masks
+pub mod Kept
+pub mod Good
+pub mod Given

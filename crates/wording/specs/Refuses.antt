@@ -1,23 +1,20 @@
--- What the reader refuses: by 4, 7 or 30 to 34 in a line of the text, or by 1 to 9 as the file's own check does.
+-- What a line is refused by: 4, 7 or 30 to 34.
 use mathlib.Core.Path.{_≡_, refl, ap, sym, _∙_}
-use mathlib.Core.Logic.{_⊎_}
 use mathlib.Core.Bool.{Bool, true, false, cond, _&&_, _||_}
-use mathlib.Core.List.{List, [], _∷_, _++_}
+use mathlib.Core.List.{List, [], _∷_}
 use mathlib.Core.Option.{Option, none, some}
 use Prim.Native.Nat.{ℕ, zero, suc, _+_, _≤_, _<_}
 use native.Mathlib.Omega.{arith}
 use lib.Dec.{leb, ltb, eqb}
 use lib.ListN.{length}
 use Rattle.streams.specs.Answer.{Answer, refused, gives}
-use Rattle.policy.specs.Check.{isCapital, among, ceilingGood, boundsGood, refusalOf}
-use Rattle.policy.specs.CheckLaws.{refusal-le}
-use Rattle.policy.specs.Bytes.{bytesOf}
+use Rattle.policy.specs.Check.{isCapital, among, ceilingGood, boundsGood}
 use Rattle.texts.specs.Decimal.{valueFrom}
-use Rattle.wording.specs.Words.{Word, Line, linesOf}
+use Rattle.wording.specs.Words.{Word, Line}
 use Rattle.wording.specs.Names.{find, is, isName, isNumber, _andThen_, must, known, free, numbered, through}
-use Rattle.wording.specs.Reader.{Draft, scope, Begun, Part, opening, more, arrow, sign, atLeast, atMost, goes, gone, clears, empty, unset, bare, ends, letter, newName, tags, newSignal, withInput, withOutput, signal, signalOr}
+use Rattle.wording.specs.Reader.{Draft, scope, Begun, Part, opening, more, arrow, sign, atLeast, atMost, goes, gone, clears, unset, bare, ends, letter, newName, tags, newSignal, withInput, withOutput, signal, signalOr}
 use Rattle.wording.specs.Reader.{signalLine, inputLine, outputLine, clockLine, newPlace, locationLine, risen, atLine, onSignal, onReset, condition, wordAt, ruleWord, ruleLine, readLine}
-use Rattle.wording.specs.Reader.{FromText, stops, reads, proceed, readLines, saidBy, policyFrom, policyFromText, passed, filed, fileFromText}
+use Rattle.wording.specs.Reader.{stops, proceed, readLines}
 
 -- The refusals with a line: 4 and 7, which the file's own check has too, and 30 to 34.
 abbrev pub inLine : ℕ → Bool
@@ -160,10 +157,10 @@ module _ (d : Draft) where
       (known-cond (is "at" w) _ _ (known-at ws) (known-rule (w ∷ ws) (d .source))))))
 
 -- Its number, and that its line is one of the text.
-abbrev Numbered : (first count n line : ℕ) → Type 0
+abbrev pub Numbered : (first count n line : ℕ) → Type 0
 Numbered first count n line = (inLine n ≡ true) × (first ≤ line) × (line < first + count)
 
-in-line : (first : ℕ) (d : Draft) (ls : List Line) (n line : ℕ) → readLines first d ls ≡ stops n line → Numbered first (length ls) n line
+pub in-line : (first : ℕ) (d : Draft) (ls : List Line) (n line : ℕ) → readLines first d ls ≡ stops n line → Numbered first (length ls) n line
 unfolding readLines
 in-line first d [] n line h = absurd (let z : _≡_ {A = ℕ} 0 1 = cc in omega arith)
 in-line first d (l ∷ ls) n line h = go (readLine d l) (known-line d l) h (λ e. in-line (suc first) e ls n line)
@@ -176,24 +173,3 @@ in-line first d (l ∷ ls) n line h = go (readLine d l) (known-line d l) h (λ e
         let place : first ≡ line = cc in
         (ap inLine (sym number) ∙ h, omega arith, omega arith)
     go (gives e) fine k rest = let r = rest e k in (r .0, omega arith, omega arith)
-
--- A refusal is 4, 7 or 30 to 34 in a line of the text, or 1 to 9 in line 0.
-pub refused-so : (text : List ℕ) (n line : ℕ) → fileFromText text ≡ stops n line →
-    Numbered 1 (length (linesOf text)) n line ⊎ ((1 ≤ n) × (n ≤ 9) × (line ≡ 0))
-unfolding fileFromText policyFromText
-refused-so text n line h = go (readLines 1 empty (linesOf text)) refl h
-  where
-    file : (m : ℕ) (f : List ℕ) → m ≤ 9 → passed m f ≡ stops n line → (1 ≤ n) × (n ≤ 9) × (line ≡ 0)
-    file zero f l k = absurd (let z : _≡_ {A = ℕ} 0 1 = cc in omega arith)
-    file (suc m) f l k =
-        let number : suc m ≡ n = cc in
-        let place : _≡_ {A = ℕ} 0 line = cc in
-        (omega arith, omega arith, omega arith)
-
-    go : (r : FromText Draft) → readLines 1 empty (linesOf text) ≡ r → filed (saidBy 1 r) ≡ stops n line →
-        Numbered 1 (length (linesOf text)) n line ⊎ ((1 ≤ n) × (n ≤ 9) × (line ≡ 0))
-    go (stops m k) e g =
-        let number : m ≡ n = cc in
-        let place : k ≡ line = cc in
-        _⊎_.inl (in-line 1 empty (linesOf text) n line (e ∙ (λ i. stops (number i) (place i))))
-    go (reads d) e g = _⊎_.inr (file (refusalOf (bytesOf (policyFrom 1 d))) (bytesOf (policyFrom 1 d)) (refusal-le (bytesOf (policyFrom 1 d))) g)
