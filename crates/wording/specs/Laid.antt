@@ -78,7 +78,7 @@ margin-read zero cs = refl
 margin-read (suc n) cs = margin-read n cs
 
 -- No byte ends a line.
-abbrev Unended : List ℕ → Type 0
+abbrev pub Unended : List ℕ → Type 0
 Unended [] = Unit {0}
 Unended (c ∷ cs) = (eqb c 10 ≡ false) × Unended cs
 
@@ -112,7 +112,7 @@ unended-words [] h = tt
 unended-words (w ∷ []) (whole-more h g) = unended-word w h
 unended-words (w ∷ v ∷ ws) (whole-more h g) = unended-both w (32 ∷ spacedOut (v ∷ ws)) (unended-word w h) (refl, unended-words (v ∷ ws) g)
 
-line-split : (cs rest : List ℕ) → Unended cs → split (cs ++ (10 ∷ rest)) ≡ cs ∷ split rest
+pub line-split : (cs rest : List ℕ) → Unended cs → split (cs ++ (10 ∷ rest)) ≡ cs ∷ split rest
 unfolding split
 line-split [] rest h = refl
 line-split (c ∷ cs) rest h = rw (h .0, line-split cs rest (h .1))

@@ -15,3 +15,5 @@ pub mod Masks
 pub mod Kept
 pub mod Good
 pub mod Given
+pub mod Whole
+pub mod Blanks
