@@ -17,3 +17,6 @@ pub mod Good
 pub mod Given
 pub mod Whole
 pub mod Blanks
+pub mod RuleLines
+pub mod Others
+pub mod InOrder

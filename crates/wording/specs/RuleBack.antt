@@ -74,12 +74,12 @@ starts-conditions p r =
     (starts-both (starts-signals (p .outputs) (r .outCare) (r .outValue)) (starts-bounds 0 (r .bounds)))
 
 -- A plain word is none of the language.
-neither : (a b : Bool) → not (a || b) ≡ true → (a ≡ false) × (not b ≡ true)
+pub neither : (a b : Bool) → not (a || b) ≡ true → (a ≡ false) × (not b ≡ true)
 neither true b h = absurd (false≢true h)
 neither false b h = (refl, h)
 
 module _ (w : Word) (h : isPlain w ≡ true) where
-  plain-words : (is "input" w ≡ false) × (is "output" w ≡ false) × (is "clock" w ≡ false) × (is "location" w ≡ false) × (is "at" w ≡ false)
+  pub plain-words : (is "input" w ≡ false) × (is "output" w ≡ false) × (is "clock" w ≡ false) × (is "location" w ≡ false) × (is "at" w ≡ false)
       × (is "any" w ≡ false) × (is "->" w ≡ false)
   unfolding isPlain
   plain-words =
