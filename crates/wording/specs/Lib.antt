@@ -20,3 +20,5 @@ pub mod Blanks
 pub mod RuleLines
 pub mod Others
 pub mod InOrder
+pub mod Lettered
+pub mod LetteredReads
