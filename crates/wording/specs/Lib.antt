@@ -22,3 +22,4 @@ pub mod Others
 pub mod InOrder
 pub mod Lettered
 pub mod LetteredReads
+pub mod Longest
