@@ -1,16 +1,14 @@
 -- Comments, blanks, line ends and blank lines change nothing: the words of the lines alone are read.
-use mathlib.Core.Path.{_≡_, refl, ap, ap₂, sym, _∙_}
+use mathlib.Core.Path.{_≡_, refl, ap, sym, _∙_}
 use mathlib.Core.Bool.{Bool, true, false, cond, _||_, false≢true}
 use mathlib.Core.List.{List, [], _∷_, _++_}
-use Prim.Native.Nat.{ℕ, zero, suc}
-use native.Mathlib.Omega.{arith}
+use Prim.Native.Nat.{ℕ, suc}
 use lib.Dec.{eqb}
 use borrow.Author.Tests.{eqb-true, eqb-false, eq-eqb, ne-eqb}
 use Rattle.streams.specs.Answer.{Answer, refused, gives}
-use Rattle.policy.specs.Rules.{Policy}
 use Rattle.policy.specs.Check.{refusalOf}
 use Rattle.policy.specs.Bytes.{bytesOf}
-use Rattle.wording.specs.Words.{Word, Line, parts, isSign, kind, firstKind, onto, wordsOf, split, eachWords, linesOf, laid}
+use Rattle.wording.specs.Words.{Line, parts, kind, firstKind, onto, wordsOf, split, eachWords, linesOf, laid}
 use Rattle.wording.specs.Laid.{Unended, line-split, laid-read}
 use Rattle.wording.specs.Names.{_andThen_, through}
 use Rattle.wording.specs.Reader.{Draft, empty, readLine, FromText, reads, stops, proceed, readLines, saidBy, policyFrom, policyFromText, passed, filed, fileFromText}
@@ -158,11 +156,25 @@ blank-for-blank front b c back h g =
       lines = blank-front b h back ∙ sym (blank-front c g back);
     })
 
+last-split : (c : ℕ) (cs : List ℕ) → Unended (c ∷ cs) → split (c ∷ cs) ≡ (c ∷ cs) ∷ []
+unfolding split
+last-split c [] h = rw (h .0)
+last-split c (d ∷ ds) h = rw (h .0, last-split d ds (h .1))
+
 -- A comment, as far as its line's end.
 pub comment-gone : (front comment back : List ℕ) → Unended comment → fileFromText (front ++ (35 ∷ (comment ++ (10 ∷ back)))) ≡ fileFromText (front ++ (10 ∷ back))
 unfolding linesOf split wordsOf kind parts
 comment-gone front comment back h =
     read-alike front (record { first = refl; lines = ap eachWords (line-split (35 ∷ comment) back (refl, h)) })
+
+-- One that ends the text does what a blank does.
+pub comment-last : (front comment : List ℕ) → Unended comment → fileFromText (front ++ (35 ∷ comment)) ≡ fileFromText (front ++ (32 ∷ []))
+unfolding linesOf split wordsOf kind parts
+comment-last front comment h = read-alike front (record { first = refl; lines = ap eachWords (one-line comment h) })
+  where
+    one-line : (cs : List ℕ) → Unended cs → onto 35 (split cs) ≡ (35 ∷ cs) ∷ []
+    one-line [] h = refl
+    one-line (c ∷ cs) h = ap (onto 35) (last-split c cs h)
 
 -- The lines that have words.
 unfoldable pub spoken : List Line → List Line

@@ -10,12 +10,11 @@ use lib.ListN.{length, getD}
 use borrow.Author.Tests.{leb-true}
 use Rattle.streams.specs.Answer.{_orElse_, unless}
 use Rattle.streams.specs.AnswerLaws.{none-refused, none-unless}
-use Rattle.policy.specs.Rules.{Policy}
 use Rattle.policy.specs.Number.{states}
 use Rattle.policy.specs.File.{policyOf}
 use Rattle.policy.specs.Check.{refusalOf}
 use Rattle.policy.specs.Bytes.{bytesOf}
-use Rattle.policy.specs.Sound.{WellFormed, NearlyFormed, wholly}
+use Rattle.policy.specs.Sound.{WellFormed, wholly}
 use Rattle.policy.specs.ReadBack.{read-back}
 use Rattle.policy.specs.WrittenBytes.{bytes-are-bytes}
 use Rattle.policy.specs.WrittenPasses.{written-refusal}
@@ -23,7 +22,7 @@ use Rattle.wording.specs.Words.{linesOf}
 use Rattle.wording.specs.Reader.{Draft, empty, FromText, stops, reads, readLines, saidBy, policyFrom, policyFromText, passed, filed, fileFromText}
 use Rattle.wording.specs.Writer.{textOfFile}
 use Rattle.wording.specs.Good.{Good, all-good, good-nearly}
-use Rattle.wording.specs.Refuses.{inLine, Numbered, in-line}
+use Rattle.wording.specs.Refuses.{inLine, in-line}
 use Rattle.wording.specs.Back.{any-file-back, text-passes}
 
 -- The file that a draft gives is refused, if at all, for its locations or for its states.

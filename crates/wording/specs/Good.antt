@@ -1,29 +1,29 @@
 -- What holds of a draft after every line that is read: all that the file's own check asks of a policy, but for a location and the number of states.
 use mathlib.Core.Path.{_≡_, refl, ap, sym, _∙_}
-use mathlib.Core.Bool.{Bool, true, false, cond, not, _&&_, _||_, and-eq-true-iff, false≢true}
+use mathlib.Core.Bool.{Bool, true, false, cond, not, _&&_, _||_, and-eq-true-iff}
 use mathlib.Core.List.{List, [], _∷_, _++_, append-assoc, append-nil}
 use mathlib.Core.Logic.{_⊎_}
 use mathlib.Core.Option.{Option, none, some}
-use Prim.Native.Nat.{ℕ, zero, suc, _+_, _/_, _%_, _^_, _≤_, _<_}
+use Prim.Native.Nat.{ℕ, suc, _+_, _/_, _%_, _^_, _≤_, _<_}
 use native.Mathlib.Nat.{mod-lt}
 use native.Mathlib.Omega.{arith}
 use lib.Dec.{leb, ltb, eqb}
 use lib.Bits.{bitAnd}
 use lib.ListN.{length, length-append}
 use lib.Pow.{pow-pos}
-use borrow.Author.Tests.{leb-true, le-leb, ltb-true, lt-ltb, eqb-true, eq-eqb, not-true}
-use Rattle.streams.specs.Answer.{Answer, refused, gives, _orElse_, unless}
+use borrow.Author.Tests.{leb-true, le-leb, ltb-true, lt-ltb, eqb-true, eq-eqb}
+use Rattle.streams.specs.Answer.{Answer, refused, gives}
 use Rattle.streams.specs.AnswerLaws.{none-refused}
 use Rattle.policy.specs.Rules.{Rule}
 use Rattle.policy.specs.Check.{isCapital, among, tagsGood, all, ceilingGood, locationGood, maskGood, headGood, boundsGood, ruleRefusal, rulesRefusal}
 use Rattle.policy.specs.Checked.{all-append}
 use Rattle.policy.specs.Sound.{NearlyFormed}
 use Rattle.wording.specs.Words.{Word, Line}
-use Rattle.wording.specs.Names.{same, find, is, isName, _andThen_, must, free, numbered, through, lettersOf}
-use Rattle.wording.specs.Reader.{Draft, empty, letter, newName, tags, newSignal, withInput, withOutput, signalLine, inputLine, outputLine, clockLine, newPlace, locationLine, risen, atLine}
-use Rattle.wording.specs.Reader.{Begun, Part, opening, more, arrow, sign, atLeast, atMost, goes, gone, clears, bare, unset, turn, onSignal, onBound, onTarget, onReset, atLeastOf, atMostOf}
-use Rattle.wording.specs.Reader.{Scope, scope, signalBy, signal, signalOr, condition, wordAt, ruleWord, ends, ruleOf, addRule, ruleLine, readLine, FromText, reads, stops, proceed, readLines, policyFrom}
-use Rattle.wording.specs.Kept.{Keeps, stops-here, goes-on, kept, keeps-must, keeps-known, keeps-free, keeps-cond, keeps-numbered, keeps-then, keeps-through}
+use Rattle.wording.specs.Names.{same, find, is, isName, _andThen_, must, free, through, lettersOf}
+use Rattle.wording.specs.Reader.{Draft, empty, letter, newName, tags, withInput, withOutput, signalLine, inputLine, outputLine, clockLine, newPlace, locationLine, risen, atLine}
+use Rattle.wording.specs.Reader.{Begun, Part, opening, more, arrow, sign, atLeast, atMost, goes, gone, clears, bare, unset, turn, onSignal, onBound, onTarget, onReset}
+use Rattle.wording.specs.Reader.{Scope, scope, signal, signalOr, condition, wordAt, ruleWord, ends, ruleOf, addRule, ruleLine, readLine, reads, proceed, readLines, policyFrom}
+use Rattle.wording.specs.Kept.{Keeps, stops-here, goes-on, keeps-must, keeps-known, keeps-free, keeps-cond, keeps-numbered, keeps-then, keeps-through}
 use Rattle.wording.specs.Masks.{bit-room, bit-within, within-inputs, within-outputs, outputs-below}
 
 -- The signals: a name, or none, for each.

@@ -10,13 +10,13 @@ use lib.Seq.{take-append-seam, getD-append-seam}
 use Rattle.streams.specs.Answer.{Answer, refused, gives}
 use Rattle.policy.specs.Rules.{Rule, Policy}
 use Rattle.policy.specs.File.{policyOf}
-use Rattle.wording.specs.Words.{Word, Line, linesOf}
+use Rattle.wording.specs.Words.{Line, linesOf}
 use Rattle.wording.specs.Names.{is}
-use Rattle.wording.specs.Kept.{Keeps, stops-here, goes-on, kept, keeps-weak, keeps-must, keeps-if}
+use Rattle.wording.specs.Kept.{Keeps, goes-on, kept, keeps-weak, keeps-must, keeps-if}
 use Rattle.wording.specs.Good.{keeps-signals}
-use Rattle.wording.specs.Given.{Said, read-said, said-policy}
+use Rattle.wording.specs.Given.{read-said, said-policy}
 use Rattle.wording.specs.RuleLines.{isRule, rulesAmong, ruleNumbers}
-use Rattle.wording.specs.Others.{rule-by, Aside, clock-aside, location-aside, at-aside, rule-adds}
+use Rattle.wording.specs.Others.{rule-by, clock-aside, location-aside, at-aside, rule-adds}
 use Rattle.wording.specs.Reader.{Draft, empty, withInput, withOutput, inputLine, outputLine, addRule, readLine, reads, proceed, readLines, policyFrom, fileFromText}
 
 -- A line that is none of a rule adds no rule.

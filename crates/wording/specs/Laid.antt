@@ -128,21 +128,3 @@ laid-read margin (l ∷ ls) (lines-more h g) =
     let first : wordsOf text ≡ l = margin-read (margin l) (spacedOut l) ∙ words-read l h in
     let rest : eachWords (split (laid margin ls)) ≡ ls = laid-read margin ls g in
     rw one (λ i. first i ∷ rest i)
-
--- A comment changes nothing, nor does a carriage return before the line's end.
-first-kind : (cs : List ℕ) (c : ℕ) (ds : List ℕ) → kind c ≡ 0 → firstKind (cs ++ (c ∷ ds)) ≡ firstKind cs
-first-kind [] c ds h = h
-first-kind (b ∷ cs) c ds h = refl
-
-cut-off : (cs : List ℕ) (c : ℕ) (ds : List ℕ) → kind c ≡ 0 → wordsOf (c ∷ ds) ≡ [] → wordsOf (cs ++ (c ∷ ds)) ≡ wordsOf cs
-unfolding wordsOf
-cut-off [] c ds h e = e
-cut-off (b ∷ cs) c ds h e = rw (first-kind cs c ds h, cut-off cs c ds h e)
-
-pub comment-dropped : (cs ds : List ℕ) → wordsOf (cs ++ (35 ∷ ds)) ≡ wordsOf cs
-unfolding wordsOf kind parts
-comment-dropped cs ds = cut-off cs 35 ds refl refl
-
-pub return-dropped : (cs : List ℕ) → wordsOf (cs ++ (13 ∷ [])) ≡ wordsOf cs
-unfolding wordsOf kind parts
-return-dropped cs = cut-off cs 13 [] refl refl

@@ -1,24 +1,24 @@
 -- Names change nothing: a text with each signal's letter in the place of its name is read alike.
-use mathlib.Core.Path.{_≡_, refl, ap, ap₂, sym, _∙_}
+use mathlib.Core.Path.{_≡_, refl, ap, sym, _∙_}
 use mathlib.Core.Bool.{Bool, true, false, cond, _&&_, _||_, and-eq-true-iff, and-false, false≢true}
 use mathlib.Core.List.{List, [], _∷_, _++_, append-assoc, append-nil}
 use mathlib.Core.Option.{Option, none, some}
-use Prim.Native.Nat.{ℕ, zero, suc, _+_, _≤_, _<_}
+use Prim.Native.Nat.{ℕ, suc, _+_, _≤_}
 use native.Mathlib.Omega.{arith}
-use lib.Dec.{leb, ltb, eqb}
+use lib.Dec.{leb, eqb}
 use lib.ListN.{length, length-append}
 use borrow.Author.Tests.{leb-true, lt-leb, eqb-true, ne-eqb}
 use Rattle.streams.specs.Answer.{Answer, refused, gives}
 use Rattle.policy.specs.Rules.{Rule}
 use Rattle.policy.specs.Check.{isCapital, among}
-use Rattle.wording.specs.Words.{Word, Line, linesOf, laid}
-use Rattle.wording.specs.Names.{same, find, is, isLower, isDigit, every, isPlain, isName, isNumber, _andThen_, must, known, numbered, through, lettersOf}
+use Rattle.wording.specs.Words.{Word, Line, linesOf}
+use Rattle.wording.specs.Names.{same, find, is, isLower, isDigit, every, isPlain, isName, isNumber, _andThen_, known, numbered, through, lettersOf}
 use Rattle.wording.specs.NamesBack.{same-self, same-true, find-letter, letter-whole, off-whole}
 use Rattle.wording.specs.Laid.{whole, AllWhole, whole-none, whole-more, EachWhole, lines-none, lines-more, laid-read}
 use Rattle.wording.specs.ConditionsBack.{letter-other}
 use Rattle.wording.specs.RuleBack.{plain-words}
-use Rattle.wording.specs.Reader.{Draft, empty, tags, withInput, withOutput, inputLine, outputLine, Begun, Part, opening, more, arrow, sign, atLeast, atMost, goes, gone, clears, bare, unset, turn, onSignal, onBound}
-use Rattle.wording.specs.Reader.{Scope, scope, signalBy, signal, signalOr, condition, wordAt, ruleWord, ends, ruleOf, addRule, ruleLine, readLine, FromText, reads, stops, proceed, readLines, policyFromText, filed, saidBy, fileFromText}
+use Rattle.wording.specs.Reader.{Draft, empty, tags, withInput, withOutput, inputLine, outputLine, Begun, Part, opening, more, arrow, sign, atLeast, atMost, goes, gone, clears, bare, unset, onSignal, onBound}
+use Rattle.wording.specs.Reader.{Scope, scope, signalBy, signal, signalOr, condition, wordAt, ruleWord, addRule, ruleLine, readLine, FromText, proceed, readLines, policyFromText, filed, saidBy, fileFromText}
 use Rattle.wording.specs.Kept.{Keeps, stops-here, goes-on, keeps-weak, keeps-must, keeps-known, keeps-cond, keeps-if, keeps-numbered}
 use Rattle.wording.specs.Good.{Good, Signalled, unnamed, named, keeps-signals, line-good, good-empty}
 use Rattle.wording.specs.RuleLines.{isRule}
@@ -39,7 +39,7 @@ record Other (w : Word) : Type 0 where
   most : is "<=" w ≡ false
   number : isNumber w ≡ false
 
-no-digit : (c : ℕ) → 58 ≤ c → isDigit c ≡ false
+pub no-digit : (c : ℕ) → 58 ≤ c → isDigit c ≡ false
 unfolding isDigit
 no-digit c h = rw (lt-leb c 57 h) (and-false (leb 48 c))
 
@@ -69,7 +69,7 @@ off-is-other cs =
     record { input = refl; output = refl; clock = refl; location = refl; at = refl; any = refl; arrow = refl; least = refl; most = refl; number = refl }
 
 -- The first byte of a name is a small letter.
-name-low : (c : ℕ) (cs : Word) → isName (c ∷ cs) ≡ true → 97 ≤ c
+pub name-low : (c : ℕ) (cs : Word) → isName (c ∷ cs) ≡ true → 97 ≤ c
 unfolding isName
 name-low c cs h = leb-true 97 c (and-eq-true-iff (leb 97 c) _ .0 (and-eq-true-iff (isLower c) _ .0 h .0) .0)
 
@@ -99,11 +99,11 @@ name-is-other (c ∷ cs) h =
       number = rw (no-digit c (omega arith));
     }
 
-no-name : isName [] ≡ true → ⊥
+pub no-name : isName [] ≡ true → ⊥
 unfolding isName
 no-name h = false≢true h
 
-no-capital : (c : ℕ) → 91 ≤ c → isCapital c ≡ false
+pub no-capital : (c : ℕ) → 91 ≤ c → isCapital c ≡ false
 no-capital c h = rw (lt-leb c 90 h) (and-false (leb 65 c))
 
 -- A name's signal and its letter's are one.

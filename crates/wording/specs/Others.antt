@@ -1,7 +1,7 @@
 -- What a line leaves as it is: one of a rule adds that rule alone, one of a clock or a location and an `at` leave the signals and the rules.
 use mathlib.Core.Path.{_≡_, refl}
 use mathlib.Core.Bool.{true, _&&_}
-use mathlib.Core.List.{List, [], _∷_}
+use mathlib.Core.List.{[], _∷_}
 use mathlib.Core.Option.{Option, none, some}
 use Prim.Native.Nat.{ℕ}
 use lib.Dec.{leb, ltb}

@@ -7,6 +7,8 @@ use Rattle.texts.specs.Text.{ascii}
 use Rattle.wording.specs.Computing.{the-file, the-check, the-words, the-reader, the-writer}
 use Rattle.wording.specs.Reader.{fileFromText, reads, stops}
 use Rattle.wording.specs.Writer.{textOfFile}
+use Rattle.wording.specs.RuleLines.{isRule, rulesAmong, ruleNumbers}
+use Rattle.wording.specs.Lettered.{noted, letterFor, wordLettered, ruleLettered, lettered, withLetters}
 
 abbrev S : List ℕ
 S =
@@ -100,6 +102,17 @@ pub valve : (fileFromText textValve ≡ reads Valve)
     × (fileFromText writtenValve ≡ reads Valve)
 unfolding the-file the-check the-words the-reader the-writer
 valve = (refl, refl, refl, refl)
+
+-- Letters for the names of signals, and for those alone: a location may have such a name too.
+pub lettered-shown : withLetters (ascii "input A lid\nclock age 6\nlocation lid\nat lid\n  !lid age<=4 -> lid reset age # closed\n")
+    ≡ ascii "input A lid\nclock age 6\nlocation lid\nat lid\n!A age <= 4 -> lid reset age\n"
+unfolding the-words isRule noted letterFor wordLettered ruleLettered lettered withLetters
+lettered-shown = refl
+
+-- The lines of the rules.
+pub numbers-shown : ruleNumbers textValve ≡ 10 ∷ 11 ∷ 12 ∷ 14 ∷ 15 ∷ []
+unfolding the-words isRule rulesAmong
+numbers-shown = refl
 
 -- The number of the refusal, and its line; 0 for the file as a whole.
 pub refusals :
