@@ -216,6 +216,12 @@ module _ (p : Policy) (w : NearlyFormed p) where
       rw (at-inputs p)
       (simp (length-append, pairs-length) (omega (arith, rules-length (length (p .ceilings)) bounded)))
 
+  -- "The longest is 5,974 bytes."
+  pub bytes-at-most : length (bytesOf p) ≤ 5974
+  bytes-at-most =
+      let k : ruleSize (length (p .ceilings)) ≤ 23 = omega arith in
+      omega (arith, nearly-length, mul-le-mul (w .ruleCount) k)
+
   pub file-ends : rulesEnd (bytesOf p) ≡ length (bytesOf p)
   unfolding rulesEnd rulesStart rulesAt locationsAt clocksAt outputsAt
   file-ends =
@@ -249,9 +255,3 @@ module _ (p : Policy) (w : WellFormed p) where
       ≡ 1 + length (p .inputs) + 1 + length (p .outputs) + 1 + 2 * length (p .ceilings) + 1 + p .locations + 2
       + length (p .rules) * ruleSize (length (p .ceilings))
   bytes-length = nearly-length p (nearly w)
-
-  -- "The longest is 5,974 bytes."
-  pub bytes-at-most : length (bytesOf p) ≤ 5974
-  bytes-at-most =
-      let k : ruleSize (length (p .ceilings)) ≤ 23 = omega arith in
-      omega (arith, bytes-length, mul-le-mul (w .ruleCount) k)

@@ -26,7 +26,7 @@ use Rattle.wording.specs.Refuses.{inLine, in-line}
 use Rattle.wording.specs.Back.{any-file-back, text-passes}
 
 -- The file that a draft gives is refused, if at all, for its locations or for its states.
-good-refusal : (d : Draft) → Good d →
+pub good-refusal : (d : Draft) → Good d →
     refusalOf (bytesOf (policyFrom 1 d)) ≡ (unless (leb 1 (policyFrom 1 d .locations)) 2 orElse unless (leb (states (policyFrom 1 d)) 65536) 9)
 good-refusal d g = written-refusal (policyFrom 1 d) (good-nearly 1 d g)
 

@@ -17,7 +17,9 @@ use Rattle.streams.specs.AnswerLaws.{none-refused}
 use Rattle.policy.specs.Rules.{Rule}
 use Rattle.policy.specs.Check.{isCapital, among, tagsGood, all, ceilingGood, locationGood, maskGood, headGood, boundsGood, ruleRefusal, rulesRefusal}
 use Rattle.policy.specs.Checked.{all-append}
+use Rattle.policy.specs.Bytes.{bytesOf}
 use Rattle.policy.specs.Sound.{NearlyFormed}
+use Rattle.policy.specs.ReadBack.{bytes-at-most}
 use Rattle.wording.specs.Words.{Word, Line}
 use Rattle.wording.specs.Names.{same, find, is, isName, _andThen_, must, free, through, lettersOf}
 use Rattle.wording.specs.Reader.{Draft, empty, letter, newName, tags, withInput, withOutput, signalLine, inputLine, outputLine, clockLine, newPlace, locationLine, risen, atLine}
@@ -512,3 +514,7 @@ good-nearly reading d g =
         (length (d .rules) ≤ 256) × (rulesRefusal (length (d .inputs)) (length (d .outputs)) (d .ceilings) (length (d .places)) 0 (d .rules) ≡ 0)
     at (before-at e) = (rw e (omega arith), rw e)
     at (after-at here so-far last few late) = (few, so-far)
+
+-- Its file is no longer than any file, also before the check.
+pub good-at-most : (d : Draft) → Good d → length (bytesOf (policyFrom 1 d)) ≤ 5974
+good-at-most d g = bytes-at-most (policyFrom 1 d) (good-nearly 1 d g)
