@@ -23,3 +23,4 @@ pub mod InOrder
 pub mod Lettered
 pub mod LetteredReads
 pub mod Longest
+pub mod Renamed
