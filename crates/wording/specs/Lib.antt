@@ -13,6 +13,7 @@ pub mod Computing
 pub mod Samples
 pub mod Masks
 pub mod Kept
+pub mod Fair
 pub mod Good
 pub mod Given
 pub mod Whole
@@ -21,6 +22,12 @@ pub mod RuleLines
 pub mod Others
 pub mod InOrder
 pub mod Lettered
+pub mod OtherWords
+pub mod Standing
+pub mod LetteredRules
+pub mod LetteredWhole
 pub mod LetteredReads
 pub mod Longest
 pub mod Renamed
+pub mod RenamedReads
+pub mod Swapped
