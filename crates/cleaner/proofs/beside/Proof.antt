@@ -1,7 +1,6 @@
 -- `cleaner::beside` meets its contract: there is room for the name and five bytes more.
 use mathlib.Core.Path.{sym}
 use Prim.Native.Nat.{_≤_}
-use native.Mathlib.Omega.{arith}
 use lib.ListN.{length}
 use lib.Seq.{length-take-le}
 use borrow.Author.Needs.{needs}
