@@ -5,7 +5,7 @@ set -euo pipefail
 shopt -s inherit_errexit
 cd "$(dirname "$0")"
 
-GROOVEPAWN_LIB=$(../tools/native-library.sh)
+GROOVEPAWN_LIB=$(../tools/cross-library.sh native)
 export GROOVEPAWN_LIB
 cargo run --release --offline --features library
 ./instructions.sh

@@ -4,20 +4,27 @@
  *
  *     rt staticlib groovepawn
  *     cc -O2 -Iinclude tools/stack.c target/staticlib/libgroovepawn.a -o stack -pthread && ./stack
+ *
+ * On a board without an operating system the stack is the board's own, between two places that its linker script names (cross/bare).
  */
 #include "groovepawn.h"
+#include "worst.h"
+#ifdef __linux__
 #include <pthread.h>
+#endif
 #include <stdint.h>
 #include <stdio.h>
 #include <string.h>
 
-enum { STACK = 1 << 21, PAINT = 0xA5, RULES = 256 };
+enum { STACK = 1 << 21, PAINT = 0xA5 };
 enum { STATES = GROOVEPAWN_MOST_STATES, EVENTS = GROOVEPAWN_MOST_EVENTS_OF_A_WAVE, TEXT = GROOVEPAWN_MOST_TEXT_BYTES };
 
+#ifdef __linux__
 static _Alignas(4096) uint8_t stack[STACK];
-static uint8_t file[GROOVEPAWN_MOST_FILE_BYTES], joined[GROOVEPAWN_MOST_FILE_BYTES], cleaned[GROOVEPAWN_MOST_FILE_BYTES];
+#endif
+static uint8_t joined[GROOVEPAWN_MOST_FILE_BYTES], cleaned[GROOVEPAWN_MOST_FILE_BYTES];
 static uint8_t struck[GROOVEPAWN_MOST_STRUCK_BYTES], marks[STATES], quiet[EVENTS], restless[EVENTS], events[EVENTS], released[EVENTS], text[TEXT];
-static size_t length, text_length;
+static size_t text_length;
 enum { NUMBERS = GROOVEPAWN_STATE_LEN, INDEX = GROOVEPAWN_INDEX_LEN, BAYS = GROOVEPAWN_MOST_BAYS };
 enum { STATION = GROOVEPAWN_STATION_LEN, TOTALS = GROOVEPAWN_TOTALS_LEN };
 static uint16_t state[NUMBERS], index_of_file[INDEX], bays[BAYS * NUMBERS], station[STATION];
@@ -27,32 +34,6 @@ static uint32_t tables[2][STATES];
 static uint8_t prepared[STATES];
 static uint64_t reasons[EVENTS];
 static uint8_t reading;
-
-/* 256 rules at location 0 that hold and each take one event, over 4 clocks; those to location 1, which has no rules, lead nowhere. */
-static void nested(void) {
-    static const uint8_t head[] = {4, 'P', 'B', 'C', 'A', 4, 'D', 'F', 'G', 'H', 4, 0, 3, 0, 3, 0, 3, 0, 3, 2, 0, 0, 1, 0};
-    memcpy(file, head, sizeof head);
-    length = sizeof head;
-    for (int event = 0; event < RULES; event++) {
-        uint8_t x = event >> 4, y = event & 15;
-        uint8_t rule[] = {0, 15 & ~x, 0, 15 & ~y, 0, 15, x == 0 || event == 128, 0, 0, 0, 2, 0, 0, 0, 2, 0, 0, 0, 2, 0, 0, 0, 2};
-        memcpy(file + length, rule, sizeof rule);
-        length += sizeof rule;
-    }
-}
-
-/* The same with bounds that fail last, but for the last rule, which takes the event 15, 15 alone. */
-static void barred(void) {
-    nested();
-    for (int i = 0; i < RULES; i++) {
-        uint8_t *rule = file + length - (RULES - i) * 23;
-        uint8_t last = i == RULES - 1 ? 15 : 0;
-        memset(rule + 1, last, 4);
-        rule[6] = 0;
-        for (int clock = 0; clock < 4; clock++) memcpy(rule + 7 + 4 * clock, (uint8_t[]){0, 0, 0xFF, 0xFF}, 4);
-        if (last == 0) rule[20] = 2;
-    }
-}
 
 /* All that the signals can do, for a join. */
 static const uint8_t any[] = {4, 'P', 'B', 'C', 'A', 4, 'D', 'F', 'G', 'H', 0, 1, 0, 0, 1, 0, 0, 0, 0, 0, 0, 0};
@@ -101,6 +82,7 @@ static const struct { const char *name; void (*call)(void); } calls[] = {
 };
 enum { CALLS = sizeof calls / sizeof *calls };
 
+#ifdef __linux__
 static void *on_the_stack(void *call) {
     (*(void (**)(void))call)();
     return NULL;
@@ -118,6 +100,24 @@ static size_t used(void (*call)(void)) {
     while (untouched < STACK && stack[untouched] == PAINT) untouched++;
     return STACK - untouched;
 }
+#else
+extern uint8_t stack_bottom[];
+
+/* Whatever is below the stack pointer is painted, and then looked at: no interrupt comes between. */
+static __attribute__((noinline)) size_t used(void (*call)(void)) {
+    uint8_t *top;
+#ifdef __riscv
+    __asm volatile("mv %0, sp" : "=r"(top));
+#else
+    __asm volatile("mov %0, sp" : "=r"(top));
+#endif
+    for (volatile uint8_t *byte = stack_bottom; byte < top; byte++) *byte = PAINT;
+    call();
+    uint8_t *untouched = stack_bottom;
+    while (untouched < top && *untouched == PAINT) untouched++;
+    return (size_t)(top - untouched);
+}
+#endif
 
 int main(void) {
     size_t most[CALLS] = {0};
@@ -134,6 +134,6 @@ int main(void) {
             }
         }
     }
-    for (int i = 0; i < CALLS; i++) printf("%-28s %6zu bytes\n", calls[i].name, most[i]);
+    for (int i = 0; i < CALLS; i++) printf("%-28s %6lu bytes\n", calls[i].name, (unsigned long)most[i]);
     return 0;
 }
