@@ -19,10 +19,10 @@ void example(void) {
     memset(marks, 1, sizeof marks);
 }
 
-/* Of the worst policies location 0 is live, and location 1 is not: each has 256 states. */
-void worst(void) {
+/* Of the worst policies location 0 is live, and location 1 is not: each has 256 states. The input half makes this x' of the input 0. */
+void worst(uint8_t x) {
     memset(marks, 1, 256);
-    passed_on = 15;
+    passed_on = x;
 }
 
 #define LENT file, length, marks, sizeof marks, state, GROOVEPAWN_STATE_LEN
@@ -37,7 +37,8 @@ void (*const policies[])(void) = {example, nested, barred};
 
 int main(void) {
     POLICY();
-    if (POLICY != example) worst();
+    if (POLICY == nested) worst(8);
+    if (POLICY == barred) worst(15);
     if (GROOVEPAWN_REFUSAL(groovepawn_index(file, length, rules, GROOVEPAWN_INDEX_LEN)) != 0) return 1;
     for (int call = 0; call < CALLS; call++) {
         memset(state, 0, sizeof state);
