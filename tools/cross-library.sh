@@ -6,7 +6,7 @@
 #     x86_64-linux   the archive that the toolchain makes
 #     aarch64-linux  armv7-linux  riscv64-linux
 #     cortex-m0  cortex-m4  cortex-m4f  riscv32      bare, without an operating system
-#     wasm32         an archive, and beside it groovepawn.wasm, which has all functions
+#     wasm32         an archive, and beside it groovepawn.wasm, which has all functions, and loop.wasm, which has both halves
 #     native         the machine that this runs on, if it is one of the Linux machines above
 #
 # The toolchain compiles for x86-64 alone. Here its last step is done again: the
@@ -170,8 +170,10 @@ link_wasm() {
     local exports
     mapfile -t exports < <(prototypes | grep -oE '\bgroovepawn_[a-z_]+\(' | tr -d '(')
     ln -sf "$clang" "$work/wasm-ld"
-    "$work/wasm-ld" --no-entry --strip-all "${exports[@]/#/--export=}" --export=__heap_base --stack-first \
-        -z stack-size=2097152 "$1/libgroovepawn.a" -o "$1/groovepawn.wasm"
+    local options=(--no-entry --strip-all --export=__heap_base --stack-first -z stack-size=2097152)
+    "$work/wasm-ld" "${options[@]}" "${exports[@]/#/--export=}" "$1/libgroovepawn.a" -o "$1/groovepawn.wasm"
+    # What a loop needs, and no more.
+    "$work/wasm-ld" "${options[@]}" --export=groovepawn_input --export=groovepawn_output "$1/libgroovepawn.a" -o "$1/loop.wasm"
 }
 
 rt staticlib groovepawn >&2

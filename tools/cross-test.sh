@@ -132,8 +132,7 @@ text_sizes() {
     lib=$(archive "$1")
     case $1 in
     wasm32)
-        stat -c %s "$archives/wasm32/groovepawn.wasm" | tr '\n' ' '
-        echo -
+        stat -c %s "$archives/wasm32/groovepawn.wasm" "$archives/wasm32/loop.wasm" | paste -sd ' '
         return
         ;;
     x86_64-linux) tools='' ;;
@@ -201,9 +200,11 @@ done
 echo
 echo "the deepest stack of each function, in bytes"
 for target in "${targets[@]}"; do
-    [[ $target != wasm32 ]] || continue
-    build "$target" "$work/stack" tools/stack.c
-    run "$target" "$work/stack" | awk -v target="$target" '{ print target, $1, $2 }'
+    if [[ $target == wasm32 ]]; then
+        node cross/stack.mjs "$archives/wasm32/groovepawn.wasm"
+    else
+        build "$target" "$work/stack" tools/stack.c && run "$target" "$work/stack"
+    fi | awk -v target="$target" '{ print target, $1, $2 }'
 done >"$work/stacks"
 awk '{ if (!($1 in t)) { t[$1]; order[++n] = $1 } if (!($2 in f)) { f[$2]; functions[++m] = $2 } v[$1, $2] = $3 }
     END { printf "%-28s", ""; for (i = 1; i <= n; i++) printf " %13s", order[i]; print ""
