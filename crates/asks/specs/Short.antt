@@ -15,7 +15,7 @@ use lib.Pow.{pow-add}
 use borrow.Author.Tests.{eqb-true, eqb-false, leb-true}
 use Rattle.policy.specs.Rules.{Bound, Rule, Policy}
 use Rattle.policy.specs.Number.{statesOf}
-use Rattle.policy.specs.Check.{all, ceilingGood}
+use Rattle.policy.specs.Check.{allPass, ceilingGood}
 use Rattle.policy.specs.Sound.{WellFormed, Each, each-none, each-more}
 use Rattle.policy.specs.Stopped.{AllLawful, lawful-none, lawful-more}
 use Rattle.policy.specs.Checked.{well-ruled}
@@ -114,12 +114,12 @@ states-cons c cs zero l = refl
 states-cons c cs (suc k) l = ap (λ (z : ℕ). z * suc (getD cs k 0)) (states-cons c cs k l)
 
 -- With e digits more so far, in numbers whose product is l, there are m of them in all, and ten to the m is no more than the states.
-bounds-short : (n : ℕ) {cs : List ℕ} {bs : List Bound} → all ceilingGood cs ≡ true → AllLawful cs bs → n + length bs ≤ 10 → (l e : ℕ) → 10 ^ e ≤ l →
+bounds-short : (n : ℕ) {cs : List ℕ} {bs : List Bound} → allPass ceilingGood cs ≡ true → AllLawful cs bs → n + length bs ≤ 10 → (l e : ℕ) → 10 ^ e ≤ l →
     (m : ℕ) × (10 ^ m ≤ statesOf cs (length cs) l) × (length (bounds n bs) + 2 * e ≤ 21 * length bs + 2 * m)
-unfolding bounds all statesOf
+unfolding bounds allPass statesOf
 bounds-short n g lawful-none f l e h = (e, h, omega arith)
 bounds-short n g (lawful-more {c = c} {cs = cs} {b = b} {bs = bs} h hs) f l e k =
-    let t = and-eq-true-iff (ceilingGood c) (all ceilingGood cs) .0 g in
+    let t = and-eq-true-iff (ceilingGood c) (allPass ceilingGood cs) .0 g in
     let u = and-eq-true-iff (leb 1 c) (leb c 1001) .0 (t .0) in
     let s = sized c in
     let least : 10 ^ s .more ≤ suc c = omega (arith, s .least (leb-true 1 c (u .0))) in

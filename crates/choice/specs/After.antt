@@ -10,8 +10,8 @@ use lib.Dec.{eqb, ltb}
 use lib.ListN.{length, getD, set}
 use lib.Bits.{bitAnd, bitOr, and-le-l}
 use borrow.Author.Tests.{eqb-true, ltb-true, lt-ltb, le-ltb, eq-eqb, ne-eqb}
-use Rattle.streams.specs.Choose.{any}
-use Rattle.streams.specs.ChooseLaws.{any-has, any-none, any-fails}
+use Rattle.streams.specs.Choose.{someBelow}
+use Rattle.streams.specs.ChooseLaws.{some-has, some-none, some-fails}
 use Rattle.choice.specs.Sets.{agreed}
 use Rattle.choice.specs.Changed.{Changed, changed-none, changed-more, changed-on, changed-back}
 
@@ -25,21 +25,21 @@ between care x z = ltb x z && ltb z (after care x) && eqb (bitAnd z care) (bitAn
 
 wrong : ℕ → ℕ → Bool
 wrong care x =
-    not (ltb x (after care x) && ltb (after care x) 32 && eqb (bitAnd (after care x) care) (bitAnd x care)) || any (between care x) 32
+    not (ltb x (after care x) && ltb (after care x) 32 && eqb (bitAnd (after care x) care) (bitAnd x care)) || someBelow (between care x) 32
 
-none-wrong : any (λ care. any (wrong care) 16) 16 ≡ false
-unfolding any after wrong between
+none-wrong : someBelow (λ care. someBelow (wrong care) 16) 16 ≡ false
+unfolding someBelow after wrong between
 none-wrong = refl
 
 all-right : (care x : ℕ) → care < 16 → x < 16 → wrong care x ≡ false
-all-right care x h l = any-none (wrong care) 16 (any-none _ 16 none-wrong care h) x l
+all-right care x h l = some-none (wrong care) 16 (some-none _ 16 none-wrong care h) x l
 
 module _ {care x : ℕ} (h : care < 16) (l : x < 16) where
   split : (a b : Bool) → (not a || b) ≡ false → (a ≡ true) × (b ≡ false)
   split true b e = (refl, e)
   split false b e = absurd (true≢false e)
 
-  right : ((x < after care x) × (after care x < 32) × (bitAnd (after care x) care ≡ bitAnd x care)) × (any (between care x) 32 ≡ false)
+  right : ((x < after care x) × (after care x < 32) × (bitAnd (after care x) care ≡ bitAnd x care)) × (someBelow (between care x) 32 ≡ false)
   unfolding wrong
   right =
       let w = split _ _ (all-right care x h l) in
@@ -50,7 +50,7 @@ module _ {care x : ℕ} (h : care < 16) (l : x < 16) where
   -- None stands between.
   skipped : (z : ℕ) → x < z → z < after care x → eqb (bitAnd z care) (bitAnd x care) ≡ false
   unfolding between
-  skipped z k m = rw (lt-ltb x z k, lt-ltb z (after care x) m) at (any-none (between care x) 32 (right .1) z (omega (arith, right .0 .1)))
+  skipped z k m = rw (lt-ltb x z k, lt-ltb z (after care x) m) at (some-none (between care x) 32 (right .1) z (omega (arith, right .0 .1)))
 
 module _ (care value : ℕ) where
   -- x is the next that agrees.
@@ -80,8 +80,8 @@ module _ (care value : ℕ) where
     pub idle-start : bitAnd value care ≡ value → Idle value
     idle-start e = record { here = e; none = λ z l. idle-not z (value-first z l) }
 
-    pub idle-found : {x n : ℕ} → Idle x → x < n → (bitAnd (getD left x 0) set ≡ 0 → ⊥) → any (λ z. ltb 0 (agreed care value set z (getD left z 0))) n ≡ true
-    idle-found {x} {n} w l d = any-has _ n x l (rw (eq-eqb _ _ (w .here)) (lt-ltb 0 (bitAnd (getD left x 0) set) (omega arith)))
+    pub idle-found : {x n : ℕ} → Idle x → x < n → (bitAnd (getD left x 0) set ≡ 0 → ⊥) → someBelow (λ z. ltb 0 (agreed care value set z (getD left z 0))) n ≡ true
+    idle-found {x} {n} w l d = some-has _ n x l (rw (eq-eqb _ _ (w .here)) (lt-ltb 0 (bitAnd (getD left x 0) set) (omega arith)))
 
     pub idle-more : {x : ℕ} → care < 16 → x < 16 → Idle x → bitAnd (getD left x 0) set ≡ 0 → Idle (after care x)
     idle-more {x} h l w e = record { here = after-agrees h l (w .here); none = go }
@@ -93,8 +93,8 @@ module _ (care value : ℕ) where
             by-cases (ℕ-discrete z x) (λ (q : z ≡ x). rw (q, eq-eqb _ _ (w .here), e) refl)
             (λ ne. idle-not z (after-first h l (w .here) z (omega arith) k)))
 
-    pub idle-done : {x n : ℕ} → n ≤ x → Idle x → any (λ z. ltb 0 (agreed care value set z (getD left z 0))) n ≡ false
-    idle-done {x} {n} l w = any-fails _ n (λ z k. w .none z (omega arith))
+    pub idle-done : {x n : ℕ} → n ≤ x → Idle x → someBelow (λ z. ltb 0 (agreed care value set z (getD left z 0))) n ≡ false
+    idle-done {x} {n} l w = some-fails _ n (λ z k. w .none z (omega arith))
 
   -- The entries that agree are changed one after the other.
   module _ (f : ℕ → ℕ) (n : ℕ) (xs : List ℕ) where

@@ -8,8 +8,8 @@ use lib.Dec.{eqb}
 use lib.Bits.{bitAnd, and-le-r}
 use lib.ListN.{getD}
 use borrow.Author.Tests.{eq-eqb, eqb-true, not-false}
-use Rattle.streams.specs.Choose.{any}
-use Rattle.streams.specs.ChooseLaws.{any-none}
+use Rattle.streams.specs.Choose.{someBelow}
+use Rattle.streams.specs.ChooseLaws.{some-none}
 use Rattle.choice.specs.Sets.{has}
 
 -- Of one output signal: `ones` are the values below 16 in which its bit is 1.
@@ -25,8 +25,8 @@ outs care value =
 wrong : ℕ → ℕ → ℕ → Bool
 wrong care value y = eqb (bitAnd value care) value && not (cond (eqb (bitAnd y care) value) (has (outs care value) y) (not (has (outs care value) y)))
 
-none-wrong : any (λ care. any (λ value. any (wrong care value) 16) 16) 16 ≡ false
-unfolding any outs has wrong
+none-wrong : someBelow (λ care. someBelow (λ value. someBelow (wrong care value) 16) 16) 16 ≡ false
+unfolding someBelow outs has wrong
 none-wrong = refl
 
 -- An output is in the set exactly if it agrees.
@@ -35,7 +35,7 @@ unfolding wrong
 outs-has care value y h e l =
     let k : bitAnd value care ≤ care = and-le-r value care in
     let n : value < 16 = omega arith in
-    let w = any-none (wrong care value) 16 (any-none (λ v. any (wrong care v) 16) 16 (any-none _ 16 none-wrong care h) value n) y l in
+    let w = some-none (wrong care value) 16 (some-none (λ v. someBelow (wrong care v) 16) 16 (some-none _ 16 none-wrong care h) value n) y l in
     go (eqb (bitAnd y care) value) (has (outs care value) y) (rw (eq-eqb _ _ e) at w)
   where
     go : (a b : Bool) → not (cond a b (not b)) ≡ false → b ≡ a
@@ -53,13 +53,13 @@ clear =
 strays : ℕ → ℕ → Bool
 strays care value = not (eqb ((getD clear care 0 * 2 ^ bitAnd value care) % 2 ^ 16) (outs care value))
 
-none-strays : any (λ care. any (strays care) 16) 16 ≡ false
-unfolding any outs clear strays
+none-strays : someBelow (λ care. someBelow (strays care) 16) 16 ≡ false
+unfolding someBelow outs clear strays
 none-strays = refl
 
 pub clear-outs : (care value : ℕ) → care < 16 → value < 16 → (getD clear care 0 * 2 ^ bitAnd value care) % 2 ^ 16 ≡ outs care value
 unfolding strays
-clear-outs care value h l = eqb-true _ _ (not-false _ (any-none (strays care) 16 (any-none _ 16 none-strays care h) value l))
+clear-outs care value h l = eqb-true _ _ (not-false _ (some-none (strays care) 16 (some-none _ 16 none-strays care h) value l))
 
 -- Only the first four bits count.
 pub outs-low : (care value : ℕ) → outs (care % 16) (value % 16) ≡ outs care value

@@ -4,7 +4,7 @@ ghost use Prim.Native.Nat.{_≤_, _<_};
 ghost use lib.Dec.{ltb};
 ghost use lib.ListN.{length, getD, replicate};
 ghost use lib.Bits.{bitAnd, bitOr, bitXor};
-ghost use Rattle.streams.specs.Choose.{any};
+ghost use Rattle.streams.specs.Choose.{someBelow};
 ghost use Rattle.choice.specs.Sets.{allBelow};
 ghost use Rattle.choice.specs.Outs.{clear, outs};
 ghost use Rattle.choice.specs.Sets.{agreed};
@@ -80,7 +80,7 @@ fn after(care: usize, x: usize) -> usize
 // Something is left that agrees with the care bits, the value and the set.
 pub fn is_left(left: &[u16; 16], inputs: usize, care: usize, value: usize, set: u16) -> bool
     requires { ⌜ (inputs ≤ 16) × (care < 16) × (bitAnd value care ≡ value) ⌝ }
-    ensures { λ r. ⌜ r ≡ any (λ x. ltb 0 (agreed care value set x (getD (now (left .entry)) x 0))) inputs ⌝ }
+    ensures { λ r. ⌜ r ≡ someBelow (λ x. ltb 0 (agreed care value set x (getD (now (left .entry)) x 0))) inputs ⌝ }
 {
     let mut x = value;
     while x < inputs {

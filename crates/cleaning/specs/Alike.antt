@@ -7,7 +7,7 @@ use Prim.Native.Nat.{ℕ, zero, suc}
 use lib.Dec.{eqb}
 use lib.ListN.{getD}
 use Rattle.streams.specs.Stream.{Stream}
-use Rattle.streams.specs.Languages.{_⊆_, _≋_}
+use Rattle.streams.specs.Languages.{_narrows_, _≋_}
 use Rattle.policy.specs.Rules.{Policy, Place, start, unlimited, steps, rests, Runs, Rests, Permits}
 use Rattle.policy.specs.Sound.{WellFormed}
 use Rattle.policy.specs.Reached.{Reached}
@@ -40,7 +40,7 @@ module _ {p : Policy} {L U : List Bool} (meant : Meant p L U) (ok : WellFormed p
   unfolding rests
   rests-moved s r = ap (λ (b : ℕ). eqb b 0) (getD-sift L (p .left) (s .location) (entered-here meant r))
 
-  forth : Permits (cleaned p L U) ⊆ Permits p
+  forth : Permits (cleaned p L U) narrows Permits p
   unfolding Runs Rests
   forth =
       record {
@@ -53,7 +53,7 @@ module _ {p : Policy} {L U : List Bool} (meant : Meant p L U) (ok : WellFormed p
             );
       }
 
-  back : Permits p ⊆ Permits (cleaned p L U)
+  back : Permits p narrows Permits (cleaned p L U)
   unfolding Runs Rests
   back =
       record {

@@ -13,7 +13,7 @@ use borrow.Author.Tests.{eqb-false}
 use Rattle.policy.specs.Rules.{Rule, Policy}
 use Rattle.policy.specs.Number.{states, statesOf}
 use Rattle.policy.specs.Numbered.{states-each}
-use Rattle.policy.specs.Check.{all, locationGood, rulesRefusal}
+use Rattle.policy.specs.Check.{allPass, locationGood, rulesRefusal}
 use Rattle.policy.specs.Sound.{WellFormed, Each, each-none, each-more}
 use Rattle.policy.specs.Checked.{Rising, rising-none, rising-more, Ruled, well-rising, well-ruled}
 use Rattle.policy.specs.Reached.{reached-start}
@@ -36,14 +36,14 @@ kept-le [] = le-refl 0
 kept-le (true ∷ L) = omega (arith, kept-le L)
 kept-le (false ∷ L) = omega (arith, kept-le L)
 
-all-sift : (test : ℕ → Bool) (L : List Bool) (xs : List ℕ) → all test xs ≡ true → all test (sift L xs) ≡ true
-unfolding all
+all-sift : (test : ℕ → Bool) (L : List Bool) (xs : List ℕ) → allPass test xs ≡ true → allPass test (sift L xs) ≡ true
+unfolding allPass
 all-sift test [] xs h = refl
 all-sift test (b ∷ L) [] h = refl
 all-sift test (true ∷ L) (x ∷ xs) h =
-    let k = and-eq-true-iff (test x) (all test xs) .0 h in
-    and-eq-true-iff (test x) (all test (sift L xs)) .1 (k .0, all-sift test L xs (k .1))
-all-sift test (false ∷ L) (x ∷ xs) h = all-sift test L xs (and-eq-true-iff (test x) (all test xs) .0 h .1)
+    let k = and-eq-true-iff (test x) (allPass test xs) .0 h in
+    and-eq-true-iff (test x) (allPass test (sift L xs)) .1 (k .0, all-sift test L xs (k .1))
+all-sift test (false ∷ L) (x ∷ xs) h = all-sift test L xs (and-eq-true-iff (test x) (allPass test xs) .0 h .1)
 
 -- "Sources never fall from one rule to the next."
 rising-cleaned : (L U : List Bool) {a b : ℕ} {rs : List Rule} → Rising a rs → b ≤ rank L a → Rising b (map (renamed L) (sift U rs))

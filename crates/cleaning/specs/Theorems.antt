@@ -4,7 +4,7 @@ use mathlib.Core.List.{List, []}
 use mathlib.Core.Logic.{_↔_}
 use Prim.Native.Nat.{ℕ}
 use Rattle.streams.specs.Corrections.{corrections}
-use Rattle.streams.specs.Stream.{Event, Hopeless, _∩_}
+use Rattle.streams.specs.Stream.{Event, Hopeless, _alongside_}
 use Rattle.streams.specs.Laws.{≋-trans, ends, enforced-same}
 use Rattle.streams.specs.Languages.{_≋_}
 use Rattle.policy.specs.Rules.{Policy, Permits}
@@ -103,5 +103,5 @@ module _ (a b out : List ℕ) (made : joinRefusal a b out ≡ 0) (reading : ℕ)
   cleans-joined = cleans reading (joinedFile a b out) (joined-passes a b out made)
 
   -- Cleaned, it permits what both parts permit, and rests where both rest.
-  pub permits-both : Permits (policyOf reading (cleanedFile reading (joinedFile a b out))) ≋ Permits (policyOf reading a) ∩ Permits (policyOf reading b)
+  pub permits-both : Permits (policyOf reading (cleanedFile reading (joinedFile a b out))) ≋ Permits (policyOf reading a) alongside Permits (policyOf reading b)
   permits-both = ≋-trans (cleans-joined .permits) (joined-both a b out made reading)

@@ -13,7 +13,7 @@ use Rattle.streams.specs.Answer.{_orElse_, unless}
 use Rattle.streams.specs.Stream.{Stream}
 use Rattle.policy.specs.Rules.{Policy, Place, start}
 use Rattle.policy.specs.File.{policyOf}
-use Rattle.policy.specs.Check.{all}
+use Rattle.policy.specs.Check.{allPass}
 use Rattle.enforcer.specs.State.{placeIn, stateOf}
 use Rattle.enforcer.specs.Tick.{ReleasedTick, Progress, tick, ran}
 use Rattle.enforcer.specs.Ticks.{ran-on, ran-none}
@@ -67,7 +67,7 @@ module _ (reading : ℕ) (file marks : List ℕ) (s : State) (events a b : List 
       let t = placeIn (policyOf reading file) s in
       let r = ran (policyOf reading file) marks t (map eventOf events) in
       rw (le-leb _ _ h, le-leb _ _ k)
-      (go (marksRefusal reading file marks orElse stateRefusal reading file marks s orElse unless (all (eventGood reading file) events) 15) r
+      (go (marksRefusal reading file marks orElse stateRefusal reading file marks s orElse unless (allPass (eventGood reading file) events) 15) r
       (λ e. length-map (r .released) byteOf ∙ ran-all (policyOf reading file) marks t (map eventOf events) e ∙ length-map events eventOf))
     where
       go : (n : ℕ) (r : Progress) → (r .stuck ≡ false → length (map byteOf (r .released)) ≡ length events) → SameRun events (runFrom s a n r) (runFrom s b n r)
@@ -87,7 +87,7 @@ module _ (reading : ℕ) (file marks : List ℕ) (s : State) (events a b : List 
       let t = placeIn (policyOf reading file) s in
       let r = ran (policyOf reading file) marks t (map eventOf events) in
       rw (le-leb _ _ h, le-leb (length events) (length b) (omega arith))
-      (go (marksRefusal reading file marks orElse stateRefusal reading file marks s orElse unless (all (eventGood reading file) events) 15) r
+      (go (marksRefusal reading file marks orElse stateRefusal reading file marks s orElse unless (allPass (eventGood reading file) events) 15) r
       (λ k. length-map (r .released) byteOf ∙ ran-all (policyOf reading file) marks t (map eventOf events) k ∙ length-map events eventOf))
     where
       go : (n : ℕ) (r : Progress) → (r .stuck ≡ false → length (map byteOf (r .released)) ≡ length events) → runFrom s a n r .refusal ≡ 0 →

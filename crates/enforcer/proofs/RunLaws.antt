@@ -13,7 +13,7 @@ use borrow.Author.Tests.{le-leb, eqb-true}
 use Rattle.streams.specs.Answer.{unless}
 use Rattle.policy.specs.Rules.{Policy}
 use Rattle.policy.specs.File.{policyOf}
-use Rattle.policy.specs.Check.{all}
+use Rattle.policy.specs.Check.{allPass}
 use Rattle.policy.specs.Stays.{of-some}
 use Rattle.policy.specs.Sound.{Inside}
 use Rattle.policy.specs.declared.Layout.{Layout}
@@ -107,8 +107,8 @@ module _ {f : List ℕ} {l : Layout} {marks events out₀ : List ℕ} {s₀ : St
           },
         )
 
-zeros : (vs : List ℕ) → all (eqb 0) vs ≡ true → replicate (length vs) 0 ≡ vs
-unfolding all
+zeros : (vs : List ℕ) → allPass (eqb 0) vs ≡ true → replicate (length vs) 0 ≡ vs
+unfolding allPass
 zeros [] e = refl
 zeros (v ∷ vs) e = let k = and-eq-true-iff (eqb 0 v) _ .0 e in ap₂ {C = List ℕ} _∷_ (eqb-true 0 v (k .0)) (zeros vs (k .1))
 
@@ -131,7 +131,7 @@ good-back {f} {l} k s n e =
 -- Past 10, 14 and 16 only 15 is left to ask; l is the layout under the reading that was named.
 pub run-past : (reading : ℕ) (file marks events out : List ℕ) (s : State) (l : Layout) → l .reading ≡ reading → marksRefusal reading file marks ≡ 0 →
     length events ≤ length out → stateRefusal (l .reading) file marks s ≡ 0 →
-    runRefusal reading file marks s events out ≡ unless (all (eventGood (l .reading) file) events) 15
+    runRefusal reading file marks s events out ≡ unless (allPass (eventGood (l .reading) file) events) 15
 unfolding runRefusal
 run-past reading file marks events out s l e m n z =
     let w : stateRefusal reading file marks s ≡ 0 = rw e at z in

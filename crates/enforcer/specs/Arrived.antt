@@ -4,7 +4,7 @@ use mathlib.Core.Bool.{Bool, true, false, cond, false≢true}
 use mathlib.Core.List.{List}
 use mathlib.Core.Option.{Option, none, some, bind}
 use Prim.Native.Nat.{ℕ, _<_}
-use Rattle.streams.specs.ChooseLaws.{any-has, nearest-kept}
+use Rattle.streams.specs.ChooseLaws.{some-has, nearest-kept}
 use Rattle.policy.specs.Rules.{Policy, Place, inputValues, outputValues, stopped, step}
 use Rattle.enforcer.specs.Tick.{arrives, reaches, mayStand, inputChoice, outputChoice, outputTick, tick}
 use Rattle.enforcer.specs.Code.{eventXY, stepFrom}
@@ -59,7 +59,7 @@ module _ (p : Policy) (marks : List ℕ) (s : Place) (x y : ℕ) where
 
     pub input-kept : x < inputValues p → tick p marks s (eventXY x y) ≡ outputTick p marks s x y
     unfolding tick inputChoice mayStand bind
-    input-kept h = rw (nearest-kept (mayStand p marks s) x (inputValues p) h (any-has (reaches p marks s x) (outputValues p) y l r))
+    input-kept h = rw (nearest-kept (mayStand p marks s) x (inputValues p) h (some-has (reaches p marks s x) (outputValues p) y l r))
 
   -- So an event that arrives is released as it was read, by the output half alone and by both.
   module _ (t : State) {r : Step} (e : r ≡ stepFrom t arrival) (h : r .permitted ≡ true) (l : y < outputValues p) where

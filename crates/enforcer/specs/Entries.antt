@@ -10,7 +10,7 @@ use Rattle.streams.specs.Answer.{Answer, refused, gives, _orElse_, unless, answ
 use Rattle.streams.specs.Stream.{Event}
 use Rattle.policy.specs.Rules.{Place, inputValues, outputValues}
 use Rattle.policy.specs.File.{policyOf}
-use Rattle.policy.specs.Check.{refusalUnder, all}
+use Rattle.policy.specs.Check.{refusalUnder, allPass}
 use Rattle.policy.specs.Number.{states, numberOf}
 use Rattle.enforcer.specs.State.{placeIn, stateOf, stateGood, isMarked}
 use Rattle.enforcer.specs.Tick.{ReleasedTick, Progress, inputChoice, outputTick, ran}
@@ -107,7 +107,7 @@ module _ (reading : ℕ) (file marks : List ℕ) where
     unfoldable pub runRefusal : List ℕ → List ℕ → ℕ
     runRefusal events out =
         marksRefusal orElse unless (leb (length events) (length out)) 14 orElse stateRefusal
-        orElse unless (all (eventGood reading file) events) 15
+        orElse unless (allPass (eventGood reading file) events) 15
 
     unfoldable pub runOf : List ℕ → List ℕ → RunAnswer
     runOf events out =

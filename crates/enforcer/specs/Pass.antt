@@ -8,8 +8,8 @@ use lib.Dec.{eqb, ltb}
 use lib.Bits.{bitAnd, bitOr, bitXor, and-zero-r, or-zero-r, xor-zero-r}
 use lib.ListN.{getD, replicate}
 use borrow.Author.Tests.{lt-ltb, le-ltb, ltb-true, ltb-false}
-use Rattle.streams.specs.Choose.{any}
-use Rattle.streams.specs.ChooseLaws.{any-from, any-none, any-has, any-fails}
+use Rattle.streams.specs.Choose.{someBelow}
+use Rattle.streams.specs.ChooseLaws.{some-from, some-none, some-has, some-fails}
 use Rattle.policy.specs.Rules.{Rule, Policy, Place, inputValues, outputValues, stopped, looked}
 use Rattle.policy.specs.Sound.{WellFormed}
 use Rattle.policy.specs.Own.{own}
@@ -24,8 +24,8 @@ use Rattle.enforcer.specs.WaysLaws.{gathered-keeps, gathered-own, allowe
 use Rattle.choice.specs.Changed.{Changed, changed-one, changed-by, changed-not}
 
 -- No number below n passes if none does.
-none-any : (n : ℕ) → any (λ x. ltb 0 0) n ≡ false
-none-any n = any-fails _ n (λ z h. refl)
+none-any : (n : ℕ) → someBelow (λ x. ltb 0 0) n ≡ false
+none-any n = some-fails _ n (λ z h. refl)
 
 pub zeros : (n x : ℕ) → _≡_ {A = ℕ} (getD (replicate n 0) x 0) 0
 zeros zero x = refl
@@ -41,7 +41,7 @@ module _ (s : Place) where
 
   -- Whether the rule r takes something of the first n sets, and if so, what: its own care bits, value and outputs. If not, the three numbers are 0.
   pub record Parted (r : Rule) (n : ℕ) (left : List ℕ) (some : Bool) (care value set : ℕ) : Type 0 where
-    pub says : some ≡ any (λ x. ltb 0 (takes s r x (getD left x 0))) n
+    pub says : some ≡ someBelow (λ x. ltb 0 (takes s r x (getD left x 0))) n
     pub parts : some ≡ true → Parts r care value set
     pub its-care : care ≡ cond some (r .inCare) 0
     pub its-value : value ≡ cond some (r .inValue) 0
@@ -58,7 +58,7 @@ module _ (s : Place) where
         k .its-set ∙ rw e (sym (j .its-set)),
       )
 
-  parted-nothing : {r : Rule} {n : ℕ} {left : List ℕ} → false ≡ any (λ x. ltb 0 (takes s r x (getD left x 0))) n → Parted r n left false 0 0 0
+  parted-nothing : {r : Rule} {n : ℕ} {left : List ℕ} → false ≡ someBelow (λ x. ltb 0 (takes s r x (getD left x 0))) n → Parted r n left false 0 0 0
   parted-nothing d = record { says = d; parts = λ q. absurd (false≢true q); its-care = refl; its-value = refl; its-set = refl }
 
   -- A rule whose bounds do not hold takes nothing.
@@ -74,13 +74,13 @@ module _ (s : Place) where
 
   module _ {r : Rule} {n : ℕ} {left : List ℕ} (e : holds s r ≡ true) where
     -- Nothing of that is left,
-    pub parted-taken : false ≡ any (λ x. ltb 0 (agreed (r .inCare) (r .inValue) (outs (r .outCare) (r .outValue)) x (getD left x 0))) n → Parted r n left false 0 0 0
+    pub parted-taken : false ≡ someBelow (λ x. ltb 0 (agreed (r .inCare) (r .inValue) (outs (r .outCare) (r .outValue)) x (getD left x 0))) n → Parted r n left false 0 0 0
     unfolding takes
     parted-taken d = parted-nothing (rw e d)
 
     -- or something.
     pub parted-so : r .inCare < 16 → bitAnd (r .inValue) (r .inCare) ≡ r .inValue →
-        true ≡ any (λ x. ltb 0 (agreed (r .inCare) (r .inValue) (outs (r .outCare) (r .outValue)) x (getD left x 0))) n →
+        true ≡ someBelow (λ x. ltb 0 (agreed (r .inCare) (r .inValue) (outs (r .outCare) (r .outValue)) x (getD left x 0))) n →
         Parted r n left true (r .inCare) (r .inValue) (outs (r .outCare) (r .outValue))
     unfolding takes
     parted-so few within d = record { says = rw e d; parts = λ q. parts-so e few within; its-care = refl; its-value = refl; its-set = refl }
@@ -88,7 +88,7 @@ module _ (s : Place) where
   module _ {r : Rule} {n : ℕ} {left : List ℕ} {care value set : ℕ} (k : Parted r n left false care value set) where
     pub parted-none : (x : ℕ) → x < n → takes s r x (getD left x 0) ≡ 0
     parted-none x h =
-        let m : takes s r x (getD left x 0) ≤ 0 = ltb-false _ _ (any-none _ n (sym (k .says)) x h) in
+        let m : takes s r x (getD left x 0) ≤ 0 = ltb-false _ _ (some-none _ n (sym (k .says)) x h) in
         omega arith
 
     pub parted-not : Changed (λ x. bitXor (getD left x 0) (takes s r x (getD left x 0))) n left left
@@ -102,7 +102,7 @@ module _ (s : Place) where
   -- What the rule r takes of the first n sets, and whether that is something.
   pub record Took (r : Rule) (n : ℕ) (left rest : List ℕ) (some : Bool) : Type 0 where
     pub changed : Changed (λ x. bitXor (getD left x 0) (takes s r x (getD left x 0))) n left rest
-    pub says : some ≡ any (λ x. ltb 0 (takes s r x (getD left x 0))) n
+    pub says : some ≡ someBelow (λ x. ltb 0 (takes s r x (getD left x 0))) n
 
   -- One answer alone meets it, and one later content of the sets.
   pub took-one : {r : Rule} {n : ℕ} {left rest also : List ℕ} {a b : Bool} → Took r n left rest a → Took r n left also b → (rest ≡ also) × (a ≡ b)
@@ -122,7 +122,7 @@ module _ (s : Place) (p : Policy) (marks : List ℕ) where
   -- What the rule r takes of the first n sets, and whether it takes something and leads to a marked place.
   pub record Went (r : Rule) (n : ℕ) (left rest : List ℕ) (found : Bool) : Type 0 where
     pub changed : Changed (λ x. bitXor (getD left x 0) (takes (looked stopped p s) r x (getD left x 0))) n left rest
-    pub says : found ≡ (any (λ x. ltb 0 (takes (looked stopped p s) r x (getD left x 0))) n && leads s p marks r)
+    pub says : found ≡ (someBelow (λ x. ltb 0 (takes (looked stopped p s) r x (getD left x 0))) n && leads s p marks r)
 
   pub went-as : {r : Rule} {n m : ℕ} {left rest : List ℕ} {found t : Bool} → n ≡ m → found ≡ t → Went r n left rest found → Went r m left rest t
   went-as {r} {n} {left = left} {rest = rest} {t = t} e d w = subst (λ (k : ℕ). Went r k left rest t) e (subst (λ (b : Bool). Went r n left rest b) d w)
@@ -186,12 +186,12 @@ module _ (s : Place) (p : Policy) (marks : List ℕ) where
   gathering-on {r} {left = left} {found = found} g w =
       gathering-more g (record { taken = w .changed; gained = changed-not (λ x h. same x h _ refl (leads s p marks r) refl) })
     where
-      same : (x : ℕ) → x < inputValues p → (a : Bool) → any (λ z. ltb 0 (takes (looked stopped p s) r z (getD left z 0))) (inputValues p) ≡ a → (b : Bool) →
+      same : (x : ℕ) → x < inputValues p → (a : Bool) → someBelow (λ z. ltb 0 (takes (looked stopped p s) r z (getD left z 0))) (inputValues p) ≡ a → (b : Bool) →
           leads s p marks r ≡ b → cond b (bitOr (getD found x 0) (takes (looked stopped p s) r x (getD left x 0))) (getD found x 0) ≡ getD found x 0
       same x h a e false d = refl
       same x h true e true d = absurd (false≢true (w .says ∙ rw (e, d)))
       same x h false e true d =
-          let n : takes (looked stopped p s) r x (getD left x 0) ≤ 0 = ltb-false _ _ (any-none _ (inputValues p) e x h) in
+          let n : takes (looked stopped p s) r x (getD left x 0) ≤ 0 = ltb-false _ _ (some-none _ (inputValues p) e x h) in
           let z : takes (looked stopped p s) r x (getD left x 0) ≡ 0 = omega arith in
           rw (z, or-zero-r)
 
@@ -210,11 +210,11 @@ module _ (s : Place) (p : Policy) (marks : List ℕ) where
 
   -- A rule that takes something and leads on: some event leads to a marked place.
   pub gathering-found : WellFormed p → {r : Rule} {rs : List Rule} {left rest found : List ℕ} →
-      Gathering (r ∷ rs) left found → Went r (inputValues p) left rest true → any (mayStand p marks s) (inputValues p) ≡ true
+      Gathering (r ∷ rs) left found → Went r (inputValues p) left rest true → someBelow (mayStand p marks s) (inputValues p) ≡ true
   gathering-found k {r} {left = left} g w =
-      let q = and-eq-true-iff (any (λ x. ltb 0 (takes (looked stopped p s) r x (getD left x 0))) (inputValues p)) _ .0 (sym (w .says)) in
-      let a = any-from _ (inputValues p) (q .0) in
-      allowed-any p k marks s ∙ any-has _ (inputValues p) (a .0) (a .1) (lt-ltb 0 _ (takes-found g (q .1) (a .0) (a .1) (ltb-true _ _ (a .2))))
+      let q = and-eq-true-iff (someBelow (λ x. ltb 0 (takes (looked stopped p s) r x (getD left x 0))) (inputValues p)) _ .0 (sym (w .says)) in
+      let a = some-from _ (inputValues p) (q .0) in
+      allowed-any p k marks s ∙ some-has _ (inputValues p) (a .0) (a .1) (lt-ltb 0 _ (takes-found g (q .1) (a .0) (a .1) (ltb-true _ _ (a .2))))
 
   -- After the last rule.
   pub gathering-done : {found left : List ℕ} → Gathering [] left found → (x : ℕ) → getD found x 0 ≡ allowed p marks s x
@@ -238,10 +238,10 @@ module _ (s : Place) (p : Policy) (marks : List ℕ) where
           empty (r ∷ rs) = rw (takes-none r) (ap (gathered s p marks rs x 0) (cond-same (leads s p marks r) 0) ∙ empty rs)
 
   -- Nothing was found: no event leads to a marked place.
-  pub gathering-nothing : WellFormed p → {left : List ℕ} → Gathering [] left (replicate 16 0) → any (mayStand p marks s) (inputValues p) ≡ false
+  pub gathering-nothing : WellFormed p → {left : List ℕ} → Gathering [] left (replicate 16 0) → someBelow (mayStand p marks s) (inputValues p) ≡ false
   gathering-nothing k g =
       allowed-any p k marks s
-      ∙ any-fails _ (inputValues p) (λ x h. ap (ltb 0) (sym (gathering-done g x) ∙ zeros 16 x))
+      ∙ some-fails _ (inputValues p) (λ x h. ap (ltb 0) (sym (gathering-done g x) ∙ zeros 16 x))
 
 -- Where the rules lead, whatever is marked.
 module _ (s : Place) (p : Policy) where
@@ -314,10 +314,10 @@ module _ (s : Place) (p : Policy) where
 
     -- It leads to a state that was not found: some event does, by marks that have that state alone.
     pub passing-found : WellFormed p → some ≡ true → (marks : List ℕ) → ((t : ℕ) → F t → isMarked marks t ≡ false) → isMarked marks to ≡ true →
-        any (mayStand p marks s) (inputValues p) ≡ true
+        someBelow (mayStand p marks s) (inputValues p) ≡ true
     passing-found k e marks h m = gathering-found s p marks k (g .gathering marks h) (rw (e, m) at (w .went marks))
 
   -- After the last rule: no event leads to a state that was not found.
   pub passing-done : WellFormed p → {F : ℕ → Type 0} {left : List ℕ} → Passing F [] left → (marks : List ℕ) →
-      ((t : ℕ) → F t → isMarked marks t ≡ false) → any (mayStand p marks s) (inputValues p) ≡ false
+      ((t : ℕ) → F t → isMarked marks t ≡ false) → someBelow (mayStand p marks s) (inputValues p) ≡ false
   passing-done k g marks h = gathering-nothing s p marks k (g .gathering marks h)

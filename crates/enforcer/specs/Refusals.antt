@@ -15,7 +15,7 @@ use Rattle.streams.specs.AnswerLaws.{none-refused, first-refused, unless-le, el
 use Rattle.streams.specs.Stream.{Event, Stream}
 use Rattle.policy.specs.Rules.{Policy, FitsOne, Fits, fits-none, fits-more}
 use Rattle.policy.specs.File.{policyOf}
-use Rattle.policy.specs.Check.{readingRefusal, refusalUnder, all}
+use Rattle.policy.specs.Check.{readingRefusal, refusalUnder, allPass}
 use Rattle.policy.specs.CheckLaws.{refusal-le}
 use Rattle.policy.specs.Number.{states}
 use Rattle.policy.specs.Sound.{WellFormed}
@@ -37,8 +37,8 @@ module _ (p : Policy) (ok : WellFormed p) where
   events-back (fits-more {e = e} f h) = ap₂ {C = Stream} _∷_ (event-back e f) (events-back h)
 
 -- So 15 refuses none of the bytes of a stream within the signals.
-pub fits-good : (reading : ℕ) (file : List ℕ) → WellFormed (policyOf reading file) → {rs : Stream} → Fits (policyOf reading file) rs → all (eventGood reading file) (map byteOf rs) ≡ true
-unfolding all
+pub fits-good : (reading : ℕ) (file : List ℕ) → WellFormed (policyOf reading file) → {rs : Stream} → Fits (policyOf reading file) rs → allPass (eventGood reading file) (map byteOf rs) ≡ true
+unfolding allPass
 fits-good reading file ok fits-none = refl
 fits-good reading file ok (fits-more {e = e} f h) =
     let k = event-back (policyOf reading file) ok e f in

@@ -6,7 +6,7 @@ use Prim.Native.Nat.{ℕ}
 use lib.Dec.{leb, ltb, eqb}
 use lib.ListN.{length, getD, take}
 use Rattle.policy.specs.Rules.{Policy, Place}
-use Rattle.policy.specs.Check.{all}
+use Rattle.policy.specs.Check.{allPass}
 use Rattle.policy.specs.Number.{four}
 use Rattle.enforcer.specs.declared.state.State.{State}
 
@@ -22,7 +22,7 @@ placeIn p s = place (length (p .ceilings)) s
 
 -- No clock value is out of range, and no unused clock is other than 0.
 unfoldable pub clocksGood : List ℕ → List ℕ → Bool
-clocksGood [] vs = all (eqb 0) vs
+clocksGood [] vs = allPass (eqb 0) vs
 clocksGood (c ∷ cs) [] = false
 clocksGood (c ∷ cs) (v ∷ vs) = leb v c && clocksGood cs vs
 

@@ -14,7 +14,7 @@ use Rattle.streams.specs.AnswerLaws.{none-refused, none-unless}
 use Rattle.policy.specs.Rules.{Policy, Place}
 use Rattle.policy.specs.Number.{states, numberOf}
 use Rattle.policy.specs.File.{ceilingsOf, policyOf}
-use Rattle.policy.specs.Check.{refusalUnder, all}
+use Rattle.policy.specs.Check.{refusalUnder, allPass}
 use Rattle.policy.specs.Sound.{Inside}
 use Rattle.policy.specs.Numbered.{numberOf-below}
 use Rattle.policy.specs.Layout.{checkedUnder}
@@ -55,8 +55,8 @@ good-inside p s e =
     let c = clocks-inside (p .ceilings) (s .clocks) (k .1) in
     record { location = ltb-true _ _ (k .0); clocks = c .0; stopped = c .1 }
 
-all-zeros : (n : ℕ) → all (eqb 0) (replicate n 0) ≡ true
-unfolding all
+all-zeros : (n : ℕ) → allPass (eqb 0) (replicate n 0) ≡ true
+unfolding allPass
 all-zeros zero = refl
 all-zeros (suc n) = all-zeros n
 
@@ -83,7 +83,7 @@ at-zero zero = refl
 at-zero (suc v) = leb·suc-zero v ∙ sym (eqb·zero-suc v)
 
 padded-good : (cs vs : List ℕ) (n : ℕ) → length vs ≡ length cs + n → clocksGood (cs ++ replicate n 0) vs ≡ clocksGood cs vs
-unfolding clocksGood all
+unfolding clocksGood allPass
 padded-good [] [] zero e = refl
 padded-good [] [] (suc n) e = absurd (omega arith)
 padded-good [] (v ∷ vs) zero e = absurd (omega arith)

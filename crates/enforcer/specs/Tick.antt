@@ -4,7 +4,7 @@ use mathlib.Core.List.{List, [], _∷_}
 use mathlib.Core.Option.{Option, none, some, bind}
 use Prim.Native.Nat.{ℕ}
 use Rattle.streams.specs.Stream.{Event, Stream}
-use Rattle.streams.specs.Choose.{any, nearest}
+use Rattle.streams.specs.Choose.{someBelow, nearest}
 use Rattle.policy.specs.Rules.{Policy, Place, inputValues, outputValues, stopped, step}
 use Rattle.policy.specs.Number.{numberOf}
 use Rattle.enforcer.specs.State.{isMarked}
@@ -33,7 +33,7 @@ module _ (p : Policy) (marks : List ℕ) where
 
     -- "some y takes the state to a live one"
     unfoldable pub mayStand : ℕ → Bool
-    mayStand x = any (reaches x) (outputValues p)
+    mayStand x = someBelow (reaches x) (outputValues p)
 
     -- "x is kept if some y takes the state to a live one. Otherwise the x' of this kind that differs from x in the fewest bits is taken"; among equals
     -- the one that spares the first signals.

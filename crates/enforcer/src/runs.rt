@@ -14,7 +14,7 @@ ghost use mathlib.Core.List.{map};
 ghost use Prim.Native.Nat.{_≤_};
 ghost use lib.ListN.{length};
 ghost use Rattle.policy.specs.File.{policyOf};
-ghost use Rattle.policy.specs.Check.{all};
+ghost use Rattle.policy.specs.Check.{allPass};
 ghost use Rattle.index.specs.Index.{indexOf};
 ghost use Rattle.enforcer.specs.Tick.{ran};
 ghost use Rattle.enforcer.specs.Entries.{eventOf, eventGood, runFrom};
@@ -32,7 +32,7 @@ pub struct Ran {
 // No event has a bit beyond its signals.
 fn events_good(file: &[u8], layout: Layout, events: &[u8]) -> bool
     requires { ⌜ Laid (now file) layout ⌝ }
-    ensures { λ r. ⌜ r ≡ all (eventGood (layout .reading) (now (file .entry))) (now (events .entry)) ⌝ }
+    ensures { λ r. ⌜ r ≡ allPass (eventGood (layout .reading) (now (file .entry))) (now (events .entry)) ⌝ }
 {
     let inputs = values(layout.inputs);
     let outputs = values(layout.outputs);
@@ -61,7 +61,7 @@ fn release(
     out: &mut [u8],
 ) -> Ran
     requires { ⌜ Standing (now file) layout (now marks) start × (stateOf (place (layout .clocks) start) ≡ start) ⌝ }
-    requires { ⌜ (length (now events) ≤ length (now out)) × (all (eventGood (layout .reading) (now file)) (now events) ≡ true) ⌝ }
+    requires { ⌜ (length (now events) ≤ length (now out)) × (allPass (eventGood (layout .reading) (now file)) (now events) ≡ true) ⌝ }
     requires { ⌜ now index ≡ indexOf (now file) ⌝ }
     ensures { λ r. ⌜ ranSaid r (now (out .exit)) ≡ runFrom start (now (out .entry)) 0 (ran (policyOf (layout .reading) (now (file .entry))) (now (marks .entry)) (place (layout .clocks) start) (map eventOf (now (events .entry)))) ⌝ }
 {

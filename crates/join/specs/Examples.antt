@@ -7,7 +7,7 @@ use native.Mathlib.Omega.{arith}
 use lib.ListN.{length}
 use Rattle.policy.specs.Rules.{Bound, Rule, Policy, rests}
 use Rattle.policy.specs.Number.{statesOf}
-use Rattle.policy.specs.Check.{all, among, tagsGood, ceilingGood, locationGood, maskGood, headGood, boundGood, boundsGood, ruleRefusal, rulesRefusal}
+use Rattle.policy.specs.Check.{allPass, among, tagsGood, ceilingGood, locationGood, maskGood, headGood, boundGood, boundsGood, ruleRefusal, rulesRefusal}
 use Rattle.policy.specs.Sound.{WellFormed}
 use Rattle.policy.specs.Checked.{well-sound}
 use Rattle.join.specs.Join.{target, join}
@@ -86,9 +86,9 @@ module _ (reading : ℕ) where
   vu = refl
 
   -- The laws' premises hold of them, and of a join of joins.
-  well : (cs bs : List ℕ) (rs : List Rule) → 0 < length bs → all ceilingGood cs ≡ true → all locationGood bs ≡ true →
+  well : (cs bs : List ℕ) (rs : List Rule) → 0 < length bs → allPass ceilingGood cs ≡ true → allPass locationGood bs ≡ true →
       rulesRefusal 1 1 cs (length bs) 0 rs ≡ 0 → joinFits (over cs bs rs) ≡ true → WellFormed (over cs bs rs)
-  unfolding all among tagsGood
+  unfolding allPass among tagsGood
   well cs bs rs z c l r f =
       let t = fitting (over cs bs rs) f in
       record {
@@ -108,11 +108,11 @@ module _ (reading : ℕ) where
       }
 
   d-well : WellFormed d
-  unfolding all maskGood headGood boundGood boundsGood ruleRefusal rulesRefusal statesOf joinFits
+  unfolding allPass maskGood headGood boundGood boundsGood ruleRefusal rulesRefusal statesOf joinFits
   d-well = well _ _ _ (omega arith) refl refl refl refl
 
   v-well : WellFormed v
-  unfolding all maskGood headGood boundGood boundsGood ruleRefusal rulesRefusal statesOf joinFits
+  unfolding allPass maskGood headGood boundGood boundsGood ruleRefusal rulesRefusal statesOf joinFits
   v-well = well _ _ _ (omega arith) refl refl refl refl
 
   dv-well : WellFormed (join d v)

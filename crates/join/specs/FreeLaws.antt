@@ -12,7 +12,7 @@ use borrow.Author.Tests.{lt-ltb}
 use Rattle.streams.specs.Stream.{Event, Stream}
 use Rattle.policy.specs.Rules.{Policy, start, hold, fires, decides, unlimited, advance, taken, step, steps, Fits, rests, Runs, Rests, Permits}
 use Rattle.policy.specs.File.{policyOf}
-use Rattle.policy.specs.Check.{all, maskGood, headGood, boundsGood, ruleRefusal, rulesRefusal}
+use Rattle.policy.specs.Check.{allPass, maskGood, headGood, boundsGood, ruleRefusal, rulesRefusal}
 use Rattle.policy.specs.Number.{statesOf}
 use Rattle.policy.specs.Sound.{WellFormed, each-none, each-more, Formed, Sound}
 use Rattle.policy.specs.ReadBack.{read-back}
@@ -48,7 +48,7 @@ module _ (reading : ℕ) (ins outs : List ℕ) where
 
 -- Over the signals of a checked policy its file is not refused,
 pub free-well : (reading : ℕ) (p : Policy) → WellFormed p → WellFormed (free reading (p .inputs) (p .outputs))
-unfolding all maskGood headGood boundsGood ruleRefusal rulesRefusal statesOf
+unfolding allPass maskGood headGood boundsGood ruleRefusal rulesRefusal statesOf
 free-well reading p w =
     record {
       inputs = w .inputs;

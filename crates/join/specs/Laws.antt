@@ -8,8 +8,8 @@ use native.Mathlib.Omega.{arith}
 use Rattle.streams.specs.Stream.{Event, Stream, Language, GoesOn, Hopeless}
 use Rattle.streams.specs.Order.{Order}
 use Rattle.streams.specs.Enforced.{Enforced}
-use Rattle.streams.specs.Laws.{⊆-refl, ⊆-trans, ∩-first, ∩-second, ∩-into, goes-on, ends, enforced-same, passes}
-use Rattle.streams.specs.Languages.{_⊆_}
+use Rattle.streams.specs.Laws.{narrows-refl, narrows-trans, alongside-first, alongside-second, alongside-into, goes-on, ends, enforced-same, passes}
+use Rattle.streams.specs.Languages.{_narrows_}
 use Rattle.policy.specs.Rules.{Policy, Runs, Permits}
 use Rattle.policy.specs.Sound.{Sound}
 use Rattle.join.specs.Join.{join}
@@ -27,7 +27,7 @@ pub record Equal (p q : Policy) : Type 1 where
   pub releases : (o : Order) (n m : ℕ) (w : Stream) (es rs : List Event) →
       Enforced o (Permits p) n m w es rs ↔ Enforced o (Permits q) n m w es rs
 
-pub equal : (p q : Policy) → Permits p ⊆ Permits q → Permits q ⊆ Permits p → Equal p q
+pub equal : (p q : Policy) → Permits p narrows Permits q → Permits q narrows Permits p → Equal p q
 equal p q f g =
     record {
       permits = λ w. (f .permits w, g .permits w);
@@ -42,15 +42,15 @@ module _ (a b : Policy) (g : Sound a) (h : Sound b) (j : Joins a b) where
   pub joins-swap : Joins b a
   joins-swap = record { reading = sym (j .reading); inputs = sym (j .inputs); outputs = sym (j .outputs); locations = rw (mul-comm (b .locations) (a .locations)) (j .locations) }
 
-  to-first : Permits (join a b) ⊆ Permits a
-  to-first = ⊆-trans (within-both a b g h j) (∩-first (Permits a) (Permits b))
+  to-first : Permits (join a b) narrows Permits a
+  to-first = narrows-trans (within-both a b g h j) (alongside-first (Permits a) (Permits b))
 
-  to-second : Permits (join a b) ⊆ Permits b
-  to-second = ⊆-trans (within-both a b g h j) (∩-second (Permits a) (Permits b))
+  to-second : Permits (join a b) narrows Permits b
+  to-second = narrows-trans (within-both a b g h j) (alongside-second (Permits a) (Permits b))
 
   -- What both permit, the join permits.
-  into : {L : Language} → L ⊆ Permits a → L ⊆ Permits b → L ⊆ Permits (join a b)
-  into f k = ⊆-trans (∩-into f k) (both-within a b g h j)
+  into : {L : Language} → L narrows Permits a → L narrows Permits b → L narrows Permits (join a b)
+  into f k = narrows-trans (alongside-into f k) (both-within a b g h j)
 
   -- What the join releases passes the enforcer of A, and of B, without an edit.
   pub passes-first : (o : Order) (n m : ℕ) (w : Stream) (es rs : List Event) →
@@ -95,13 +95,13 @@ module _ (a b c : Policy) (g : Sound a) (h : Sound b) (k : Sound c) (j : Joins a
       let l = to-first (join a b) c ab k i in
       let r = to-second a (join b c) g bc joins-whole in
       equal (join (join a b) c) (join a (join b c))
-      (into a (join b c) g bc joins-whole (⊆-trans l (to-first a b g h j))
-      (into b c h k joins-right (⊆-trans l (to-second a b g h j)) (to-second (join a b) c ab k i)))
-      (into (join a b) c ab k i (into a b g h j (to-first a (join b c) g bc joins-whole) (⊆-trans r (to-first b c h k joins-right)))
-      (⊆-trans r (to-second b c h k joins-right)))
+      (into a (join b c) g bc joins-whole (narrows-trans l (to-first a b g h j))
+      (into b c h k joins-right (narrows-trans l (to-second a b g h j)) (to-second (join a b) c ab k i)))
+      (into (join a b) c ab k i (into a b g h j (to-first a (join b c) g bc joins-whole) (narrows-trans r (to-first b c h k joins-right)))
+      (narrows-trans r (to-second b c h k joins-right)))
 
 pub idempotent : (a : Policy) → Sound a → Joins a a → Equal (join a a) a
-idempotent a g j = equal (join a a) a (to-first a a g g j) (into a a g g j (⊆-refl (Permits a)) (⊆-refl (Permits a)))
+idempotent a g j = equal (join a a) a (to-first a a g g j) (into a a g g j (narrows-refl (Permits a)) (narrows-refl (Permits a)))
 
 -- The policy that permits all, over the signals of a and read as a is.
 abbrev pub freeFor : Policy → Policy
@@ -111,7 +111,7 @@ pub joins-free : (a : Policy) → a .locations ≤ 64 → Joins a (freeFor a)
 joins-free a l = record { reading = refl; inputs = refl; outputs = refl; locations = rw (mul-one (a .locations)) l }
 
 -- It permits whatever a permits.
-pub all-free : (a : Policy) → Permits a ⊆ Permits (freeFor a)
+pub all-free : (a : Policy) → Permits a narrows Permits (freeFor a)
 unfolding Runs
 all-free a =
     record {
@@ -125,4 +125,4 @@ unit a g l =
     let u = freeFor a in
     let h = free-sound (a .reading) (a .inputs) (a .outputs) in
     let j = joins-free a l in
-    equal (join a u) a (to-first a u g h j) (into a u g h j (⊆-refl (Permits a)) (all-free a))
+    equal (join a u) a (to-first a u g h j) (into a u g h j (narrows-refl (Permits a)) (all-free a))

@@ -10,7 +10,7 @@ use lib.ListN.{length, getD, length-append, List·getD-append}
 use lib.Seq.{getD-append-add}
 use borrow.Author.Tests.{ltb-true, ltb-false}
 use Rattle.policy.specs.Rules.{Policy, Place, rests}
-use Rattle.policy.specs.Check.{all, locationGood}
+use Rattle.policy.specs.Check.{allPass, locationGood}
 use Rattle.policy.specs.Sound.{In}
 use Rattle.policy.specs.Checked.{all-append}
 use Rattle.join.specs.Join.{leftAt, leftBelow, join, beside}
@@ -53,8 +53,8 @@ module _ (a b : Policy) where
           ∙ getD-append-add (leftBelow a b m) (leftAt a b m ∷ []) 0 0
           ∙ rw s
 
-  pub left-good : (m : ℕ) → all locationGood (leftBelow a b m) ≡ true
-  unfolding leftBelow leftAt all
+  pub left-good : (m : ℕ) → allPass locationGood (leftBelow a b m) ≡ true
+  unfolding leftBelow leftAt allPass
   left-good zero = refl
   left-good (suc m) =
       all-append locationGood (leftBelow a b m) (leftAt a b m ∷ []) (left-good m)

@@ -6,8 +6,8 @@ use Prim.Native.Nat.{ℕ, zero, suc, _*_, _≤_}
 use lib.ListN.{length, take}
 use lib.Seq.{take-at}
 use borrow.Author.Tests.{leb-true}
-use Rattle.streams.specs.Stream.{_∩_}
-use Rattle.streams.specs.Languages.{_⊆_}
+use Rattle.streams.specs.Stream.{_alongside_}
+use Rattle.streams.specs.Languages.{_narrows_}
 use Rattle.streams.specs.Answer.{unless}
 use Rattle.streams.specs.AnswerLaws.{none-refused, none-unless}
 use Rattle.policy.specs.Rules.{rests, Permits}
@@ -98,8 +98,8 @@ module _ (a b out : List ℕ) (e : joinRefusal a b out ≡ 0) where
 
   -- It permits what both permit, for each reading.
   pub joined-both : (reading : ℕ) →
-      (Permits (policyOf reading (joinedFile a b out)) ⊆ Permits (policyOf reading a) ∩ Permits (policyOf reading b))
-      × (Permits (policyOf reading a) ∩ Permits (policyOf reading b) ⊆ Permits (policyOf reading (joinedFile a b out)))
+      (Permits (policyOf reading (joinedFile a b out)) narrows Permits (policyOf reading a) alongside Permits (policyOf reading b))
+      × (Permits (policyOf reading a) alongside Permits (policyOf reading b) narrows Permits (policyOf reading (joinedFile a b out)))
   joined-both reading =
       let p = policyOf reading a in
       let q = policyOf reading b in

@@ -11,19 +11,19 @@ use lib.Seq.{take-suc, drop-cons, set-at}
 use Rattle.streams.specs.AnswerLaws.{none-unless}
 use Rattle.policy.specs.File.{pairAt, pairsFrom, inputCount, outputsAt, outputCount, clocksAt, clockCount, locationsAt, locationCount}
 use Rattle.policy.specs.File.{ceilingsOf}
-use Rattle.policy.specs.Check.{all, among, tagsGood, isCapital, inputsRefusal, outputsRefusal, clocksRefusal, locationsRefusal}
+use Rattle.policy.specs.Check.{allPass, among, tagsGood, isCapital, inputsRefusal, outputsRefusal, clocksRefusal, locationsRefusal}
 use Rattle.policy.specs.Number.{four, statesOf}
 use Rattle.policy.specs.Frame.{section, pairs-length}
 use Rattle.policy.specs.Checked.{ceiling-at}
 
 -- The list from i on: its first element, and the rest.
 pub all-turn : (test : ℕ → Bool) (xs : List ℕ) (i : ℕ) → i < length xs →
-    all test (drop i xs) ≡ (test (getD xs i 0) && all test (drop (i + 1) xs))
-unfolding all
+    allPass test (drop i xs) ≡ (test (getD xs i 0) && allPass test (drop (i + 1) xs))
+unfolding allPass
 all-turn test xs i h = rw (add-one, drop-cons xs i 0)
 
-pub all-end : (test : ℕ → Bool) (xs : List ℕ) (i : ℕ) → length xs ≤ i → all test (drop i xs) ≡ true
-unfolding all
+pub all-end : (test : ℕ → Bool) (xs : List ℕ) (i : ℕ) → length xs ≤ i → allPass test (drop i xs) ≡ true
+unfolding allPass
 all-end test xs i h = rw drop-of-length-le
 
 pub among-turn : (t : ℕ) (xs : List ℕ) (i : ℕ) → i < length xs → among t (drop i xs) ≡ (eqb (getD xs i 0) t || among t (drop (i + 1) xs))
@@ -52,15 +52,15 @@ tags-end before xs i h = rw drop-of-length-le
 
 -- n numbers of the file, from the i-th on.
 pub ceilings-turn : (test : ℕ → Bool) (f : List ℕ) (at n i : ℕ) → i < n →
-    all test (pairsFrom f (at + 2 * i) (n - i))
-    ≡ (test (pairAt f (at + 2 * i)) && all test (pairsFrom f (at + 2 * (i + 1)) (n - (i + 1))))
-unfolding all pairsFrom
+    allPass test (pairsFrom f (at + 2 * i) (n - i))
+    ≡ (test (pairAt f (at + 2 * i)) && allPass test (pairsFrom f (at + 2 * (i + 1)) (n - (i + 1))))
+unfolding allPass pairsFrom
 ceilings-turn test f at n i h =
     let e : n - i ≡ suc (n - (i + 1)) = omega arith in
     let g : at + 2 * (i + 1) ≡ at + 2 * i + 2 = omega arith in rw (e, g)
 
-pub ceilings-end : (test : ℕ → Bool) (f : List ℕ) (at n i : ℕ) → n ≤ i → all test (pairsFrom f at (n - i)) ≡ true
-unfolding all pairsFrom
+pub ceilings-end : (test : ℕ → Bool) (f : List ℕ) (at n i : ℕ) → n ≤ i → allPass test (pairsFrom f at (n - i)) ≡ true
+unfolding allPass pairsFrom
 ceilings-end test f at n i h = let e : n - i ≡ 0 = omega arith in rw e
 
 pub pairs-last : (f : List ℕ) (at n : ℕ) → pairsFrom f at (n + 1) ≡ pairsFrom f at n ++ (pairAt f (at + 2 * n) ∷ [])

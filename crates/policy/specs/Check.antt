@@ -12,9 +12,9 @@ use Rattle.policy.specs.File
 use Rattle.policy.specs.Number.{statesOf}
 
 -- Every element passes.
-unfoldable pub all : (ℕ → Bool) → List ℕ → Bool
-all test [] = true
-all test (a ∷ rest) = test a && all test rest
+unfoldable pub allPass : (ℕ → Bool) → List ℕ → Bool
+allPass test [] = true
+allPass test (a ∷ rest) = test a && allPass test rest
 
 -- 1, 2, 1: "a count or its section is cut short", "a count is outside its limits". The count n stands at `at` in `width` bytes, and each of its items
 -- takes `size` bytes.
@@ -87,12 +87,12 @@ module _ (f : List ℕ) where
 
   unfoldable pub clocksRefusal : ℕ
   clocksRefusal =
-      sectionRefusal f (File.clocksAt f) 1 (File.clockCount f) 0 4 2 orElse unless (all ceilingGood (File.ceilingsOf f)) 4
+      sectionRefusal f (File.clocksAt f) 1 (File.clockCount f) 0 4 2 orElse unless (allPass ceilingGood (File.ceilingsOf f)) 4
 
   unfoldable pub locationsRefusal : ℕ
   locationsRefusal =
       sectionRefusal f (File.locationsAt f) 1 (File.locationCount f) 1 64 1
-      orElse unless (all locationGood (File.locationBytes f)) 5
+      orElse unless (allPass locationGood (File.locationBytes f)) 5
 
   unfoldable pub rulesSectionRefusal : ℕ
   rulesSectionRefusal =

@@ -14,7 +14,7 @@ use Rattle.streams.specs.AnswerLaws.{none-refused, none-unless}
 use Rattle.policy.specs.Rules.{Bound, Rule, Policy}
 use Rattle.policy.specs.Stopped.{Lawful, AllLawful, lawful-none, lawful-more, LawfulRules, checked-none, checked-more}
 use Rattle.policy.specs.File.{clocksAt, clockCount, policyOf}
-use Rattle.policy.specs.Check.{all, ceilingGood, maskGood, headGood, boundGood, boundsGood, ruleRefusal, rulesRefusal, refusalOf}
+use Rattle.policy.specs.Check.{allPass, ceilingGood, maskGood, headGood, boundGood, boundsGood, ruleRefusal, rulesRefusal, refusalOf}
 use Rattle.policy.specs.Sound.{WellFormed, Each, each-none, each-more, each-weak, Formed, Sound}
 use Rattle.policy.specs.Frame.{pairs-length, rules-length, passed, inputs-length, outputs-length, locations-length}
 
@@ -47,20 +47,20 @@ either : (t u : Bool) → (t || u) ≡ true → (t ≡ true) ⊎ (u ≡ true)
 either true u e = _⊎_.inl refl
 either false u e = _⊎_.inr e
 
-pub all-at : (test : ℕ → Bool) (xs : List ℕ) → all test xs ≡ true → (i : ℕ) → i < length xs → test (getD xs i 0) ≡ true
-unfolding all
+pub all-at : (test : ℕ → Bool) (xs : List ℕ) → allPass test xs ≡ true → (i : ℕ) → i < length xs → test (getD xs i 0) ≡ true
+unfolding allPass
 all-at test [] e i h = absurd (omega arith)
 all-at test (a ∷ rest) e zero h = and-eq-true-iff (test a) _ .0 e .0
 all-at test (a ∷ rest) e (suc i) h = all-at test rest (and-eq-true-iff (test a) _ .0 e .1) i (omega arith)
 
-pub all-append : (test : ℕ → Bool) (xs ys : List ℕ) → all test xs ≡ true → all test ys ≡ true → all test (xs ++ ys) ≡ true
-unfolding all
+pub all-append : (test : ℕ → Bool) (xs ys : List ℕ) → allPass test xs ≡ true → allPass test ys ≡ true → allPass test (xs ++ ys) ≡ true
+unfolding allPass
 all-append test [] ys g h = h
 all-append test (x ∷ xs) ys g h =
-    let t = and-eq-true-iff (test x) (all test xs) .0 g in
+    let t = and-eq-true-iff (test x) (allPass test xs) .0 g in
     and-eq-true-iff (test x) _ .1 (t .0, all-append test xs ys (t .1) h)
 
-pub ceiling-at : (cs : List ℕ) → all ceilingGood cs ≡ true → (i : ℕ) → i < length cs → (1 ≤ getD cs i 0) × (getD cs i 0 ≤ 1001)
+pub ceiling-at : (cs : List ℕ) → allPass ceilingGood cs ≡ true → (i : ℕ) → i < length cs → (1 ≤ getD cs i 0) × (getD cs i 0 ≤ 1001)
 ceiling-at cs e i h =
     let k = and-eq-true-iff (leb 1 (getD cs i 0)) _ .0 (all-at ceilingGood cs e i h) in (leb-true _ _ (k .0), leb-true _ _ (k .1))
 

@@ -12,7 +12,7 @@ use Rattle.streams.specs.Answer.{_orElse_, unless}
 use Rattle.streams.specs.AnswerLaws.{none-refused, none-unless}
 use Rattle.policy.specs.Number.{statesOf}
 use Rattle.policy.specs.File.{part, pairsFrom, boundsFrom, rulesFrom, ruleSize, inputCount, outputsAt, outputCount, clocksAt, clockCount, locationsAt, locationCount, rulesAt, ruleCount, rulesStart, rulesEnd, inputTags, outputTags, ceilingsOf, locationBytes, ruleSection, rulesOf}
-use Rattle.policy.specs.Check.{all, sectionRefusal, tagsGood, ceilingGood, locationGood, rulesRefusal, inputsRefusal, outputsRefusal, clocksRefusal, locationsRefusal, rulesSectionRefusal, refusalOf}
+use Rattle.policy.specs.Check.{allPass, sectionRefusal, tagsGood, ceilingGood, locationGood, rulesRefusal, inputsRefusal, outputsRefusal, clocksRefusal, locationsRefusal, rulesSectionRefusal, refusalOf}
 
 -- The count is within its limits, and its section within the file.
 pub section-fits : (f : List ℕ) (at width n low high size : ℕ) → sectionRefusal f at width n low high size ≡ 0 →
@@ -70,8 +70,8 @@ pub record Passed (f : List ℕ) : Type 0 where
   pub frame : Framed f
   pub inTags : tagsGood [] (inputTags f) ≡ true
   pub outTags : tagsGood (inputTags f) (outputTags f) ≡ true
-  pub ceilings : all ceilingGood (ceilingsOf f) ≡ true
-  pub left : all locationGood (locationBytes f) ≡ true
+  pub ceilings : allPass ceilingGood (ceilingsOf f) ≡ true
+  pub left : allPass locationGood (locationBytes f) ≡ true
   pub rules : rulesRefusal (inputCount f) (outputCount f) (ceilingsOf f) (locationCount f) 0 (rulesOf f) ≡ 0
   pub states : statesOf (ceilingsOf f) (clockCount f) (locationCount f) ≤ 65536
 

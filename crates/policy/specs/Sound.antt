@@ -8,7 +8,7 @@ use lib.Bits.{bitAnd}
 use lib.ListN.{length, getD}
 use Rattle.policy.specs.Rules.{Rule, Policy, Place}
 use Rattle.policy.specs.Number.{states}
-use Rattle.policy.specs.Check.{all, tagsGood, ceilingGood, locationGood, rulesRefusal}
+use Rattle.policy.specs.Check.{allPass, tagsGood, ceilingGood, locationGood, rulesRefusal}
 
 -- The limits and orders of a file that is not refused.
 pub record WellFormed (p : Policy) : Type 0 where
@@ -17,11 +17,11 @@ pub record WellFormed (p : Policy) : Type 0 where
   pub clocks : length (p .ceilings) ≤ 4
   pub inputTags : tagsGood [] (p .inputs) ≡ true
   pub outputTags : tagsGood (p .inputs) (p .outputs) ≡ true
-  pub ceilings : all ceilingGood (p .ceilings) ≡ true
+  pub ceilings : allPass ceilingGood (p .ceilings) ≡ true
   pub start : 0 < p .locations
   pub locations : p .locations ≤ 64
   pub bytes : length (p .left) ≡ p .locations
-  pub left : all locationGood (p .left) ≡ true
+  pub left : allPass locationGood (p .left) ≡ true
   pub ruleCount : length (p .rules) ≤ 256
   pub rules : rulesRefusal (length (p .inputs)) (length (p .outputs)) (p .ceilings) (p .locations) 0 (p .rules) ≡ 0
   pub states : states p ≤ 65536
@@ -33,10 +33,10 @@ pub record NearlyFormed (p : Policy) : Type 0 where
   pub clocks : length (p .ceilings) ≤ 4
   pub inputTags : tagsGood [] (p .inputs) ≡ true
   pub outputTags : tagsGood (p .inputs) (p .outputs) ≡ true
-  pub ceilings : all ceilingGood (p .ceilings) ≡ true
+  pub ceilings : allPass ceilingGood (p .ceilings) ≡ true
   pub locations : p .locations ≤ 64
   pub bytes : length (p .left) ≡ p .locations
-  pub left : all locationGood (p .left) ≡ true
+  pub left : allPass locationGood (p .left) ≡ true
   pub ruleCount : length (p .rules) ≤ 256
   pub rules : rulesRefusal (length (p .inputs)) (length (p .outputs)) (p .ceilings) (p .locations) 0 (p .rules) ≡ 0
 

@@ -11,7 +11,7 @@ use lib.ListN.{length, getD, take, length-replicate}
 use borrow.Author.Tests.{eqb-false}
 use Rattle.streams.specs.Stream.{Event, Stream, _after_, GoesOn, Ends}
 use Rattle.streams.specs.Laws.{goes-on, ends}
-use Rattle.streams.specs.Languages.{_⊆_, Closed}
+use Rattle.streams.specs.Languages.{_narrows_, Closed}
 use Rattle.policy.specs.Rules.{Rule, Policy, Place, start, fires, decides, unlimited, stopped, advance, looked, taken, step, steps, Fits, fits-none, fits-more, rests, Runs, Rests, from, Live, Dead}
 use Rattle.policy.specs.Stopped.{LawfulRules, steps-same, start-stops}
 use Rattle.policy.specs.Stop.{mins, stop, shown}
@@ -195,10 +195,10 @@ module _ (p : Policy) where
         k : steps unlimited p s (w ++ v) ≡ steps unlimited p t v
         k = steps-append unlimited p s w v ∙ ap (λ (d : Option Place). bind d (λ u. steps unlimited p u v)) e
 
-    after-there : from p s after w ⊆ from p t
+    after-there : from p s after w narrows from p t
     after-there = record { permits = λ v. runs-append v .0; rests = λ v. rests-append v .0 }
 
-    there-after : from p t ⊆ from p s after w
+    there-after : from p t narrows from p s after w
     there-after = record { permits = λ v. runs-append v .1; rests = λ v. rests-append v .1 }
 
     pub goes-on-live : GoesOn (from p s) w ↔ Live p t
@@ -232,7 +232,7 @@ module _ (p : Policy) where
           shown-some (steps unlimited p s w) (steps unlimited p t w)
           (sym (steps-same p ok s w) ∙ ap (λ (z : Place). steps stopped p z w) k ∙ steps-same p ok t w) u
 
-      pub alike : from p s ⊆ from p t
+      pub alike : from p s narrows from p t
       unfolding Runs Rests
       alike =
           record {
@@ -240,7 +240,7 @@ module _ (p : Policy) where
             rests = λ w r. let v = ends-alike w (r .0) (r .1) in (v .0, v .1, rw (v .2) at (r .2));
           }
 
-    stop-alike : (s : Place) → (from p s ⊆ from p (stop p s)) × (from p (stop p s) ⊆ from p s)
+    stop-alike : (s : Place) → (from p s narrows from p (stop p s)) × (from p (stop p s) narrows from p s)
     stop-alike s = (alike s (stop p s) (sym (stop-twice s)), alike (stop p s) s (stop-twice s))
 
     pub live-stop : (s : Place) → Live p s ↔ Live p (stop p s)

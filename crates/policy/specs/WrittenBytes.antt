@@ -11,7 +11,7 @@ use lib.ListN.{length, getD}
 use borrow.Author.Tests.{leb-true}
 use Rattle.policy.specs.Rules.{Bound, Rule, Policy}
 use Rattle.policy.specs.File.{inputTags, outputTags}
-use Rattle.policy.specs.Check.{all, tagsGood, ceilingGood, locationGood}
+use Rattle.policy.specs.Check.{allPass, tagsGood, ceilingGood, locationGood}
 use Rattle.policy.specs.Bytes.{pairsBytes, boundsBytes, ruleBytes, rulesBytes, bytesOf}
 use Rattle.policy.specs.Stopped.{AllLawful, lawful-none, lawful-more}
 use Rattle.policy.specs.Sound.{WellFormed, Each, each-none, each-more, each-weak}
@@ -40,15 +40,15 @@ tags-bytes before (t ∷ ts) e =
     let good = simp and-eq-true-iff at e in
     (omega (arith, leb-true), tags-bytes (before ++ (t ∷ [])) ts (good .1 .1))
 
-ceilings-bytes : (cs : List ℕ) → all ceilingGood cs ≡ true → AllBytes (pairsBytes cs)
-unfolding all pairsBytes
+ceilings-bytes : (cs : List ℕ) → allPass ceilingGood cs ≡ true → AllBytes (pairsBytes cs)
+unfolding allPass pairsBytes
 ceilings-bytes [] e = tt
 ceilings-bytes (c ∷ cs) e =
     let good = simp and-eq-true-iff at e in
     (omega (arith, leb-true), (omega arith, ceilings-bytes cs (good .1)))
 
-left-bytes : (bs : List ℕ) → all locationGood bs ≡ true → AllBytes bs
-unfolding all
+left-bytes : (bs : List ℕ) → allPass locationGood bs ≡ true → AllBytes bs
+unfolding allPass
 left-bytes [] e = tt
 left-bytes (b ∷ bs) e =
     let good = simp and-eq-true-iff at e in
@@ -58,8 +58,8 @@ left-bytes (b ∷ bs) e =
 below-or-at : {n limit own : ℕ} → limit ≤ own → (n < limit) ⊎ (n ≡ own) → n ≤ own
 below-or-at h = ⊎-elim (λ l. omega arith) (λ e. omega arith)
 
-bounds-bytes : {cs : List ℕ} {bs : List Bound} → all ceilingGood cs ≡ true → AllLawful cs bs → AllBytes (boundsBytes bs)
-unfolding all boundsBytes
+bounds-bytes : {cs : List ℕ} {bs : List Bound} → allPass ceilingGood cs ≡ true → AllLawful cs bs → AllBytes (boundsBytes bs)
+unfolding allPass boundsBytes
 bounds-bytes e lawful-none = tt
 bounds-bytes e (lawful-more {c = c} {b = b} l ls) =
     let ceiling = simp and-eq-true-iff at e in

@@ -9,7 +9,7 @@ ghost use mathlib.Core.Path.{_≡_};
 ghost use Prim.Native.Nat.{ℕ, _+_, _*_, _≤_, _<_, _^_};
 ghost use lib.ListN.{getD};
 ghost use Rattle.policy.specs.File.{pairsFrom, inputCount, outputsAt, clocksAt, locationsAt};
-ghost use Rattle.policy.specs.Check.{sectionRefusal, among, tagsGood, ceilingGood, locationGood, all, inputsRefusal, outputsRefusal, clocksRefusal, locationsRefusal};
+ghost use Rattle.policy.specs.Check.{sectionRefusal, among, tagsGood, ceilingGood, locationGood, allPass, inputsRefusal, outputsRefusal, clocksRefusal, locationsRefusal};
 ghost use Rattle.policy.specs.Number.{four, statesOf};
 
 // 1 where the count at `at` or its section is cut short, 2 where the count n is outside its limits, else 0.
@@ -80,7 +80,7 @@ pub(crate) fn tags_good(before: &[u8], tags: &[u8]) -> bool
 
 // Each byte is 0 or 1.
 pub(crate) fn locations_good(bytes: &[u8]) -> bool
-    ensures { λ r. ⌜ r ≡ all locationGood (now (bytes .entry)) ⌝ }
+    ensures { λ r. ⌜ r ≡ allPass locationGood (now (bytes .entry)) ⌝ }
 {
     let mut i = 0;
     while i < bytes.len() {
@@ -95,7 +95,7 @@ pub(crate) fn locations_good(bytes: &[u8]) -> bool
 // Each of the n ceilings from `at` on is 1 to 1,001.
 pub(crate) fn ceilings_good(file: &[u8], at: usize, n: usize) -> bool
     requires { ⌜ (at < 2 ^ 16) × (n ≤ 4) ⌝ }
-    ensures { λ r. ⌜ r ≡ all ceilingGood (pairsFrom (now (file .entry)) at n) ⌝ }
+    ensures { λ r. ⌜ r ≡ allPass ceilingGood (pairsFrom (now (file .entry)) at n) ⌝ }
 {
     let mut i = 0;
     while i < n {

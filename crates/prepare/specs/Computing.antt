@@ -2,11 +2,11 @@
 use mathlib.Core.Option.{bind}
 use lib.Count.{onesIn, ones}
 use Rattle.streams.specs.Nearness.{distance, spares, nearer}
-use Rattle.streams.specs.Choose.{any, better, nearest}
+use Rattle.streams.specs.Choose.{someBelow, better, nearest}
 use Rattle.policy.specs.Rules.{within, hold, fires, decides, advance, tested, taken, step, rests}
 use Rattle.policy.specs.Number.{numberFrom, statesOf, locationFrom, clocksFrom}
 use Rattle.policy.specs.File.{policyOf, outputsAt, clocksAt, locationsAt, rulesAt, rulesStart, rulesEnd, pairsFrom, rulesFrom, ruleFrom, boundsFrom}
-use Rattle.policy.specs.Check.{readingRefusal, refusalUnder, refusalOf, inputsRefusal, outputsRefusal, clocksRefusal, locationsRefusal, rulesSectionRefusal, sectionRefusal, tagsGood, among, all, rulesRefusal, ruleRefusal, headGood, maskGood, boundsGood, boundGood}
+use Rattle.policy.specs.Check.{readingRefusal, refusalUnder, refusalOf, inputsRefusal, outputsRefusal, clocksRefusal, locationsRefusal, rulesSectionRefusal, sectionRefusal, tagsGood, among, allPass, rulesRefusal, ruleRefusal, headGood, maskGood, boundsGood, boundGood}
 use Rattle.policy.specs.Bytes.{bytesOf, countsBytes, pairsBytes, rulesBytes, ruleBytes, boundsBytes}
 use Rattle.enforcer.specs.State.{clocksGood, stateGood}
 use Rattle.enforcer.specs.Tick.{reaches, mayStand, inputChoice, outputChoice, moved, outputTick, tick, ran}
@@ -24,7 +24,7 @@ the-file = tt
 unfoldable pub the-check : Unit {0}
 unfolding
     refusalUnder readingRefusal refusalOf inputsRefusal outputsRefusal clocksRefusal locationsRefusal rulesSectionRefusal sectionRefusal tagsGood
-    among all rulesRefusal ruleRefusal headGood maskGood boundsGood boundGood statesOf
+    among allPass rulesRefusal ruleRefusal headGood maskGood boundsGood boundGood statesOf
 the-check = tt
 
 -- The file of a policy.
@@ -40,7 +40,7 @@ a-step = tt
 -- Prepare and its marks.
 unfoldable pub the-marks : Unit {0}
 unfolding
-    prepareOf preparedMarks marksRefusal numberFrom locationFrom clocksFrom mayStand reaches any roundsBy roundBy keeps leadsTo stays someEvent rests
+    prepareOf preparedMarks marksRefusal numberFrom locationFrom clocksFrom mayStand reaches someBelow roundsBy roundBy keeps leadsTo stays someEvent rests
     tab
 the-marks = tt
 

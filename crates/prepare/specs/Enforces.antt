@@ -12,7 +12,7 @@ use Rattle.streams.specs.Stream.{Event, Stream, GoesOn}
 use Rattle.streams.specs.Order.{Nearest}
 use Rattle.streams.specs.Corrections.{corrections}
 use Rattle.streams.specs.Choose.{Among}
-use Rattle.streams.specs.ChooseLaws.{any-has, any-from, nearest-may, nearest-some}
+use Rattle.streams.specs.ChooseLaws.{some-has, some-from, nearest-may, nearest-some}
 use Rattle.streams.specs.Enforced.{then, MayOut, MayIn, Enforced, done}
 use Rattle.streams.specs.Enforced
 use Rattle.streams.specs.Laws.{permitted}
@@ -126,10 +126,10 @@ module _ (p : Policy) (ok : WellFormed p) (marks : List ℕ) (by : AsPrepared p 
     pub stands-may : (x : ℕ) → Among (mayStand p marks s) (inputValues p) x ↔ MayIn (Permits p) (ins p) (outs p) w x
     unfolding mayStand
     stands-may x = (
-      λ a. let y = any-from (reaches p marks s x) (outputValues p) (a .1) in (a .0, (y .0, reaches-may x (a .0) (y .0) .0 (y .1, y .2))),
+      λ a. let y = some-from (reaches p marks s x) (outputValues p) (a .1) in (a .0, (y .0, reaches-may x (a .0) (y .0) .0 (y .1, y .2))),
       λ m.
           let a = reaches-may x (m .0) (m .1 .0) .1 (m .1 .1) in
-          (m .0, any-has (reaches p marks s x) (outputValues p) (m .1 .0) (a .0) (a .1)),
+          (m .0, some-has (reaches p marks s x) (outputValues p) (m .1 .0) (a .0) (a .1)),
     )
 
     pub input-nearest : (x z : ℕ) → (inputChoice p marks s x ≡ some z) ↔ Nearest corrections (MayIn (Permits p) (ins p) (outs p) w) x z

@@ -8,7 +8,7 @@ use lib.Dec.{eqb}
 use lib.ListN.{getD}
 use borrow.Author.Tests.{lt-ltb, eqb-true, not-false}
 use Rattle.streams.specs.Answer.{gives}
-use Rattle.streams.specs.ChooseLaws.{any-none, nearest-kept, nearest-some}
+use Rattle.streams.specs.ChooseLaws.{some-none, nearest-kept, nearest-some}
 use Rattle.policy.specs.Rules.{Policy, Place, inputValues, outputValues, stopped, step}
 use Rattle.policy.specs.File.{policyOf}
 use Rattle.policy.specs.Number.{states, numberOf}
@@ -31,7 +31,7 @@ use Rattle.enforcer.specs.declared.state.State.{State}
 pub marks-prepared : (p : Policy) (marks : List ℕ) → otherMarks p marks ≡ false → AsPrepared p marks
 unfolding differ
 marks-prepared p marks h n l =
-    let e = any-none (λ i. not (eqb (getD marks i 0) (getD (marksOf p) i 0))) (states p) h n l in
+    let e = some-none (λ i. not (eqb (getD marks i 0) (getD (marksOf p) i 0))) (states p) h n l in
     ap (λ (m : ℕ). eqb m 1) (eqb-true (getD marks n 0) (getD (marksOf p) n 0) (not-false _ e))
 
 module _ (p : Policy) (marks : List ℕ) (s : Place) where
@@ -44,7 +44,7 @@ module _ (p : Policy) (marks : List ℕ) (s : Place) where
   pub edited-input : (x : ℕ) {z : ℕ} → x < inputValues p → inputChoice p marks s x ≡ some z → (x ≡ z → ⊥) → (y : ℕ) → y < outputValues p → reaches p marks s x y ≡ false
   unfolding inputChoice mayStand
   edited-input x {z} l h n =
-      any-none (reaches p marks s x) (outputValues p)
+      some-none (reaches p marks s x) (outputValues p)
       (is-false _ (λ r. n (Option·some-injective x z (sym (nearest-kept (mayStand p marks s) x (inputValues p) l r) ∙ h))))
 
   -- By the marks of prepare.

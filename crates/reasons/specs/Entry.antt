@@ -9,8 +9,8 @@ use lib.ListN.{getD}
 use Rattle.streams.specs.Answer.{Answer, refused, gives, _orElse_, unless, UpTo}
 use Rattle.streams.specs.AnswerLaws.{else-le, unless-le}
 use borrow.Author.Tests.{eq-eqb, ne-eqb}
-use Rattle.streams.specs.Choose.{any}
-use Rattle.streams.specs.ChooseLaws.{any-has, any-fails, any-ext}
+use Rattle.streams.specs.Choose.{someBelow}
+use Rattle.streams.specs.ChooseLaws.{some-has, some-fails, some-ext}
 use Rattle.policy.specs.Rules.{Policy}
 use Rattle.policy.specs.File.{policyOf}
 use Rattle.policy.specs.Number.{states}
@@ -28,7 +28,7 @@ pub record Reasons : Type 0 where
 
 -- One of the first n numbers differs.
 unfoldable pub differ : List ℕ → List ℕ → ℕ → Bool
-differ A B n = any (λ i. not (eqb (getD A i 0) (getD B i 0))) n
+differ A B n = someBelow (λ i. not (eqb (getD A i 0) (getD B i 0))) n
 
 -- "marks that are not those of prepare": one of the bytes for the states is not the mark that prepare writes. Bytes past them are not looked at.
 abbrev pub otherMarks : Policy → List ℕ → Bool
@@ -37,16 +37,16 @@ otherMarks p marks = differ marks (marksOf p) (states p)
 module _ (A B : List ℕ) where
   pub differ-here : {n i : ℕ} → i < n → (getD A i 0 ≡ getD B i 0 → ⊥) → true ≡ differ A B n
   unfolding differ
-  differ-here {n} {i} l h = sym (any-has (λ i. not (eqb (getD A i 0) (getD B i 0))) n i l (ap not (ne-eqb (getD A i 0) (getD B i 0) h)))
+  differ-here {n} {i} l h = sym (some-has (λ i. not (eqb (getD A i 0) (getD B i 0))) n i l (ap not (ne-eqb (getD A i 0) (getD B i 0) h)))
 
   pub differ-not : {n : ℕ} → ((i : ℕ) → i < n → getD A i 0 ≡ getD B i 0) → false ≡ differ A B n
   unfolding differ
-  differ-not {n} h = sym (any-fails (λ i. not (eqb (getD A i 0) (getD B i 0))) n (λ i l. ap not (eq-eqb (getD A i 0) (getD B i 0) (h i l))))
+  differ-not {n} h = sym (some-fails (λ i. not (eqb (getD A i 0) (getD B i 0))) n (λ i l. ap not (eq-eqb (getD A i 0) (getD B i 0) (h i l))))
 
   -- Past n anything may stand.
   pub differ-front : (D : List ℕ) (n : ℕ) → ((i : ℕ) → i < n → getD B i 0 ≡ getD D i 0) → differ A B n ≡ differ A D n
   unfolding differ
-  differ-front D n h = any-ext _ _ n (λ i l. ap (λ (m : ℕ). not (eqb (getD A i 0) m)) (h i l))
+  differ-front D n h = some-ext _ _ n (λ i l. ap (λ (m : ℕ). not (eqb (getD A i 0) m)) (h i l))
 
 module _ (reading : ℕ) (file marks : List ℕ) (s : State) (x y : ℕ) where
   -- "Refusals: as the input half; marks that are not those of prepare give the new number 20, after 16." 17 cannot come: from a live state, with the marks of

@@ -17,7 +17,7 @@ use Rattle.streams.specs.Answer.{gives, unless}
 use Rattle.streams.specs.AnswerLaws.{none-refused, none-unless, first-refused}
 use Rattle.policy.specs.Rules.{Policy, Place}
 use Rattle.policy.specs.File.{policyOf}
-use Rattle.policy.specs.Check.{all}
+use Rattle.policy.specs.Check.{allPass}
 use Rattle.policy.specs.Number.{states, numberOf}
 use Rattle.policy.specs.Sound.{WellFormed, Inside}
 use Rattle.policy.specs.Checked.{well-sound, all-at}
@@ -245,12 +245,12 @@ module _ (reading : ℕ) (file marks : List ℕ) (s : State) (events words : Lis
     unfolding whyRunRefusal
     run-20 o = rw (z, o)
 
-    pub run-15 : otherMarks (policyOf reading file) marks ≡ false → all (eventGood reading file) events ≡ false →
+    pub run-15 : otherMarks (policyOf reading file) marks ≡ false → allPass (eventGood reading file) events ≡ false →
         whyRunRefusal reading file marks s events words work ≡ 15
     unfolding whyRunRefusal
     run-15 o a = rw (z, o, a)
 
-    pub run-0 : otherMarks (policyOf reading file) marks ≡ false → all (eventGood reading file) events ≡ true →
+    pub run-0 : otherMarks (policyOf reading file) marks ≡ false → allPass (eventGood reading file) events ≡ true →
         whyRunRefusal reading file marks s events words work ≡ 0
     unfolding whyRunRefusal
     run-0 o a = rw (z, o, a)
@@ -261,17 +261,17 @@ module _ (reading : ℕ) (file marks : List ℕ) (s : State) (events words : Lis
   answers-no {r = zero} e n = absurd (n refl)
   answers-no {r = suc r} e n = refuses e
 
-all-take : (test : ℕ → Bool) (xs : List ℕ) (j : ℕ) → all test xs ≡ true → all test (take j xs) ≡ true
-unfolding all
+all-take : (test : ℕ → Bool) (xs : List ℕ) (j : ℕ) → allPass test xs ≡ true → allPass test (take j xs) ≡ true
+unfolding allPass
 all-take test xs zero e = refl
 all-take test [] (suc j) e = refl
 all-take test (x ∷ xs) (suc j) e =
-    let k = and-eq-true-iff (test x) (all test xs) .0 e in and-eq-true-iff (test x) (all test (take j xs)) .1 (k .0, all-take test xs j (k .1))
+    let k = and-eq-true-iff (test x) (allPass test xs) .0 e in and-eq-true-iff (test x) (allPass test (take j xs)) .1 (k .0, all-take test xs j (k .1))
 
 -- ---- Nothing is refused: what is answered.
 module _ (file marks : List ℕ) {l : Layout} (k : Laid file l) (s : State) (events words : List ℕ) (work : ℕ)
     (early : earlyRefusal (l .reading) file marks s events words work ≡ 0) (same : otherMarks (policyOf (l .reading) file) marks ≡ false)
-    (fit : all (eventGood (l .reading) file) events ≡ true) where
+    (fit : allPass (eventGood (l .reading) file) events ≡ true) where
   abbrev policy : Policy
   policy = policyOf (l .reading) file
 
@@ -282,11 +282,11 @@ module _ (file marks : List ℕ) {l : Layout} (k : Laid file l) (s : State) (eve
   no-state = early-none (l .reading) file marks s events words work early .1
 
   -- `run` refuses none of these events, and hands back the state of the place where it stands.
-  run-clear : (es : List ℕ) → all (eventGood (l .reading) file) es ≡ true → runRefusal (l .reading) file marks s es es ≡ 0
+  run-clear : (es : List ℕ) → allPass (eventGood (l .reading) file) es ≡ true → runRefusal (l .reading) file marks s es es ≡ 0
   unfolding runRefusal
   run-clear es f = rw (no-marks, le-leb (length es) (length es) (omega arith), no-state, f)
 
-  runs-to : (es : List ℕ) → all (eventGood (l .reading) file) es ≡ true →
+  runs-to : (es : List ℕ) → allPass (eventGood (l .reading) file) es ≡ true →
       runOf (l .reading) file marks s es es .state ≡ stateOf (ran policy marks (place (l .clocks) s) (map eventOf es) .place)
   unfolding runOf
   runs-to es f = rw (run-clear es f, laid-place k s)

@@ -18,7 +18,7 @@ ghost use Prim.Native.Nat.{ℕ, _≤_, min};
 ghost use lib.ListN.{length};
 ghost use Rattle.policy.specs.File.{policyOf};
 ghost use Rattle.policy.specs.Number.{states};
-ghost use Rattle.policy.specs.Check.{all};
+ghost use Rattle.policy.specs.Check.{allPass};
 ghost use Rattle.policy.specs.Layout.{checkedUnder};
 ghost use Rattle.index.specs.Index.{indexOf};
 ghost use Rattle.enforcer.specs.Entries.{eventGood, stateRefusal};
@@ -81,7 +81,7 @@ pub fn shortest(
 // No event has a bit beyond its signals.
 fn events_fit(file: &[u8], layout: Layout, events: &[u8]) -> bool
     requires { ⌜ Laid (now file) layout ⌝ }
-    ensures { λ r. ⌜ r ≡ all (eventGood (layout .reading) (now (file .entry))) (now (events .entry)) ⌝ }
+    ensures { λ r. ⌜ r ≡ allPass (eventGood (layout .reading) (now (file .entry))) (now (events .entry)) ⌝ }
 {
     let inputs = values(layout.inputs);
     let outputs = values(layout.outputs);
@@ -112,7 +112,7 @@ fn explain_each(
     words: &mut [u64],
 ) -> State
     requires { ⌜ Walking (now file) layout (now marks) (now events) (now words) start 0 (now words) start × (length (now events) ≤ length (now words)) ⌝ }
-    requires { ⌜ AsPrepared (policyOf (layout .reading) (now file)) (now marks) × CountsOf (policyOf (layout .reading) (now file)) (now ticks) (now rests) × (all (eventGood (layout .reading) (now file)) (now events) ≡ true) × (now index ≡ indexOf (now file)) ⌝ }
+    requires { ⌜ AsPrepared (policyOf (layout .reading) (now file)) (now marks) × CountsOf (policyOf (layout .reading) (now file)) (now ticks) (now rests) × (allPass (eventGood (layout .reading) (now file)) (now events) ≡ true) × (now index ≡ indexOf (now file)) ⌝ }
     ensures { λ r. ⌜ Walking (now (file .entry)) layout (now (marks .entry)) (now (events .entry)) (now (words .entry)) start (length (now (events .entry))) (now (words .exit)) r ⌝ }
 {
     let mut state = start;
@@ -152,7 +152,7 @@ fn explain_all(
     words: &mut [u64],
 ) -> State
     requires { ⌜ Walking (now file) layout (now marks) (now events) (now words) start 0 (now words) start × (length (now events) ≤ length (now words)) ⌝ }
-    requires { ⌜ AsPrepared (policyOf (layout .reading) (now file)) (now marks) × CountsOf (policyOf (layout .reading) (now file)) (now ticks) (now rests) × (all (eventGood (layout .reading) (now file)) (now events) ≡ true) ⌝ }
+    requires { ⌜ AsPrepared (policyOf (layout .reading) (now file)) (now marks) × CountsOf (policyOf (layout .reading) (now file)) (now ticks) (now rests) × (allPass (eventGood (layout .reading) (now file)) (now events) ≡ true) ⌝ }
     ensures { λ r. ⌜ Walking (now (file .entry)) layout (now (marks .entry)) (now (events .entry)) (now (words .entry)) start (length (now (events .entry))) (now (words .exit)) r ⌝ }
 {
     let mut index = [0; NUMBERS];

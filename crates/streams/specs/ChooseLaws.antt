@@ -10,48 +10,48 @@ use Rattle.streams.specs.Order.{Nearest, nearest-one, nearest-same, kept
 use Rattle.streams.specs.Corrections.{corrections}
 use Rattle.streams.specs.CorrectionsLaws.{nearer-true, nearer-false, corrections-reflexive, corrections-transitive, nearer-high}
 use Rattle.streams.specs.Nearness.{nearer}
-use Rattle.streams.specs.Choose.{Among, any, better, nearest}
+use Rattle.streams.specs.Choose.{Among, someBelow, better, nearest}
 
 -- What holds of n and below n holds below suc n.
 below : (P : ℕ → Type 0) (n : ℕ) → ((z : ℕ) → z < n → P z) → P n → (z : ℕ) → z < suc n → P z
 below P n f p z h = ⊎-elim (λ (e : z ≡ n). rw e p) (f z) (eq-or-lt-of-le (le-of-suc-le-suc h))
 
-pub any-from : (p : ℕ → Bool) (n : ℕ) → any p n ≡ true → (z : ℕ) × (z < n) × (p z ≡ true)
-unfolding any
-any-from p zero e = absurd (false≢true e)
-any-from p (suc n) e = go (any p n) (any-from p n) e
+pub some-from : (p : ℕ → Bool) (n : ℕ) → someBelow p n ≡ true → (z : ℕ) × (z < n) × (p z ≡ true)
+unfolding someBelow
+some-from p zero e = absurd (false≢true e)
+some-from p (suc n) e = go (someBelow p n) (some-from p n) e
   where
     go : (t : Bool) → (t ≡ true → (z : ℕ) × (z < n) × (p z ≡ true)) → (t || p n) ≡ true → (z : ℕ) × (z < suc n) × (p z ≡ true)
     go true f e = let r = f refl in (r .0, omega arith, r .2)
     go false f e = (n, lt-suc-self n, e)
 
-pub any-none : (p : ℕ → Bool) (n : ℕ) → any p n ≡ false → (z : ℕ) → z < n → p z ≡ false
-unfolding any
-any-none p zero e z h = absurd (not-suc-le-zero h)
-any-none p (suc n) e z h = go (any p n) (any-none p n) e
+pub some-none : (p : ℕ → Bool) (n : ℕ) → someBelow p n ≡ false → (z : ℕ) → z < n → p z ≡ false
+unfolding someBelow
+some-none p zero e z h = absurd (not-suc-le-zero h)
+some-none p (suc n) e z h = go (someBelow p n) (some-none p n) e
   where
     go : (t : Bool) → (t ≡ false → (z : ℕ) → z < n → p z ≡ false) → (t || p n) ≡ false → p z ≡ false
     go true f e = absurd (true≢false e)
     go false f e = below (λ z. p z ≡ false) n (f refl) e z h
 
-pub any-has : (p : ℕ → Bool) (n z : ℕ) → z < n → p z ≡ true → any p n ≡ true
-any-has p n z h e = go (any p n) refl
+pub some-has : (p : ℕ → Bool) (n z : ℕ) → z < n → p z ≡ true → someBelow p n ≡ true
+some-has p n z h e = go (someBelow p n) refl
   where
-    go : (t : Bool) → any p n ≡ t → t ≡ true
+    go : (t : Bool) → someBelow p n ≡ t → t ≡ true
     go true d = refl
-    go false d = sym (any-none p n d z h) ∙ e
+    go false d = sym (some-none p n d z h) ∙ e
 
-pub any-fails : (p : ℕ → Bool) (n : ℕ) → ((z : ℕ) → z < n → p z ≡ false) → any p n ≡ false
-any-fails p n f = go (any p n) refl
+pub some-fails : (p : ℕ → Bool) (n : ℕ) → ((z : ℕ) → z < n → p z ≡ false) → someBelow p n ≡ false
+some-fails p n f = go (someBelow p n) refl
   where
-    go : (t : Bool) → any p n ≡ t → t ≡ false
-    go true d = let r = any-from p n d in sym (r .2) ∙ f (r .0) (r .1)
+    go : (t : Bool) → someBelow p n ≡ t → t ≡ false
+    go true d = let r = some-from p n d in sym (r .2) ∙ f (r .0) (r .1)
     go false d = refl
 
-pub any-ext : (p q : ℕ → Bool) (n : ℕ) → ((z : ℕ) → z < n → p z ≡ q z) → any p n ≡ any q n
-unfolding any
-any-ext p q zero f = refl
-any-ext p q (suc n) f = ap₂ _||_ (any-ext p q n (λ z h. f z (omega arith))) (f n (lt-suc-self n))
+pub some-ext : (p q : ℕ → Bool) (n : ℕ) → ((z : ℕ) → z < n → p z ≡ q z) → someBelow p n ≡ someBelow q n
+unfolding someBelow
+some-ext p q zero f = refl
+some-ext p q (suc n) f = ap₂ _||_ (some-ext p q n (λ z h. f z (omega arith))) (f n (lt-suc-self n))
 
 module _ (may : ℕ → Bool) (w : ℕ) where
   -- What is known of the best value so far.
@@ -97,17 +97,17 @@ module _ (may : ℕ → Bool) (w : ℕ) where
       go none d = refl
       go (some a) d = let r = nearest-is n d in absurd (true≢false (sym (r .may .1) ∙ f a (r .may .0)))
 
-  pub nearest-some : (n : ℕ) → any may n ≡ true → (a : ℕ) × (nearest may w n ≡ some a)
+  pub nearest-some : (n : ℕ) → someBelow may n ≡ true → (a : ℕ) × (nearest may w n ≡ some a)
   nearest-some n e = go (nearest may w n) refl
     where
       go : (b : Option ℕ) → nearest may w n ≡ b → (a : ℕ) × (nearest may w n ≡ some a)
-      go none d = absurd (false≢true (sym (any-fails may n (nearest-none n d)) ∙ e))
+      go none d = absurd (false≢true (sym (some-fails may n (nearest-none n d)) ∙ e))
       go (some a) d = (a, d)
 
   -- The nearest value, whichever way it is known, is the one computed.
   pub nearest-found : (n : ℕ) {a : ℕ} → Nearest corrections (Among may n) w a → nearest may w n ≡ some a
   nearest-found n {a} p =
-      let r = nearest-some n (any-has may n a (p .may .0) (p .may .1)) in
+      let r = nearest-some n (some-has may n a (p .may .0) (p .may .1)) in
       r .1 ∙ ap some (nearest-one corrections {May = Among may n} (nearest-is n (r .1)) p)
 
   pub nearest-kept : (n : ℕ) → w < n → may w ≡ true → nearest may w n ≡ some w

@@ -11,7 +11,7 @@ use Rattle.streams.specs.Answer.{Answer, refused, gives, _orElse_, unless}
 use Rattle.streams.specs.AnswerLaws.{none-refused, none-unless}
 use Rattle.policy.specs.Rules.{Policy, Place, start}
 use Rattle.policy.specs.File.{policyOf}
-use Rattle.policy.specs.Check.{all}
+use Rattle.policy.specs.Check.{allPass}
 use Rattle.policy.specs.Number.{states, numberOf}
 use Rattle.policy.specs.Checked.{well-sound}
 use Rattle.policy.specs.Stays.{start-inside}
@@ -90,7 +90,7 @@ pub record Startable (reading : ℕ) (file marks events : List ℕ) : Type 0 whe
   pub early : marksRefusal reading file marks ≡ 0
   pub marked : marks ≡ marksOf (policyOf reading file)
   pub live : isMarked marks (numberOf (policyOf reading file) (placeIn (policyOf reading file) startState)) ≡ true
-  pub good : all (eventGood reading file) events ≡ true
+  pub good : allPass (eventGood reading file) events ≡ true
 
 from-none : (s : State) (out : List ℕ) (n : ℕ) (r : Progress) → runFrom s out n r .refusal ≡ 0 → n ≡ 0
 from-none s out zero r z = refl
@@ -124,8 +124,8 @@ module _ {reading : ℕ} {file marks events : List ℕ} {l : Layout} (k : Grante
   pub start-marks : marks ≡ marksOf p
   start-marks = subst (λ (r : ℕ). marks ≡ marksOf (policyOf r file)) (sym (k .named)) (h .marked)
 
-  pub start-good : all (eventGood (l .reading) file) events ≡ true
-  start-good = subst (λ (r : ℕ). all (eventGood r file) events ≡ true) (sym (k .named)) (h .good)
+  pub start-good : allPass (eventGood (l .reading) file) events ≡ true
+  start-good = subst (λ (r : ℕ). allPass (eventGood r file) events ≡ true) (sym (k .named)) (h .good)
 
   pub start-asked : Asked file l marks startState
   start-asked =

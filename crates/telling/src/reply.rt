@@ -21,7 +21,7 @@ ghost use Rattle.streams.specs.Answer.{gives};
 ghost use Rattle.policy.specs.Rules.{start};
 ghost use Rattle.policy.specs.File.{policyOf};
 ghost use Rattle.policy.specs.Number.{states};
-ghost use Rattle.policy.specs.Check.{all};
+ghost use Rattle.policy.specs.Check.{allPass};
 ghost use Rattle.enforcer.specs.State.{place};
 ghost use Rattle.enforcer.specs.Entries.{eventGood};
 ghost use Rattle.enforcer.specs.Ready.{Laid};
@@ -49,7 +49,7 @@ fn tell_counted(
 ) -> usize
     requires { ⌜ Asked (now file) layout (now marks) state × Laid (now file) layout × (now marks ≡ marksOf (policyOf (layout .reading) (now file))) ⌝ }
     requires { ⌜ (length (now ticks) ≡ states (policyOf (layout .reading) (now file))) × (length (now rests) ≡ states (policyOf (layout .reading) (now file))) ⌝ }
-    requires { ⌜ (length (now events) ≤ 16384) × (all (eventGood (layout .reading) (now file)) (now events) ≡ true) × (at + tickRoom * length (now events) ≤ length (now text)) ⌝ }
+    requires { ⌜ (length (now events) ≤ 16384) × (allPass (eventGood (layout .reading) (now file)) (now events) ≡ true) × (at + tickRoom * length (now events) ≤ length (now text)) ⌝ }
     ensures { λ r. ⌜ ToldFrom (policyOf (layout .reading) (now (file .entry))) (now (marks .entry)) (place (layout .clocks) state) (now (events .entry)) (now (text .entry)) at r (now (text .exit)) ⌝ }
 {
     count(file, layout, marks, ticks, rests);

@@ -11,7 +11,7 @@ ghost use Prim.Native.Nat.{_+_, _*_, _/_, _%_, _^_, _≤_, _<_};
 ghost use lib.ListN.{length};
 ghost use Rattle.policy.specs.Rules.{inputValues, outputValues};
 ghost use Rattle.policy.specs.File.{policyOf};
-ghost use Rattle.policy.specs.Check.{all};
+ghost use Rattle.policy.specs.Check.{allPass};
 ghost use Rattle.enforcer.specs.State.{place};
 ghost use Rattle.enforcer.specs.Entries.{eventGood};
 ghost use Rattle.reasons.specs.Said.{CountsOf};
@@ -69,7 +69,7 @@ pub(crate) fn tell(
     at: usize,
 ) -> usize
     requires { ⌜ Asked (now file) layout (now marks) start × CountsOf (policyOf (layout .reading) (now file)) (now ticks) (now rests) ⌝ }
-    requires { ⌜ (length (now events) ≤ 16384) × (all (eventGood (layout .reading) (now file)) (now events) ≡ true) × (at + tickRoom * length (now events) ≤ length (now text)) ⌝ }
+    requires { ⌜ (length (now events) ≤ 16384) × (allPass (eventGood (layout .reading) (now file)) (now events) ≡ true) × (at + tickRoom * length (now events) ≤ length (now text)) ⌝ }
     ensures { λ r. ⌜ ToldFrom (policyOf (layout .reading) (now (file .entry))) (now (marks .entry)) (place (layout .clocks) start) (now (events .entry)) (now (text .entry)) at r (now (text .exit)) ⌝ }
 {
     let mut state = start;

@@ -14,12 +14,12 @@ use Rattle.streams.specs.AnswerLaws.{given-only}
 use Rattle.streams.specs.Stream.{Stream, Hopeless}
 use Rattle.streams.specs.Enforced.{Enforced}
 use Rattle.streams.specs.Corrections.{corrections}
-use Rattle.streams.specs.Laws.{⊆-refl, ⊆-trans, goes-on, ends, not-both, passes, enforced-one}
-use Rattle.streams.specs.Languages.{_⊆_}
+use Rattle.streams.specs.Laws.{narrows-refl, narrows-trans, goes-on, ends, not-both, passes, enforced-one}
+use Rattle.streams.specs.Languages.{_narrows_}
 use Rattle.policy.specs.Rules.{Policy, Fits, Permits}
 use Rattle.policy.specs.Number.{states}
 use Rattle.policy.specs.File.{policyOf}
-use Rattle.policy.specs.Check.{refusalUnder, refusalOf, all}
+use Rattle.policy.specs.Check.{refusalUnder, refusalOf, allPass}
 use Rattle.policy.specs.CheckLaws.{under-none}
 use Rattle.policy.specs.Sound.{WellFormed}
 use Rattle.policy.specs.Numbered.{states-positive}
@@ -79,7 +79,7 @@ pub record CodeKeeps (reading : ℕ) (f a : List ℕ) : Type 0 where
   pub runs :
       {x m y n events out after again also : List ℕ} {s t : Summary} {r q : Ran} →
       PreparePromise reading f x (Prepared.Gives s) m → PreparePromise reading a y (Prepared.Gives t) n →
-      all (eventGood reading f) events ≡ true → length events ≤ length out → length events ≤ length again →
+      allPass (eventGood reading f) events ≡ true → length events ≤ length out → length events ≤ length again →
       RunPromise reading f m startState events out r after → RunPromise reading a n startState (take (length events) after) again q also →
       Unedited (policyOf reading a) (take (length events) after) again (ranSaid q also)
   -- And so by the two halves, tick after tick. They never stop: `ticks-go-on` in specs/TickByTick.antt.
@@ -96,7 +96,7 @@ pub record CKeeps (reading : ℕ) (f a : List ℕ) : Type 0 where
   pub runs :
       {x m y n events out state written again next also : List ℕ} {v w r q : ℕ} →
       PrepareCall reading f x v m → v % 256 ≡ 0 → PrepareCall reading a y w n → w % 256 ≡ 0 →
-      all (eventGood reading f) events ≡ true → length events ≤ length out → length events ≤ length again → length events < 2 ^ 56 →
+      allPass (eventGood reading f) events ≡ true → length events ≤ length out → length events ≤ length again → length events < 2 ^ 56 →
       RunCall reading f m cStart events out r state written → RunCall reading a n cStart (take (length events) written) again q next also →
       Unedited (policyOf reading a) (take (length events) written) again (runRead q next also)
   pub ticks :
@@ -110,7 +110,7 @@ onTheWay (joined {h = h} i j k) = h ∷ (onTheWay i ++ onTheWay j)
 
 -- What the joins along the way leave of a: f permits no more than a does and rests nowhere else, over the same signals, and a passes the check.
 record WithinPart (reading : ℕ) (f a : List ℕ) : Type 0 where
-  permits : Permits (policyOf reading f) ⊆ Permits (policyOf reading a)
+  permits : Permits (policyOf reading f) narrows Permits (policyOf reading a)
   signals : tags f ≡ tags a
   passed : refusalUnder reading f ≡ 0 → refusalUnder reading a ≡ 0
   fewer : states (policyOf reading a) ≤ states (policyOf reading f)
@@ -131,11 +131,11 @@ module _ (reading : ℕ) {a b f : List ℕ} (j : JoinMade a b f) where
 
 module _ (reading : ℕ) where
   within : {a f : List ℕ} → WentInto a f → WithinPart reading f a
-  within {a} itself = record { permits = ⊆-refl (Permits (policyOf reading a)); signals = refl; passed = λ e. e; fewer = le-refl (states (policyOf reading a)) }
+  within {a} itself = record { permits = narrows-refl (Permits (policyOf reading a)); signals = refl; passed = λ e. e; fewer = le-refl (states (policyOf reading a)) }
   within (as-first {f = f} {h = h} w j) =
       let i = within w in
       record {
-        permits = ⊆-trans (to-first reading j) (i .permits);
+        permits = narrows-trans (to-first reading j) (i .permits);
         signals = made j .tags-first ∙ i .signals;
         passed = λ e. i .passed (under-none reading f .1 (under-none reading h .0 e .0, made j .first));
         fewer = le-trans (i .fewer) (fewer-first reading j);
@@ -143,7 +143,7 @@ module _ (reading : ℕ) where
   within (as-second {f = f} {h = h} w j) =
       let i = within w in
       record {
-        permits = ⊆-trans (to-second reading j) (i .permits);
+        permits = narrows-trans (to-second reading j) (i .permits);
         signals = made j .tags-second ∙ i .signals;
         passed = λ e. i .passed (under-none reading f .1 (under-none reading h .0 e .0, made j .second));
         fewer = le-trans (i .fewer) (fewer-second reading j);
@@ -188,7 +188,7 @@ module _ (reading : ℕ) where
       abbrev bytes : List ℕ
       bytes = take (length events) (r .out)
 
-      all-good : all (eventGood reading a) bytes ≡ true
+      all-good : allPass (eventGood reading a) bytes ≡ true
       all-good = rw (released-bytes h) (fits-good reading a ok (fits (h .leads .fits)))
 
       as-many-bytes : length bytes ≡ length events

@@ -10,13 +10,13 @@ use lib.Dec.{leb}
 use lib.ListN.{length, getD, take, drop}
 use borrow.Author.Tests.{eqb-true}
 use Rattle.streams.specs.Answer.{Answer, refused, gives, _orElse_, unless}
-use Rattle.streams.specs.Stream.{Event, Stream, _∩_, Hopeless}
+use Rattle.streams.specs.Stream.{Event, Stream, _alongside_, Hopeless}
 use Rattle.streams.specs.Laws.{not-both}
 use Rattle.streams.specs.Languages.{_≋_}
 use Rattle.policy.specs.Rules.{inputValues, outputValues, Permits}
 use Rattle.policy.specs.Number.{states}
 use Rattle.policy.specs.File.{policyOf}
-use Rattle.policy.specs.Check.{readingRefusal, refusalUnder, all}
+use Rattle.policy.specs.Check.{readingRefusal, refusalUnder, allPass}
 use Rattle.enforcer.specs.Entries.{RunAnswer, byteOf, eventGood, marksRefusal, inputOf, outputOf, runOf}
 use Rattle.enforcer.specs.Code.{startState}
 use Rattle.enforcer.specs.Promises.{answerSaid, InputPromise, OutputPromise, RunPromise, ranSaid}
@@ -105,7 +105,7 @@ code-runs {reading} {file} {before} {events = events} {out = out} {s = s} h k =
 -- events within the signals and into a slice that holds as many.
 pub code-releases :
     {reading : ℕ} {file before marks events out after : List ℕ} {s : Summary} {r : Ran} → PreparePromise reading file before (Prepared.Gives s) marks →
-    RunPromise reading file marks startState events out r after → all (eventGood reading file) events ≡ true → length events ≤ length out →
+    RunPromise reading file marks startState events out r after → allPass (eventGood reading file) events ≡ true → length events ≤ length out →
     Released (policyOf reading file) events out (ranSaid r after)
 code-releases {reading} {file} {before} {events = events} {out = out} {s = s} h k good long =
     subst (Released (policyOf reading file) events out) (code-runs h k) (releases reading file before s (sym (h .said)) events out good long)
@@ -221,7 +221,7 @@ c-runs {reading} {file} {before} {marks} {events} {out} {state} {written} {r = r
 pub c-releases :
     {reading : ℕ} {file before marks events out state written : List ℕ} {v r : ℕ} → PrepareCall reading file before v marks → v % 256 ≡ 0 →
     RunCall reading file marks cStart events out r state written →
-    all (eventGood reading file) events ≡ true → length events ≤ length out → length events < 2 ^ 56 →
+    allPass (eventGood reading file) events ≡ true → length events ≤ length out → length events < 2 ^ 56 →
     Released (policyOf reading file) events out (runRead r state written)
 c-releases {reading} {file} {before} {events = events} {out = out} h z k good long few =
     let s = prepare-read h z in
@@ -312,12 +312,12 @@ c-joined {a} {b} {before} {r = r} h z =
 -- parts rest together", read under one reading,
 pub code-permits :
     (reading : ℕ) {a b before after : List ℕ} {n : ℕ} → JoinPromise a b before (Code.Length n) after →
-    Permits (policyOf reading (take n after)) ≋ Permits (policyOf reading a) ∩ Permits (policyOf reading b)
+    Permits (policyOf reading (take n after)) ≋ Permits (policyOf reading a) alongside Permits (policyOf reading b)
 code-permits reading h = permits-exactly reading (code-joined h)
 
 pub c-permits :
     (reading : ℕ) {a b before after : List ℕ} {r : ℕ} → JoinCall a b before r after → r % 256 ≡ 0 →
-    Permits (policyOf reading (take (r / 256) after)) ≋ Permits (policyOf reading a) ∩ Permits (policyOf reading b)
+    Permits (policyOf reading (take (r / 256) after)) ≋ Permits (policyOf reading a) alongside Permits (policyOf reading b)
 c-permits reading h z = permits-exactly reading (c-joined h z)
 
 -- "A with B or B with A", "grouped either way with C", "A with itself", "A with the policy that permits all", on either side: of what join's code wrote,
@@ -393,7 +393,7 @@ pub record SameGiven (reading : ℕ) (f m g n : List ℕ) (r q : Prepared) : Typ
   pub first : (s : Summary) × (r ≡ Prepared.Gives s)
   pub second : (s : Summary) × (q ≡ Prepared.Gives s)
   pub runs :
-      (events out after also : List ℕ) (a b : Ran) → all (eventGood reading f) events ≡ true → length events ≤ length out →
+      (events out after also : List ℕ) (a b : Ran) → allPass (eventGood reading f) events ≡ true → length events ≤ length out →
       RunPromise reading f m startState events out a after → RunPromise reading g n startState events out b also →
       SameRuns reading f g events out (ranSaid a after) (ranSaid b also)
 
@@ -422,7 +422,7 @@ pub record CSameGiven (reading : ℕ) (f m g n : List ℕ) (v w : ℕ) : Type 0 
   pub given : (v % 256 ≡ 0) × (w % 256 ≡ 0)
   pub runs :
       (events out state after other also : List ℕ) (r q : ℕ) →
-      all (eventGood reading f) events ≡ true → length events ≤ length out → length events < 2 ^ 56 →
+      allPass (eventGood reading f) events ≡ true → length events ≤ length out → length events < 2 ^ 56 →
       RunCall reading f m cStart events out r state after → RunCall reading g n cStart events out q other also →
       SameRuns reading f g events out (runRead r state after) (runRead q other also)
 

@@ -13,12 +13,12 @@ use Rattle.streams.specs.Answer.{refused, gives}
 use Rattle.streams.specs.AnswerLaws.{none-refused}
 use Rattle.streams.specs.Stream.{Stream, Hopeless}
 use Rattle.streams.specs.Corrections.{corrections}
-use Rattle.streams.specs.Laws.{⊆-refl, not-both, passes, enforced-one}
+use Rattle.streams.specs.Laws.{narrows-refl, not-both, passes, enforced-one}
 use Rattle.streams.specs.Published.{instantaneity}
 use Rattle.policy.specs.Rules.{Policy, Place, start, Permits}
 use Rattle.policy.specs.Number.{states}
 use Rattle.policy.specs.File.{policyOf}
-use Rattle.policy.specs.Check.{refusalUnder, all}
+use Rattle.policy.specs.Check.{refusalUnder, allPass}
 use Rattle.policy.specs.Checked.{well-sound}
 use Rattle.enforcer.specs.State.{placeIn, stateOf}
 use Rattle.enforcer.specs.Tick.{inputChoice, ran}
@@ -112,7 +112,7 @@ released-one {p} {events} {before} {r} {q} a b =
     λ i. record { refusal = refusal i; count = count i; state = state i; out = out i }
 
 module _ (reading : ℕ) (file marks : List ℕ) (s : Summary) (e : prepareOf reading file marks ≡ gives s)
-    (events out : List ℕ) (good : all (eventGood reading file) events ≡ true) (long : length events ≤ length out) where
+    (events out : List ℕ) (good : allPass (eventGood reading file) events ≡ true) (long : length events ≤ length out) where
   -- Whatever is to be released is what the run writes.
   pub releases-only :
       (rs : Stream) → ReleasedFor (policyOf reading file) events rs →
@@ -138,7 +138,7 @@ module _ (reading : ℕ) (file marks : List ℕ) (s : Summary) (e : prepareOf re
       (released-one (releases reading file marks s e bytes again (fits-good reading file ok (r .leads .fits)) (rw n room))
       (record {
         released = r .released;
-        enforced = rw (events-back p ok (r .leads .fits)) (passes corrections _ _ (Permits p) (Permits p) (⊆-refl (Permits p)) (r .enforced));
+        enforced = rw (events-back p ok (r .leads .fits)) (passes corrections _ _ (Permits p) (Permits p) (narrows-refl (Permits p)) (r .enforced));
         refusal = refl;
         count = sym n;
         out = rw n;
@@ -149,7 +149,7 @@ module _ (reading : ℕ) (file marks : List ℕ) (s : Summary) (e : prepareOf re
 
 module _ (reading : ℕ) (file marks : List ℕ) (s : State) (b : ℕ) (good : eventGood reading file b ≡ true) where
   pub halves-agree : Agree reading file marks s b ⊎ Refuse reading file marks s b
-  unfolding all ran
+  unfolding allPass ran
   halves-agree = go (entryRefusal reading file marks s) refl (inputChoice (policyOf reading file) marks (placeIn (policyOf reading file) s) (b % 16)) refl
     where
       p : Policy
@@ -165,12 +165,12 @@ module _ (reading : ℕ) (file marks : List ℕ) (s : State) (b : ℕ) (good : e
       input = input-answer reading file marks s (b % 16) (tests .0)
 
       run :
-          (o : ℕ) (bs out : List ℕ) → all (eventGood reading file) bs ≡ true → length bs ≤ length out →
+          (o : ℕ) (bs out : List ℕ) → allPass (eventGood reading file) bs ≡ true → length bs ≤ length out →
           runOf reading file marks s (b ∷ bs) (o ∷ out)
           ≡ runFrom s (o ∷ out) (entryRefusal reading file marks s) (ran p marks t (eventOf b ∷ map eventOf bs))
       run o bs out g l =
           run-answer reading file marks s (b ∷ bs) (o ∷ out) (omega arith)
-          (and-eq-true-iff (eventGood reading file b) (all (eventGood reading file) bs) .1 (good, g))
+          (and-eq-true-iff (eventGood reading file b) (allPass (eventGood reading file) bs) .1 (good, g))
 
       one :
           (o : ℕ) (out : List ℕ) →

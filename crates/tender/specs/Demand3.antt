@@ -7,12 +7,12 @@ use mathlib.Core.Logic.{_↔_, _⊎_}
 use Prim.Native.Nat.{ℕ, _≤_}
 use lib.ListN.{length, take}
 use Rattle.streams.specs.Answer.{refused, gives}
-use Rattle.streams.specs.Stream.{Stream, Language, _∩_}
+use Rattle.streams.specs.Stream.{Stream, Language, _alongside_}
 use Rattle.streams.specs.Languages.{_≋_}
 use Rattle.policy.specs.Rules.{Fits, Permits}
 use Rattle.policy.specs.Number.{states}
 use Rattle.policy.specs.File.{inputTags, outputTags, policyOf}
-use Rattle.policy.specs.Check.{readingRefusal, refusalUnder, refusalOf, all}
+use Rattle.policy.specs.Check.{readingRefusal, refusalUnder, refusalOf, allPass}
 use Rattle.enforcer.specs.Entries.{eventGood, RunAnswer}
 use Rattle.prepare.specs.Entry.{summaryOf, prepareOf}
 use Rattle.join.specs.Join.{join}
@@ -73,7 +73,7 @@ module _ (reading : ℕ) where
     abbrev pub ReleaseTheSame : Type 0
     ReleaseTheSame =
         (prepareOf reading f m ≡ gives (summaryOf (policyOf reading f))) × (prepareOf reading g n ≡ gives (summaryOf (policyOf reading g)))
-        × ((events out : List ℕ) → all (eventGood reading f) events ≡ true → length events ≤ length out → SameReleased f m g n events out)
+        × ((events out : List ℕ) → allPass (eventGood reading f) events ≡ true → length events ≤ length out → SameReleased f m g n events out)
 
   -- "hopeless together, or the same released stream for every event stream", with any slices for the marks that are long enough.
   pub record Alike (f g : List ℕ) : Type 0 where
@@ -101,7 +101,7 @@ pub record Demand3 : Type 0 where
   -- any number.
   pub permits-exactly :
       (reading : ℕ) {a b f : List ℕ} → JoinMade a b f →
-      Permits (policyOf reading f) ≋ Permits (policyOf reading a) ∩ Permits (policyOf reading b)
+      Permits (policyOf reading f) ≋ Permits (policyOf reading a) alongside Permits (policyOf reading b)
   pub permits-all : (reading : ℕ) {parts : List (List ℕ)} {f : List ℕ} → JoinOf parts f → Permits (policyOf reading f) ≋ AllOf reading parts
   -- "Clauses bind alike in any order", for each reading that 22 does not refuse: two joins of the same policies, taken in whatever order, grouped in whatever
   -- way and each as often as you like, are alike. Where one of them passes the check, so does the other; a join that was made always does.

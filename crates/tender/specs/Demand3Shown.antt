@@ -9,16 +9,16 @@ use lib.ListN.{length, take, drop, replicate}
 use lib.Seq.{take-at}
 use Rattle.streams.specs.Answer.{gives}
 use Rattle.streams.specs.AnswerLaws.{given-only}
-use Rattle.streams.specs.Stream.{Stream, Language, _∩_}
+use Rattle.streams.specs.Stream.{Stream, Language, _alongside_}
 use Rattle.streams.specs.Enforced.{Enforced}
 use Rattle.streams.specs.Corrections.{corrections}
-use Rattle.streams.specs.Laws.{⊆-refl, ⊆-trans, ∩-first, ∩-second, ∩-into, ≋-sym, ≋-trans, not-both, enforced-one}
-use Rattle.streams.specs.Languages.{_⊆_, _≋_}
+use Rattle.streams.specs.Laws.{narrows-refl, narrows-trans, alongside-first, alongside-second, alongside-into, ≋-sym, ≋-trans, not-both, enforced-one}
+use Rattle.streams.specs.Languages.{_narrows_, _≋_}
 use Rattle.policy.specs.Rules.{Policy, start, unlimited, Fits, Runs, Rests, Permits}
 use Rattle.policy.specs.Rules as Rules
 use Rattle.policy.specs.Number.{states}
 use Rattle.policy.specs.File.{policyOf}
-use Rattle.policy.specs.Check.{readingRefusal, refusalUnder, refusalOf, all}
+use Rattle.policy.specs.Check.{readingRefusal, refusalUnder, refusalOf, allPass}
 use Rattle.policy.specs.CheckLaws.{under-none}
 use Rattle.policy.specs.Checked.{checked-file}
 use Rattle.enforcer.specs.Entries.{eventOf, byteOf, eventGood}
@@ -63,7 +63,7 @@ pub record Made (a b f : List ℕ) : Type 0 where
   pub passed : refusalOf f ≡ 0
   pub tags-first : tags f ≡ tags a
   pub tags-second : tags f ≡ tags b
-  pub permits : (reading : ℕ) → Permits (policyOf reading f) ≋ Permits (policyOf reading a) ∩ Permits (policyOf reading b)
+  pub permits : (reading : ℕ) → Permits (policyOf reading f) ≋ Permits (policyOf reading a) alongside Permits (policyOf reading b)
 
 pub made : {a b f : List ℕ} → JoinMade a b f → Made a b f
 unfolding joinedFile join policyOf
@@ -84,38 +84,38 @@ made {a} {b} {f} j =
 -- "demands 2 and 3 hold for each reading, used for all the policies named".
 module _ (reading : ℕ) where
   -- "the join permits exactly the streams that all its parts permit", and "a joined stream rests only where all parts rest together".
-  pub permits-exactly : {a b f : List ℕ} → JoinMade a b f → Permits (policyOf reading f) ≋ Permits (policyOf reading a) ∩ Permits (policyOf reading b)
+  pub permits-exactly : {a b f : List ℕ} → JoinMade a b f → Permits (policyOf reading f) ≋ Permits (policyOf reading a) alongside Permits (policyOf reading b)
   permits-exactly j = made j .permits reading
 
   -- To each part, and from both.
-  pub to-first : {a b f : List ℕ} → JoinMade a b f → Permits (policyOf reading f) ⊆ Permits (policyOf reading a)
-  to-first j = ⊆-trans (permits-exactly j .0) (∩-first _ _)
+  pub to-first : {a b f : List ℕ} → JoinMade a b f → Permits (policyOf reading f) narrows Permits (policyOf reading a)
+  to-first j = narrows-trans (permits-exactly j .0) (alongside-first _ _)
 
-  pub to-second : {a b f : List ℕ} → JoinMade a b f → Permits (policyOf reading f) ⊆ Permits (policyOf reading b)
-  to-second j = ⊆-trans (permits-exactly j .0) (∩-second _ _)
+  pub to-second : {a b f : List ℕ} → JoinMade a b f → Permits (policyOf reading f) narrows Permits (policyOf reading b)
+  to-second j = narrows-trans (permits-exactly j .0) (alongside-second _ _)
 
   into : {a b f : List ℕ} {L : Language} → JoinMade a b f →
-      L ⊆ Permits (policyOf reading a) → L ⊆ Permits (policyOf reading b) → L ⊆ Permits (policyOf reading f)
-  into j f g = ⊆-trans (∩-into f g) (permits-exactly j .1)
+      L narrows Permits (policyOf reading a) → L narrows Permits (policyOf reading b) → L narrows Permits (policyOf reading f)
+  into j f g = narrows-trans (alongside-into f g) (permits-exactly j .1)
 
-  part-of : {parts : List (List ℕ)} {a : List ℕ} → List·Memᴰ a parts → AllOf reading parts ⊆ Permits (policyOf reading a)
+  part-of : {parts : List (List ℕ)} {a : List ℕ} → List·Memᴰ a parts → AllOf reading parts narrows Permits (policyOf reading a)
   part-of {a} m = record { permits = λ w h. h a m; rests = λ w h. h a m }
 
-  all-of : {L : Language} (parts : List (List ℕ)) → ((a : List ℕ) → List·Memᴰ a parts → L ⊆ Permits (policyOf reading a)) → L ⊆ AllOf reading parts
+  all-of : {L : Language} (parts : List (List ℕ)) → ((a : List ℕ) → List·Memᴰ a parts → L narrows Permits (policyOf reading a)) → L narrows AllOf reading parts
   all-of parts h = record { permits = λ w p a m. h a m .permits w p; rests = λ w p a m. h a m .rests w p }
 
-  fewer : (these those : List (List ℕ)) → ((a : List ℕ) → List·Memᴰ a these → List·Memᴰ a those) → AllOf reading those ⊆ AllOf reading these
+  fewer : (these those : List (List ℕ)) → ((a : List ℕ) → List·Memᴰ a these → List·Memᴰ a those) → AllOf reading those narrows AllOf reading these
   fewer these those h = all-of these (λ a m. part-of (h a m))
 
   pub permits-all : {parts : List (List ℕ)} {f : List ℕ} → JoinOf parts f → Permits (policyOf reading f) ≋ AllOf reading parts
   permits-all (alone {a = a}) =
-      (all-of (a ∷ []) (λ b m. rw (List·Memᴰ·eq-of-singleton m) (⊆-refl (Permits (policyOf reading a)))), part-of (List·Memᴰ·head refl))
+      (all-of (a ∷ []) (λ b m. rw (List·Memᴰ·eq-of-singleton m) (narrows-refl (Permits (policyOf reading a)))), part-of (List·Memᴰ·head refl))
   permits-all (joined {these = these} {those = those} i j k) = (
     all-of (these ++ those) (λ b m.
-        ⊎-elim (λ u. ⊆-trans (to-first k) (⊆-trans (permits-all i .0) (part-of u))) (λ u. ⊆-trans (to-second k) (⊆-trans (permits-all j .0) (part-of u)))
+        ⊎-elim (λ u. narrows-trans (to-first k) (narrows-trans (permits-all i .0) (part-of u))) (λ u. narrows-trans (to-second k) (narrows-trans (permits-all j .0) (part-of u)))
         (List·Memᴰ·append-cases these m)),
-    into k (⊆-trans (fewer these (these ++ those) (λ b m. Memᴰ·append-left those m)) (permits-all i .1))
-        (⊆-trans (fewer those (these ++ those) (λ b m. Memᴰ·append-right these m)) (permits-all j .1)),
+    into k (narrows-trans (fewer these (these ++ those) (λ b m. Memᴰ·append-left those m)) (permits-all i .1))
+        (narrows-trans (fewer those (these ++ those) (λ b m. Memᴰ·append-right these m)) (permits-all j .1)),
   )
 
 -- Of a join of any number: each part has its tags; and it passes the check exactly if they all do.
@@ -144,9 +144,9 @@ module _ (reading : ℕ) where
     equally : Equal (policyOf reading f) (policyOf reading g)
     equally = equal (policyOf reading f) (policyOf reading g) (permit .0) (permit .1)
 
-    good-alike : (events : List ℕ) → all (eventGood reading f) events ≡ all (eventGood reading g) events
+    good-alike : (events : List ℕ) → allPass (eventGood reading f) events ≡ allPass (eventGood reading g) events
     unfolding policyOf
-    good-alike events = ap (λ (t : List ℕ × List ℕ). all (λ b. ltb (b % 16) (2 ^ length (t .0)) && ltb (b / 16) (2 ^ length (t .1))) events) same
+    good-alike events = ap (λ (t : List ℕ × List ℕ). allPass (λ b. ltb (b % 16) (2 ^ length (t .0)) && ltb (b / 16) (2 ^ length (t .1))) events) same
 
     released-alike : (events : List ℕ) (rs : Stream) → ReleasedFor (policyOf reading f) events rs → ReleasedFor (policyOf reading g) events rs
     unfolding policyOf
@@ -160,7 +160,7 @@ module _ (reading : ℕ) where
         answers :
             (m n : List ℕ) →
             prepareOf reading f m ≡ gives (summaryOf (policyOf reading f)) → prepareOf reading g n ≡ gives (summaryOf (policyOf reading g)) →
-            (events out : List ℕ) → all (eventGood reading f) events ≡ true → length events ≤ length out → SameReleased reading f m g n events out
+            (events out : List ℕ) → allPass (eventGood reading f) events ≡ true → length events ≤ length out → SameReleased reading f m g n events out
         answers m n d e events out good long =
             let r = releases reading f m _ d events out good long in
             let q = releases reading g n _ e events out (sym (good-alike events) ∙ good) long in
@@ -209,7 +209,7 @@ module _ (reading : ℕ) where
       (r .0, sym (steps-within p (checked-file reading b passed) unlimited w (start p)) ∙ r .1, r .2)
 
   -- Any such policy over the signals of a permits all that a permits; a join of the two is made only over the same signals.
-  permits-more : (a b : List ℕ) → refusalOf b ≡ 0 → tags a ≡ tags b → PermitsAll reading b → Permits (policyOf reading a) ⊆ Permits (policyOf reading b)
+  permits-more : (a b : List ℕ) → refusalOf b ≡ 0 → tags a ≡ tags b → PermitsAll reading b → Permits (policyOf reading a) narrows Permits (policyOf reading b)
   unfolding Runs policyOf
   permits-more a b passed same free =
       let first = ap (λ (t : List ℕ × List ℕ). t .0) same in
@@ -254,14 +254,14 @@ module _ (reading : ℕ) (named : readingRefusal reading ≡ 0) where
       (made j .passed)
 
   -- "A with the policy that permits all": with any policy that permits all that A permits and rests wherever A rests, on either side.
-  module _ {a b f : List ℕ} (more : Permits (policyOf reading a) ⊆ Permits (policyOf reading b)) where
+  module _ {a b f : List ℕ} (more : Permits (policyOf reading a) narrows Permits (policyOf reading b)) where
     pub unit-any : JoinMade a b f → Alike reading f a
     unit-any j =
-        let s = made j in alike-by (s .passed) (s .first) (s .tags-first) (to-first reading j, into reading j (⊆-refl _) more)
+        let s = made j in alike-by (s .passed) (s .first) (s .tags-first) (to-first reading j, into reading j (narrows-refl _) more)
 
     pub unit-any-first : JoinMade b a f → Alike reading f a
     unit-any-first j =
-        let s = made j in alike-by (s .passed) (s .second) (s .tags-second) (to-second reading j, into reading j more (⊆-refl _))
+        let s = made j in alike-by (s .passed) (s .second) (s .tags-second) (to-second reading j, into reading j more (narrows-refl _))
 
   pub unit : {a b f : List ℕ} → PermitsAll reading b → JoinMade a b f → Alike reading f a
   unit {a} {b} free j =

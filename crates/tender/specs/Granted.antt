@@ -12,7 +12,7 @@ use Rattle.streams.specs.Stream.{GoesOn, Hopeless}
 use Rattle.policy.specs.Rules.{Place, Permits}
 use Rattle.policy.specs.Number.{states, numberOf}
 use Rattle.policy.specs.File.{policyOf}
-use Rattle.policy.specs.Check.{readingRefusal, refusalUnder, all}
+use Rattle.policy.specs.Check.{readingRefusal, refusalUnder, allPass}
 use Rattle.policy.specs.CheckLaws.{no-reading, under-none}
 use Rattle.policy.specs.Sound.{WellFormed}
 use Rattle.policy.specs.Numbered.{numberOf-start}
@@ -59,7 +59,7 @@ module _ (reading : ℕ) (file marks : List ℕ) where
     output-answer x y e k = rw (e, k, else-none)
 
     pub run-answer :
-        (events out : List ℕ) → length events ≤ length out → all (eventGood reading file) events ≡ true →
+        (events out : List ℕ) → length events ≤ length out → allPass (eventGood reading file) events ≡ true →
         runOf reading file marks s events out
         ≡ runFrom s out entryRefusal (ran (policyOf reading file) marks (placeIn (policyOf reading file) s) (map eventOf events))
     unfolding runOf runRefusal
@@ -75,7 +75,7 @@ module _ (reading : ℕ) (file marks : List ℕ) where
   -- From a place that is ready nothing is refused.
   pub run-ready :
       marksRefusal reading file marks ≡ 0 → (t : Place) → MarkedPlace (policyOf reading file) marks t →
-      (events out : List ℕ) → length events ≤ length out → all (eventGood reading file) events ≡ true →
+      (events out : List ℕ) → length events ≤ length out → allPass (eventGood reading file) events ≡ true →
       runOf reading file marks (stateOf t) events out ≡ runFrom (stateOf t) out 0 (ran (policyOf reading file) marks t (map eventOf events))
   run-ready e t k events out l g =
       let z : entryRefusal (stateOf t) ≡ 0 = rw (e, ready-state t k) in

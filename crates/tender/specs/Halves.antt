@@ -14,7 +14,7 @@ use Rattle.streams.specs.AnswerLaws.{none-refused, none-unless}
 use Rattle.streams.specs.Stream.{Event, Stream}
 use Rattle.policy.specs.Rules.{Policy, Place, start, Fits, fits-none, fits-more}
 use Rattle.policy.specs.File.{policyOf}
-use Rattle.policy.specs.Check.{all}
+use Rattle.policy.specs.Check.{allPass}
 use Rattle.policy.specs.Checked.{well-sound}
 use Rattle.enforcer.specs.State.{placeIn, stateOf, clocksGood, stateGood}
 use Rattle.enforcer.specs.Laid.{placeIn-stateOf}
@@ -110,8 +110,8 @@ module _ (reading : ℕ) (file marks : List ℕ) (s : State) where
       and-eq-true-iff (xGood reading file x) (yGood reading file y) .0 b .1
 
 -- A state that is not out of range is the state of its place.
-zeros : (vs : List ℕ) (n : ℕ) → length vs ≡ n → all (eqb 0) vs ≡ true → replicate n 0 ≡ vs
-unfolding all
+zeros : (vs : List ℕ) (n : ℕ) → length vs ≡ n → allPass (eqb 0) vs ≡ true → replicate n 0 ≡ vs
+unfolding allPass
 zeros [] zero l e = refl
 zeros [] (suc n) l e = absurd (omega arith)
 zeros (v ∷ vs) zero l e = absurd (omega arith)
@@ -135,8 +135,8 @@ state-back p s four e =
     ap (λ (vs : List ℕ). record { location = s .location; clocks = vs })
     (clocks-back (p .ceilings) (s .clocks) (4 - length (placeIn p s .clocks)) l (k .1))
 
-good-fits : (reading : ℕ) (file events : List ℕ) → all (eventGood reading file) events ≡ true → Fits (policyOf reading file) (map eventOf events)
-unfolding all
+good-fits : (reading : ℕ) (file events : List ℕ) → allPass (eventGood reading file) events ≡ true → Fits (policyOf reading file) (map eventOf events)
+unfolding allPass
 good-fits reading file [] e = fits-none
 good-fits reading file (b ∷ bs) e =
     let k = and-eq-true-iff (eventGood reading file b) _ .0 e in
@@ -200,7 +200,7 @@ module _ (reading : ℕ) (file marks : List ℕ) where
   -- the state that it does, and stop where it does and by the same number.
   pub loop-runs :
       (s : State) → length (s .clocks) ≡ 4 → entryRefusal reading file marks s ≡ 0 →
-      (events out : List ℕ) → all (eventGood reading file) events ≡ true → length events ≤ length out →
+      (events out : List ℕ) → allPass (eventGood reading file) events ≡ true → length events ≤ length out →
       runOf reading file marks s events out ≡ asRun (loop reading file marks s (map eventOf events)) out
   loop-runs s four e events out good long =
       let t = placeIn p s in
@@ -214,7 +214,7 @@ module _ (reading : ℕ) (file marks : List ℕ) where
 -- From the start and with the marks of prepare, that is demand 2's stream.
 pub loop-releases :
     (reading : ℕ) (file marks : List ℕ) (s : Summary) → prepareOf reading file marks ≡ gives s →
-    (events out : List ℕ) → all (eventGood reading file) events ≡ true → length events ≤ length out →
+    (events out : List ℕ) → allPass (eventGood reading file) events ≡ true → length events ≤ length out →
     Released (policyOf reading file) events out
     (asRun (loop reading file (preparedMarks reading file marks) (stateOf (start (policyOf reading file))) (map eventOf events)) out)
 loop-releases reading file marks s e events out good long =

@@ -10,7 +10,7 @@ use Rattle.streams.specs.Stream.{Stream}
 use Rattle.policy.specs.Rules.{Place, start}
 use Rattle.policy.specs.Number.{states, statesOf}
 use Rattle.policy.specs.File.{policyOf}
-use Rattle.policy.specs.Check.{readingRefusal, refusalUnder, refusalOf, all}
+use Rattle.policy.specs.Check.{readingRefusal, refusalUnder, refusalOf, allPass}
 use Rattle.policy.specs.CheckLaws.{under-none}
 use Rattle.policy.specs.Checked.{well-sound}
 use Rattle.policy.specs.Stays.{start-inside}
@@ -114,8 +114,8 @@ module _ (reading : ℕ) (named : readingRefusal reading ≡ 0) where
   unfolding runAt
   all-live = each-reading (λ r. marksOf (policyOf r K) ≡ live []) refl refl reading named
 
-  pulse-good : (n : ℕ) → all (eventGood reading K) (quietThen n 0x10) ≡ true
-  unfolding all runAt
+  pulse-good : (n : ℕ) → allPass (eventGood reading K) (quietThen n 0x10) ≡ true
+  unfolding allPass runAt
   pulse-good zero = refl
   pulse-good (suc n) = pulse-good n
 

@@ -10,7 +10,7 @@ use Rattle.streams.specs.Answer.{gives}
 use Rattle.streams.specs.Stream.{Event, Stream}
 use Rattle.policy.specs.Number.{states, numberOf, statesOf}
 use Rattle.policy.specs.File.{policyOf, byteAt}
-use Rattle.policy.specs.Check.{readingRefusal, refusalUnder, refusalOf, all}
+use Rattle.policy.specs.Check.{readingRefusal, refusalUnder, refusalOf, allPass}
 use Rattle.policy.specs.CheckLaws.{under-none}
 use Rattle.enforcer.specs.State.{placeIn, stateOf, stateGood, isMarked}
 use Rattle.enforcer.specs.States.{marks-granted, state-granted}
@@ -61,7 +61,7 @@ pub record StoryGoes (reading v x y y' v' : ℕ) : Type 0 where
 
 -- All that a tick goes through is unfolded here.
 marks-of : (reading : ℕ) → List ℕ
-unfolding the-file a-step the-marks the-run statesOf all
+unfolding the-file a-step the-marks the-run statesOf allPass
 marks-of reading = marksOf (policyOf reading Transfer)
 
 module _ (reading : ℕ) (named : readingRefusal reading ≡ 0) where

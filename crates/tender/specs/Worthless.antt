@@ -11,7 +11,7 @@ use Rattle.streams.specs.Laws.{not-both}
 use Rattle.policy.specs.Rules.{Permits}
 use Rattle.policy.specs.Number.{states}
 use Rattle.policy.specs.File.{policyOf, outputsAt}
-use Rattle.policy.specs.Check.{all}
+use Rattle.policy.specs.Check.{allPass}
 use Rattle.enforcer.specs.Entries.{RunAnswer, eventGood}
 use Rattle.enforcer.specs.Code.{startState}
 use Rattle.enforcer.specs.Promises.{RunPromise}
@@ -32,7 +32,7 @@ pub use Rattle.tender.specs.Demand1Shown.{not-refusing, not-inventing}
 -- and into a slice of as many bytes: it refuses nothing, and the slice holds what the case says.
 pub code-marked :
     {reading : ℕ} {file before marks events rs after : List ℕ} {s : Summary} {r : Ran} → PreparePromise reading file before (Prepared.Gives s) marks →
-    RunPromise reading file marks startState events (Cases.lent (length events)) r after → all (eventGood reading file) events ≡ true →
+    RunPromise reading file marks startState events (Cases.lent (length events)) r after → allPass (eventGood reading file) events ≡ true →
     Cases.said reading file (Cases.enforced events) ≡ Cases.released rs → (r .refusal ≡ 0) × (after ≡ rs)
 code-marked {reading} {file} {before} {events = events} {rs = rs} {s = s} h k good e =
     let p = policyOf reading file in
@@ -56,11 +56,11 @@ module _ {before marks : List ℕ} {s : Summary} where
   -- On S, from the start.
   module _ (h : PreparePromise 1 S before (Prepared.Gives s) marks) where
     S-03 : {after : List ℕ} {r : Ran} → RunPromise 1 S marks startState (0x03 ∷ []) (Cases.lent 1) r after → (r .refusal ≡ 0) × (after ≡ 0x01 ∷ [])
-    unfolding all policyOf outputsAt Cases.cases
+    unfolding allPass policyOf outputsAt Cases.cases
     S-03 k = code-marked h k refl (marked 0)
 
     S-12 : {after : List ℕ} {r : Ran} → RunPromise 1 S marks startState (0x12 ∷ []) (Cases.lent 1) r after → (r .refusal ≡ 0) × (after ≡ 0x02 ∷ [])
-    unfolding all policyOf outputsAt Cases.cases
+    unfolding allPass policyOf outputsAt Cases.cases
     S-12 k = code-marked h k refl (marked 1)
 
     -- "one refusing always", of run.
@@ -77,7 +77,7 @@ module _ {before marks : List ℕ} {s : Summary} where
   module _ (h : PreparePromise 1 T before (Prepared.Gives s) marks) {after : List ℕ} {r : Ran}
       (k : RunPromise 1 T marks startState (0x01 ∷ 0x11 ∷ []) (Cases.lent 2) r after) where
     T-01-11 : after ≡ 0x00 ∷ 0x10 ∷ []
-    unfolding all policyOf outputsAt Cases.cases
+    unfolding allPass policyOf outputsAt Cases.cases
     T-01-11 = code-marked h k refl (marked 8) .1
 
     -- "one forwarding everything"

@@ -12,7 +12,7 @@ use Rattle.streams.specs.Laws.{not-both}
 use Rattle.policy.specs.Rules.{start, Permits}
 use Rattle.policy.specs.Number.{states}
 use Rattle.policy.specs.File.{policyOf, outputsAt}
-use Rattle.policy.specs.Check.{all}
+use Rattle.policy.specs.Check.{allPass}
 use Rattle.enforcer.specs.State.{stateOf}
 use Rattle.enforcer.specs.Entries.{RunAnswer, eventGood}
 use Rattle.prepare.specs.Entry.{prepareOf}
@@ -63,7 +63,7 @@ sample run file events = run 1 file (Cases.marks 1 file) (stateOf (start (policy
 module _ (run : Run) (right : Right run) where
   -- A right run releases what a marked case says.
   as-marked :
-      (file : List ℕ) → Prepares file → (events rs : List ℕ) → all (eventGood 1 file) events ≡ true →
+      (file : List ℕ) → Prepares file → (events rs : List ℕ) → allPass (eventGood 1 file) events ≡ true →
       Cases.said 1 file (Cases.enforced events) ≡ Cases.released rs → (sample run file events .refusal ≡ 0) × (sample run file events .out ≡ rs)
   as-marked file s events rs good e =
       let marks = Cases.lent (states (policyOf 1 file)) in
@@ -74,15 +74,15 @@ module _ (run : Run) (right : Right run) where
       (a .refusal, ap (λ (r : RunAnswer). r .out) (released-one a b) ∙ said-released _ _ rs (b .refusal) e)
 
   S-03 : (sample run S (0x03 ∷ []) .refusal ≡ 0) × (sample run S (0x03 ∷ []) .out ≡ 0x01 ∷ [])
-  unfolding all policyOf outputsAt Cases.cases
+  unfolding allPass policyOf outputsAt Cases.cases
   S-03 = as-marked S S-given (0x03 ∷ []) (0x01 ∷ []) refl (marked 0)
 
   S-12 : (sample run S (0x12 ∷ []) .refusal ≡ 0) × (sample run S (0x12 ∷ []) .out ≡ 0x02 ∷ [])
-  unfolding all policyOf outputsAt Cases.cases
+  unfolding allPass policyOf outputsAt Cases.cases
   S-12 = as-marked S S-given (0x12 ∷ []) (0x02 ∷ []) refl (marked 1)
 
   T-01-11 : (sample run T (0x01 ∷ 0x11 ∷ []) .refusal ≡ 0) × (sample run T (0x01 ∷ 0x11 ∷ []) .out ≡ 0x00 ∷ 0x10 ∷ [])
-  unfolding all policyOf outputsAt Cases.cases
+  unfolding allPass policyOf outputsAt Cases.cases
   T-01-11 = as-marked T T-given (0x01 ∷ 0x11 ∷ []) (0x00 ∷ 0x10 ∷ []) refl (marked 8)
 
   -- "one refusing always"

@@ -11,7 +11,7 @@ use lib.Seq.{sets-eq}
 use borrow.Author.Tests.{le-leb, lt-leb}
 use Rattle.streams.specs.Answer.{gives, _orElse_, unless, answer}
 use Rattle.policy.specs.File.{part, inputCount, outputCount, outputsAt, inputTags, outputTags}
-use Rattle.policy.specs.Check.{refusalOf, all}
+use Rattle.policy.specs.Check.{refusalOf, allPass}
 use Rattle.policy.specs.Frame.{frame, in-order}
 use Rattle.policy.specs.Layout.{CheckPromise}
 use Rattle.policy.specs.LayoutLaws.{checked-says}
@@ -40,7 +40,7 @@ goodFor inputs outputs e = ltb (e % 16) (2 ^ inputs) && ltb (e / 16) (2 ^ output
 module _ (inputs outputs : List ℕ) where
   abbrev pub refusalBy : (events out : List ℕ) → ℕ
   refusalBy events out =
-      unless (leb (length events) 16384) 29 orElse unless (all (goodFor (length inputs) (length outputs)) events) 15
+      unless (leb (length events) 16384) 29 orElse unless (allPass (goodFor (length inputs) (length outputs)) events) 15
       orElse unless (leb (length (waveText inputs outputs events)) (length out)) 14
 
   pub record WrittenBy (events before : List ℕ) (r : Written) (after : List ℕ) : Type 0 where
@@ -120,10 +120,10 @@ module _ (inputs outputs events before : List ℕ) where
   by-long h = let e = lt-leb (length events) 16384 h in record { answers = rw e; writes = rw e }
 
   module _ (few : length events ≤ 16384) where
-    pub by-bad : all (goodFor (length inputs) (length outputs)) events ≡ false → WrittenBy inputs outputs events before (Written.Refused 15) before
+    pub by-bad : allPass (goodFor (length inputs) (length outputs)) events ≡ false → WrittenBy inputs outputs events before (Written.Refused 15) before
     by-bad g = let e = le-leb (length events) 16384 few in record { answers = rw (e, g); writes = rw (e, g) }
 
-    module _ (good : all (goodFor (length inputs) (length outputs)) events ≡ true) where
+    module _ (good : allPass (goodFor (length inputs) (length outputs)) events ≡ true) where
       pub by-short : length before < length (waveText inputs outputs events) → WrittenBy inputs outputs events before (Written.Refused 14) before
       by-short h =
           let e = le-leb (length events) 16384 few in

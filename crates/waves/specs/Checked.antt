@@ -8,7 +8,7 @@ use lib.Dec.{leb, eqb}
 use lib.ListN.{length-take}
 use borrow.Author.Tests.{leb-true, ltb-true, eqb-false, ne-eqb, lt-ltb, not-true}
 use Rattle.policy.specs.File.{inputTags, outputTags}
-use Rattle.policy.specs.Check.{refusalOf, all, among, isCapital, tagsGood}
+use Rattle.policy.specs.Check.{refusalOf, allPass, among, isCapital, tagsGood}
 use Rattle.policy.specs.Frame.{passed}
 use Rattle.waves.specs.Values.{Distinct, NoneOf, neither}
 use Rattle.waves.specs.Events.{SignalsGood, EventFits}
@@ -83,12 +83,12 @@ module _ (f : List ℕ) where
   fits-good : (e : ℕ) → EventFits (inputTags f) (outputTags f) e → eventGood f e ≡ true
   fits-good e g = rw (lt-ltb _ _ (g .x), lt-ltb _ _ (g .y))
 
-  pub all-fit : (events : List ℕ) → all (eventGood f) events ≡ true → AllFit (inputTags f) (outputTags f) events
-  unfolding all AllFit
+  pub all-fit : (events : List ℕ) → allPass (eventGood f) events ≡ true → AllFit (inputTags f) (outputTags f) events
+  unfolding allPass AllFit
   all-fit [] e = tt
   all-fit (a ∷ events) e = let k = and-eq-true-iff (eventGood f a) _ .0 e in (good-fits a (k .0), all-fit events (k .1))
 
-  pub fit-all : (events : List ℕ) → AllFit (inputTags f) (outputTags f) events → all (eventGood f) events ≡ true
-  unfolding all AllFit
+  pub fit-all : (events : List ℕ) → AllFit (inputTags f) (outputTags f) events → allPass (eventGood f) events ≡ true
+  unfolding allPass AllFit
   fit-all [] a = refl
   fit-all (e ∷ events) a = rw (fits-good e (a .0), fit-all events (a .1))

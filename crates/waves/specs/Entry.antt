@@ -7,7 +7,7 @@ use lib.Dec.{leb, ltb}
 use lib.ListN.{length, drop}
 use Rattle.streams.specs.Answer.{Answer, refused, gives, _orElse_, unless, answer}
 use Rattle.policy.specs.File.{inputTags, outputTags}
-use Rattle.policy.specs.Check.{refusalOf, all}
+use Rattle.policy.specs.Check.{refusalOf, allPass}
 use Rattle.waves.specs.Wave.{waveText}
 
 -- A text written over what a slice holds: a refusal writes nothing, and "Bytes past the written part stay."
@@ -26,14 +26,14 @@ module _ (file : List ℕ) where
   -- The text is the one that the writer makes of the stream.
   pub record Makes (events text : List ℕ) : Type 0 where
     pub few : length events ≤ 16384
-    pub good : all eventGood events ≡ true
+    pub good : allPass eventGood events ≡ true
     pub made : text ≡ textOf events
 
   module _ (events out : List ℕ) where
     -- "Refusals, after the policy's own: 29 for a stream of over 16,384 events, then 15, then 14 in the writer".
     unfoldable pub writeRefusal : ℕ
     writeRefusal =
-        refusalOf file orElse unless (leb (length events) 16384) 29 orElse unless (all eventGood events) 15
+        refusalOf file orElse unless (leb (length events) 16384) 29 orElse unless (allPass eventGood events) 15
         orElse unless (leb (length (textOf events)) (length out)) 14
 
     -- The length written.

@@ -11,7 +11,7 @@ use borrow.Author.Tests.{le-leb, leb-true}
 use Rattle.streams.specs.Answer.{Answer, refused, gives, unless, UpTo}
 use Rattle.streams.specs.AnswerLaws.{none-refused, none-unless, given-only, unless-le, else-le, answer-up-to}
 use Rattle.policy.specs.File.{inputTags, outputTags}
-use Rattle.policy.specs.Check.{refusalOf, all}
+use Rattle.policy.specs.Check.{refusalOf, allPass}
 use Rattle.policy.specs.CheckLaws.{refusal-le}
 use Rattle.waves.specs.Checked.{signals}
 use Rattle.waves.specs.Lengths.{text-most}
@@ -98,12 +98,12 @@ module _ (file events out : List ℕ) where
   unfolding writeOf
   write-up-to = answer-up-to (writeRefusal file events out) (length (textOf file events)) refusals-le
 
-  granted : writeRefusal file events out ≡ 0 → (refusalOf file ≡ 0) × (length events ≤ 16384) × (all (eventGood file) events ≡ true)
+  granted : writeRefusal file events out ≡ 0 → (refusalOf file ≡ 0) × (length events ≤ 16384) × (allPass (eventGood file) events ≡ true)
   unfolding writeRefusal
   granted e =
       let p = none-refused (refusalOf file) _ .0 e in
       let few = none-refused (unless (leb (length events) 16384) 29) _ .0 (p .1) in
-      let good = none-refused (unless (all (eventGood file) events) 15) _ .0 (few .1) in
+      let good = none-refused (unless (allPass (eventGood file) events) 15) _ .0 (few .1) in
       (p .0, leb-true _ _ (none-unless _ 28 .0 (few .0)), none-unless _ 14 .0 (good .0))
 
   -- What it writes is the text of the stream.

@@ -4,7 +4,7 @@ use crate::stream::ones;
 use crate::text::put_text;
 ghost use mathlib.Core.Path.{_≡_};
 ghost use Prim.Native.Nat.{_≤_};
-ghost use Rattle.policy.specs.Check.{all};
+ghost use Rattle.policy.specs.Check.{allPass};
 ghost use Rattle.waves.specs.Events.{SignalsGood};
 ghost use Rattle.waves.specs.Promise.{WritePromise};
 ghost use Rattle.waves.specs.BySignals.{goodFor, WrittenBy};
@@ -18,7 +18,7 @@ pub enum Written {
 // No event has a bit beyond the signals.
 fn events_good(inputs: usize, outputs: usize, events: &[u8]) -> bool
     requires { ⌜ (inputs ≤ 4) × (outputs ≤ 4) ⌝ }
-    ensures { λ r. ⌜ r ≡ all (goodFor inputs outputs) (now (events .entry)) ⌝ }
+    ensures { λ r. ⌜ r ≡ allPass (goodFor inputs outputs) (now (events .entry)) ⌝ }
 {
     let x_last = ones(inputs);
     let y_last = ones(outputs);

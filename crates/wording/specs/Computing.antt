@@ -2,7 +2,7 @@
 use Rattle.policy.specs.File.{pairsFrom, boundsFrom, ruleFrom, rulesFrom, outputsAt, clocksAt, locationsAt, rulesAt, rulesStart, rulesEnd, policyOf}
 use Rattle.policy.specs.Bytes.{pairsBytes, boundsBytes, ruleBytes, rulesBytes, countsBytes, bytesOf}
 use Rattle.policy.specs.Number.{statesOf}
-use Rattle.policy.specs.Check.{all, sectionRefusal, among, tagsGood, maskGood, headGood, boundGood, boundsGood, ruleRefusal, rulesRefusal}
+use Rattle.policy.specs.Check.{allPass, sectionRefusal, among, tagsGood, maskGood, headGood, boundGood, boundsGood, ruleRefusal, rulesRefusal}
 use Rattle.policy.specs.Check.{inputsRefusal, outputsRefusal, clocksRefusal, locationsRefusal, rulesSectionRefusal, refusalOf}
 use Rattle.texts.specs.Text.{digits, decimal}
 use Rattle.texts.specs.Decimal.{valueFrom}
@@ -17,7 +17,7 @@ unfolding pairsFrom boundsFrom ruleFrom rulesFrom outputsAt clocksAt locationsAt
 the-file = tt
 
 unfoldable pub the-check : Unit {0}
-unfolding statesOf all sectionRefusal among tagsGood maskGood headGood boundGood boundsGood ruleRefusal rulesRefusal inputsRefusal outputsRefusal clocksRefusal locationsRefusal rulesSectionRefusal refusalOf
+unfolding statesOf allPass sectionRefusal among tagsGood maskGood headGood boundGood boundsGood ruleRefusal rulesRefusal inputsRefusal outputsRefusal clocksRefusal locationsRefusal rulesSectionRefusal refusalOf
 the-check = tt
 
 unfoldable pub the-words : Unit {0}

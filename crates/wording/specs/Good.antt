@@ -15,7 +15,7 @@ use borrow.Author.Tests.{leb-true, le-leb, ltb-true, lt-ltb, eq-eqb}
 use Rattle.streams.specs.Answer.{Answer, refused, gives}
 use Rattle.streams.specs.AnswerLaws.{none-refused}
 use Rattle.policy.specs.Rules.{Rule}
-use Rattle.policy.specs.Check.{isCapital, among, tagsGood, all, ceilingGood, locationGood, maskGood, headGood, boundsGood, ruleRefusal, rulesRefusal}
+use Rattle.policy.specs.Check.{isCapital, among, tagsGood, allPass, ceilingGood, locationGood, maskGood, headGood, boundsGood, ruleRefusal, rulesRefusal}
 use Rattle.policy.specs.Checked.{all-append}
 use Rattle.policy.specs.Bytes.{bytesOf}
 use Rattle.policy.specs.Sound.{NearlyFormed}
@@ -39,12 +39,12 @@ pub record Signals (inputs outputs : List ℕ) (names : List Word) : Type 0 wher
 
 pub record Clocks (clocks : List Word) (ceilings : List ℕ) : Type 0 where
   pub few : length ceilings ≤ 4
-  pub good : all ceilingGood ceilings ≡ true
+  pub good : allPass ceilingGood ceilings ≡ true
   pub paired : length clocks ≡ length ceilings
 
 pub record Places (places : List Word) (left : List ℕ) : Type 0 where
   pub few : length places ≤ 64
-  pub good : all locationGood left ≡ true
+  pub good : allPass locationGood left ≡ true
   pub paired : length left ≡ length places
 
 -- The source of the last rule; `before` if there is none.
@@ -66,7 +66,7 @@ pub record Good (d : Draft) : Type 0 where
   pub early : d .stage ≤ 1 → d .outputs ≡ []
 
 pub good-empty : Good empty
-unfolding tagsGood all
+unfolding tagsGood allPass
 good-empty =
     record {
       signals = record { fewInputs = omega arith; fewOutputs = omega arith; inputTags = refl; outputTags = refl; paired = refl };
@@ -175,7 +175,7 @@ module _ (d : Draft) (g : Good d) where
       }
 
   clock-good : (ws : Line) → Keeps Good (clockLine d ws)
-  unfolding clockLine all
+  unfolding clockLine allPass
   clock-good [] = stops-here
   clock-good (w ∷ []) = stops-here
   clock-good (w ∷ n ∷ []) =
@@ -218,7 +218,7 @@ module _ (d : Draft) (g : Good d) where
   clock-good (w ∷ n ∷ v ∷ ws) = stops-here
 
   place-good : (w : Word) (byte : ℕ) → locationGood byte ≡ true → Keeps Good (newPlace d w byte)
-  unfolding newPlace all
+  unfolding newPlace allPass
   place-good w byte l =
       keeps-must (leb (d .stage) 4) 30 _
       (λ s. keeps-name d w (d .places) _
@@ -331,13 +331,13 @@ module _ (d : Draft) (g : Good d) where
           let r = ruleOf d s b in
           let n = longer (d .rules) r in
           let last-one : lastOf 0 (d .rules ++ (r ∷ [])) ≡ s = last-more 0 (d .rules) r in
-          let all = rules-more (length (d .inputs)) (length (d .outputs)) (d .ceilings) (length (d .places)) 0 (d .rules) r so-far
+          let allPass = rules-more (length (d .inputs)) (length (d .outputs)) (d .ceilings) (length (d .places)) 0 (d .rules) r so-far
           (made-passes s b here last f bounds) in
           record {
             signals = g .signals;
             clocks = g .clocks;
             places = g .places;
-            rules = rw e (after-at here all (omega arith) (omega arith) (omega arith));
+            rules = rw e (after-at here allPass (omega arith) (omega arith) (omega arith));
             early = λ h. absurd (omega arith);
           }
 

@@ -10,7 +10,7 @@ use lib.ListN.{length, length-append, replicate}
 use borrow.Author.Tests.{leb-true, le-leb, lt-ltb, eqb-true, eqb-false, not-true}
 use Rattle.streams.specs.Answer.{Answer, refused, gives}
 use Rattle.policy.specs.Rules.{Rule, Policy}
-use Rattle.policy.specs.Check.{isCapital, among, tagsGood, all, ceilingGood, locationGood}
+use Rattle.policy.specs.Check.{isCapital, among, tagsGood, allPass, ceilingGood, locationGood}
 use Rattle.policy.specs.Sound.{WellFormed, Each, each-none, each-more}
 use Rattle.policy.specs.Checked.{Rising, rising-none, rising-more, Ruled, well-rising, well-ruled}
 use Rattle.texts.specs.Text.{ascii, decimal}
@@ -206,10 +206,10 @@ module _ (inputs outputs : List ℕ) (m : ℕ) where
         source = none;
       }))
 
-  clocks-read : (k : ℕ) (done cs : List ℕ) (stage : ℕ) → stage ≤ 3 → k + length cs ≤ 4 → all ceilingGood cs ≡ true →
+  clocks-read : (k : ℕ) (done cs : List ℕ) (stage : ℕ) → stage ≤ 3 → k + length cs ≤ 4 → allPass ceilingGood cs ≡ true →
       (next : ℕ) × (next ≤ 3) × (through readLine (drafted inputs outputs m k done 0 [] [] stage none) (clockLines k cs)
       ≡ gives (drafted inputs outputs m (k + length cs) (done ++ cs) 0 [] [] next none))
-  unfolding through clockLines all
+  unfolding through clockLines allPass
   clocks-read k done [] stage s h g =
       let e : k ≡ k + 0 = omega arith in
       (stage, s, λ i. gives (drafted inputs outputs m (e i) (sym (append-nil done) i) 0 [] [] stage none))
@@ -251,10 +251,10 @@ module _ (inputs outputs : List ℕ) (m : ℕ) where
   place-rest d w true = refl
   place-rest d w false = refl
 
-  places-read : (k : ℕ) (cs : List ℕ) (n : ℕ) (done bs : List ℕ) (stage : ℕ) → stage ≤ 4 → n + length bs ≤ 64 → all locationGood bs ≡ true →
+  places-read : (k : ℕ) (cs : List ℕ) (n : ℕ) (done bs : List ℕ) (stage : ℕ) → stage ≤ 4 → n + length bs ≤ 64 → allPass locationGood bs ≡ true →
       (next : ℕ) × (next ≤ 4) × (through readLine (drafted inputs outputs m k cs n done [] stage none) (locationLines n bs)
       ≡ gives (drafted inputs outputs m k cs (n + length bs) (done ++ bs) [] next none))
-  unfolding through locationLines all
+  unfolding through locationLines allPass
   places-read k cs n done [] stage s h g =
       let e : n ≡ n + 0 = omega arith in
       (stage, s, λ i. gives (drafted inputs outputs m k cs (e i) (sym (append-nil done) i) [] stage none))
@@ -339,15 +339,15 @@ module _ (p : Policy) (w : WellFormed p) where
   places-said next s =
       let count = w .bytes in
       let e : 0 + length (p .left) ≡ p .locations = omega arith in
-      let all = places-read (p .inputs) (p .outputs) signalCount (length (p .ceilings)) (p .ceilings) 0 [] (p .left) next (omega arith) (omega (arith, w .locations)) (w .left) in
-      (all .0, all .1, all .2 ∙ (λ i. gives (drafted (p .inputs) (p .outputs) signalCount (length (p .ceilings)) (p .ceilings) (e i) (p .left) [] (all .0) none)))
+      let allPass = places-read (p .inputs) (p .outputs) signalCount (length (p .ceilings)) (p .ceilings) 0 [] (p .left) next (omega arith) (omega (arith, w .locations)) (w .left) in
+      (allPass .0, allPass .1, allPass .2 ∙ (λ i. gives (drafted (p .inputs) (p .outputs) signalCount (length (p .ceilings)) (p .ceilings) (e i) (p .left) [] (allPass .0) none)))
 
   inputs-said : (next : ℕ) × (next ≤ 1) × (through readLine empty (signalLines (ascii "input") (p .inputs)) ≡ gives (signed (p .inputs) [] (length (p .inputs)) next))
   unfolding namesFrom
   inputs-said =
       let e : 0 + length (p .inputs) ≡ length (p .inputs) = omega arith in
-      let all = inputs-read [] (p .inputs) 0 0 (omega arith) (w .inputTags) (omega (arith, w .inputs)) in
-      (all .0, all .1, all .2 ∙ (λ i. gives (signed (p .inputs) [] (e i) (all .0))))
+      let allPass = inputs-read [] (p .inputs) 0 0 (omega arith) (w .inputTags) (omega (arith, w .inputs)) in
+      (allPass .0, allPass .1, allPass .2 ∙ (λ i. gives (signed (p .inputs) [] (e i) (allPass .0))))
 
   outputs-said : (next : ℕ) → next ≤ 1 →
       (last : ℕ) × (last ≤ 2) × (through readLine (signed (p .inputs) [] (length (p .inputs)) next) (signalLines (ascii "output") (p .outputs))
@@ -361,8 +361,8 @@ module _ (p : Policy) (w : WellFormed p) where
       ≡ gives (drafted (p .inputs) (p .outputs) signalCount (length (p .ceilings)) (p .ceilings) 0 [] [] last none))
   clocks-said next s =
       let e : 0 + length (p .ceilings) ≡ length (p .ceilings) = omega arith in
-      let all = clocks-read (p .inputs) (p .outputs) signalCount 0 [] (p .ceilings) next (omega arith) (omega (arith, w .clocks)) (w .ceilings) in
-      (all .0, all .1, all .2 ∙ (λ i. gives (drafted (p .inputs) (p .outputs) signalCount (e i) (p .ceilings) 0 [] [] (all .0) none)))
+      let allPass = clocks-read (p .inputs) (p .outputs) signalCount 0 [] (p .ceilings) next (omega arith) (omega (arith, w .clocks)) (w .ceilings) in
+      (allPass .0, allPass .1, allPass .2 ∙ (λ i. gives (drafted (p .inputs) (p .outputs) signalCount (e i) (p .ceilings) 0 [] [] (allPass .0) none)))
 
   pub lines-read : (last : ℕ) × (source : Option ℕ) × (through readLine empty (policyLines p) ≡ gives (ruling (p .rules) last source))
   unfolding policyLines

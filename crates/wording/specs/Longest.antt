@@ -11,7 +11,7 @@ use lib.ListN.{length, length-append, length-replicate}
 use borrow.Author.Tests.{leb-true, ltb-true, eqb-true, eqb-false}
 use Rattle.policy.specs.Rules.{Bound, Rule, Policy}
 use Rattle.policy.specs.File.{policyOf}
-use Rattle.policy.specs.Check.{all, ceilingGood, refusalOf}
+use Rattle.policy.specs.Check.{allPass, ceilingGood, refusalOf}
 use Rattle.policy.specs.Sound.{WellFormed, Each, each-none, each-more}
 use Rattle.policy.specs.Stopped.{AllLawful, lawful-none, lawful-more}
 use Rattle.policy.specs.Checked.{Rising, rising-none, rising-more, Ruled, well-rising, well-ruled, checked-file}
@@ -89,8 +89,8 @@ clock-margin : (ws : Line) → margin (ascii "clock" ∷ ws) ≡ 0
 unfolding isPlain same
 clock-margin ws = refl
 
-clocks-long : (k : ℕ) (cs : List ℕ) → k + length cs ≤ 4 → all ceilingGood cs ≡ true → size (clockLines k cs) ≤ 14 * length cs
-unfolding clockLines all room laid
+clocks-long : (k : ℕ) (cs : List ℕ) → k + length cs ≤ 4 → allPass ceilingGood cs ≡ true → size (clockLines k cs) ≤ 14 * length cs
+unfolding clockLines allPass room laid
 clocks-long k [] h g = omega arith
 clocks-long k (c ∷ cs) h g =
     let good = and-eq-true-iff (ceilingGood c) _ .0 g in
@@ -149,8 +149,8 @@ bound-long k n h l =
     let ticks = ticks-long n l in
     (omega arith, omega arith)
 
-bounds-most : (k : ℕ) {cs : List ℕ} {bs : List Bound} → k + length bs ≤ 10 → all ceilingGood cs ≡ true → AllLawful cs bs → room (boundWords k bs) ≤ 22 * length bs
-unfolding boundWords all room
+bounds-most : (k : ℕ) {cs : List ℕ} {bs : List Bound} → k + length bs ≤ 10 → allPass ceilingGood cs ≡ true → AllLawful cs bs → room (boundWords k bs) ≤ 22 * length bs
+unfolding boundWords allPass room
 bounds-most k h g lawful-none = omega arith
 bounds-most k h g (lawful-more {c = c} {b = b} {bs = bs} l ls) =
     let good = and-eq-true-iff (ceilingGood c) _ .0 g in

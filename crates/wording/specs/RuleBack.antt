@@ -13,7 +13,7 @@ use lib.ListN.{length, replicate}
 use borrow.Author.Tests.{leb-true, le-leb, lt-ltb, eq-eqb, ne-eqb}
 use Rattle.streams.specs.Answer.{Answer, gives}
 use Rattle.policy.specs.Rules.{Bound, Rule, Policy}
-use Rattle.policy.specs.Check.{all, ceilingGood, boundGood, boundsGood}
+use Rattle.policy.specs.Check.{allPass, ceilingGood, boundGood, boundsGood}
 use Rattle.policy.specs.Stopped.{AllLawful, lawful-none, lawful-more}
 use Rattle.policy.specs.Sound.{WellFormed}
 use Rattle.policy.specs.Checked.{Ordered, ordered-none, ordered-more, Ruled}
@@ -186,15 +186,15 @@ module _ (d : Draft) (n : ℕ) (e : d .clocks ≡ namesFrom 116 0 n) (b : Begun)
           let z : 0 ≡ m = sym (resets-some 0 n m small s) in
           (gone, through-none (ruleWord (scope d)) _ ∙ ap (λ (k : ℕ). gives (ended gone b k)) z, refl)
       go (w ∷ ws) s =
-          let all : through (ruleWord (scope d)) (clearing b 0) (w ∷ ws) ≡ gives (clearing b (0 + 2 ^ 0 * m)) =
+          let allPass : through (ruleWord (scope d)) (clearing b 0) (w ∷ ws) ≡ gives (clearing b (0 + 2 ^ 0 * m)) =
           rw s at (resets-read d n e b 0 n m 0 (omega arith) small (omega arith)) in
           let sum : 0 + 2 ^ 0 * m ≡ m = omega arith in
           let some-one : 0 < m = positive m (λ z. some-names w ws (sym s ∙ rw z (resets-none 0 n))) in
-          (clears, reset-word (w ∷ ws) ∙ all ∙ ap (λ (k : ℕ). gives (clearing b k)) sum, lt-ltb 0 m some-one)
+          (clears, reset-word (w ∷ ws) ∙ allPass ∙ ap (λ (k : ℕ). gives (clearing b k)) sum, lt-ltb 0 m some-one)
 
 -- No bound of a rule is above 65,535.
-pub small-bounds : {cs : List ℕ} {bs : List Bound} → all ceilingGood cs ≡ true → AllLawful cs bs → AllSmall bs
-unfolding all
+pub small-bounds : {cs : List ℕ} {bs : List Bound} → allPass ceilingGood cs ≡ true → AllLawful cs bs → AllSmall bs
+unfolding allPass
 small-bounds h lawful-none = tt
 small-bounds h (lawful-more {c = c} {b = b} l ls) =
     let good = simp and-eq-true-iff at h in

@@ -6,7 +6,7 @@ use lib.ListN.{length, replicate}
 use lib.Pow.{pow-pos}
 use borrow.Author.Needs.{needs}
 use denote.Ref.{now}
-use Rattle.streams.specs.ChooseLaws.{any-has}
+use Rattle.streams.specs.ChooseLaws.{some-has}
 use Rattle.policy.specs.Rules.{inputValues, outputValues}
 use Rattle.policy.specs.File.{rulesFrom, policyOf}
 use Rattle.enforcer.specs.Tick.{mayStand}
@@ -38,7 +38,7 @@ reaches-requires c κs = c .before .before .pre
 
 returns : tie.Need-returns Inv-loop μ-loop
 unfolding mayStand
-returns c = sym (any-has _ _ 0 (pow-pos _) (any-has _ _ 0 (pow-pos _) (sym (c .before .reaches .ensures) ∙ c .if1 .taken)))
+returns c = sym (some-has _ _ 0 (pow-pos _) (some-has _ _ 0 (pow-pos _) (sym (c .before .reaches .ensures) ∙ c .if1 .taken)))
 
 values-requires : tie.Need-values-requires Inv-loop μ-loop
 values-requires c κs = omega (arith, laid-limits (c .before .before .before .before .pre .standing .laid))

@@ -2,7 +2,7 @@
 use mathlib.Core.Path.{sym, _∙_}
 use lib.Pow.{pow-pos}
 use borrow.Author.Needs.{needs}
-use Rattle.streams.specs.ChooseLaws.{any-has}
+use Rattle.streams.specs.ChooseLaws.{some-has}
 use Rattle.enforcer.specs.Tick.{mayStand}
 use Rattle.enforcer.specs.Laid.{laid-well}
 use Rattle.enforcer.specs.WaysLaws.{row-stands}
@@ -14,7 +14,7 @@ reaches-requires c κs = search needs
 
 returns : tie.Need-returns
 unfolding mayStand
-returns c = sym (any-has _ _ 0 (pow-pos _) (sym (c .before .reaches .ensures) ∙ c .if1 .taken))
+returns c = sym (some-has _ _ 0 (pow-pos _) (sym (c .before .reaches .ensures) ∙ c .if1 .taken))
 
 row-requires : tie.Need-row-requires
 row-requires c κs = search needs

@@ -8,7 +8,7 @@ use borrow.Author.Needs.{needs}
 use borrow.Author.Tests.{le-leb, lt-leb, not-true, not-false}
 use Rattle.streams.specs.Answer.{unless}
 use Rattle.streams.specs.AnswerLaws.{first-refused}
-use Rattle.policy.specs.Check.{all}
+use Rattle.policy.specs.Check.{allPass}
 use Rattle.policy.specs.declared.Layout.{Layout}
 use Rattle.enforcer.specs.Entries.{eventGood, marksRefusal, stateRefusal, runRefusal, runOf}
 use Rattle.enforcer.specs.Laid.{laid-place, laid-sections}
@@ -49,7 +49,7 @@ none3 c = sym (c .before .state-refusal .ensures) ∙ c .if3 .left
 past : (c : tie.Else3) →
     let a = start (c .before .before .before .before) .args in
     runRefusal (a .reading) (now (a .file)) (now (a .marks)) (a .state) (now (a .events)) (now (a .out))
-    ≡ unless (all (eventGood (laidOut (c .before .before .before .before) .reading) (now (a .file))) (now (a .events))) 15
+    ≡ unless (allPass (eventGood (laidOut (c .before .before .before .before) .reading) (now (a .file))) (now (a .events))) 15
 past c =
     let l = c .before .before .before in
     run-past _ _ _ _ _ _ (laidOut (l .before)) (laid (l .before) .named) (none1 (l .before)) (l .if2 .left) (none3 c)

@@ -5,7 +5,7 @@ use lib.ListN.{getD}
 use borrow.Author.Needs.{needs}
 use borrow.Author.Tests.{not-true, not-false}
 use denote.Ref.{now}
-use Rattle.streams.specs.Choose.{any}
+use Rattle.streams.specs.Choose.{someBelow}
 use Rattle.policy.specs.File.{ruleFrom}
 use Rattle.choice.specs.Sets.{agreed}
 use Rattle.choice.specs.Outs.{outs}
@@ -60,7 +60,7 @@ is-left-requires c κs =
 left-so : (c : tie.After-is-left) →
     let a = c .before .before .before .before .before .before .before .before .before .args in
     let r = ruleFrom (a .layout .clocks) (now (a .file)) (a .at) in
-    c .is-left .result ≡ any (λ x. ltb 0 (agreed (r .inCare) (r .inValue) (outs (r .outCare) (r .outValue)) x (getD (now (a .left)) x 0))) (a .inputs)
+    c .is-left .result ≡ someBelow (λ x. ltb 0 (agreed (r .inCare) (r .inValue) (outs (r .outCare) (r .outValue)) x (getD (now (a .left)) x 0))) (a .inputs)
 unfolding ruleFrom
 left-so c =
     let d = c .before .before .before .before in

@@ -5,13 +5,13 @@ use native.Mathlib.Nat.{add-zero, sub-zero}
 use borrow.Author.Needs.{needs}
 use borrow.Author.Tests.{le-leb, lt-leb}
 use Rattle.policy.specs.File.{pairsFrom}
-use Rattle.policy.specs.Check.{all, ceilingGood}
+use Rattle.policy.specs.Check.{allPass, ceilingGood}
 use Rattle.policy.proofs.Laws.{ceilings-turn, ceilings-end}
 use Rattle.policy.proofs.sections.ceilings_good.Statement.{statement}
 use Rattle.policy.proofs.sections.ceilings_good.Tie as tie
 
 abbrev Inv-loop : tie.InvT-loop
-Inv-loop file at n i₀ i = (i ≤ n) × (all ceilingGood (pairsFrom file (at + 2 * i) (n - i)) ≡ all ceilingGood (pairsFrom file at n))
+Inv-loop file at n i₀ i = (i ≤ n) × (allPass ceilingGood (pairsFrom file (at + 2 * i) (n - i)) ≡ allPass ceilingGood (pairsFrom file at n))
 
 abbrev μ-loop : tie.MeasureT-loop
 μ-loop file at n i₀ i = n - i

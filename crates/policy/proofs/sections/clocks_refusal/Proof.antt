@@ -5,7 +5,7 @@ use native.Mathlib.Omega.{arith}
 use denote.Ref.{now}
 use borrow.Author.Needs.{needs}
 use Rattle.policy.specs.File.{clocksAt, clockCount, ceilingsOf}
-use Rattle.policy.specs.Check.{all, ceilingGood, sectionRefusal, clocksRefusal}
+use Rattle.policy.specs.Check.{allPass, ceilingGood, sectionRefusal, clocksRefusal}
 use Rattle.policy.specs.Frame.{section-fits}
 use Rattle.streams.specs.AnswerLaws.{first-refused}
 use Rattle.policy.proofs.sections.clocks_refusal.Statement.{statement}
@@ -18,7 +18,7 @@ counted : (c : tie.After-section-refusal) →
 counted c = cc
 
 judged : (c : tie.After-ceilings-good) →
-    c .ceilings-good .result ≡ all ceilingGood (ceilingsOf (now (c .before .before .before .before .before .args .file)))
+    c .ceilings-good .result ≡ allPass ceilingGood (ceilingsOf (now (c .before .before .before .before .before .args .file)))
 judged c = cc
 
 fits : (c : tie.Else1) → c .before .before .byte-at .result ≤ 4

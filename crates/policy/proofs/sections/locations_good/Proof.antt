@@ -4,13 +4,13 @@ use Prim.Native.Nat.{_-_, _≤_}
 use lib.ListN.{length, drop}
 use borrow.Author.Needs.{needs}
 use borrow.Author.Tests.{le-leb, lt-leb}
-use Rattle.policy.specs.Check.{all, locationGood}
+use Rattle.policy.specs.Check.{allPass, locationGood}
 use Rattle.policy.proofs.Laws.{all-turn, all-end}
 use Rattle.policy.proofs.sections.locations_good.Statement.{statement}
 use Rattle.policy.proofs.sections.locations_good.Tie as tie
 
 abbrev Inv-loop : tie.InvT-loop
-Inv-loop bytes i₀ i = (i ≤ length bytes) × (all locationGood (drop i bytes) ≡ all locationGood bytes)
+Inv-loop bytes i₀ i = (i ≤ length bytes) × (allPass locationGood (drop i bytes) ≡ allPass locationGood bytes)
 
 abbrev μ-loop : tie.MeasureT-loop
 μ-loop bytes i₀ i = length bytes - i

@@ -7,7 +7,7 @@ use lib.ListN.{length}
 use denote.Ref.{now}
 use borrow.Author.Needs.{needs}
 use Rattle.policy.specs.File.{locationsAt, locationCount, locationBytes}
-use Rattle.policy.specs.Check.{all, locationGood, sectionRefusal, locationsRefusal}
+use Rattle.policy.specs.Check.{allPass, locationGood, sectionRefusal, locationsRefusal}
 use Rattle.policy.specs.Frame.{section-fits}
 use Rattle.streams.specs.AnswerLaws.{first-refused}
 use Rattle.policy.proofs.sections.locations_refusal.Statement.{statement}
@@ -20,7 +20,7 @@ counted : (c : tie.After-section-refusal) →
 counted c = cc
 
 judged : (c : tie.After-locations-good) →
-    c .locations-good .result ≡ all locationGood (locationBytes (now (c .before .before .before .before .before .before .args .file)))
+    c .locations-good .result ≡ allPass locationGood (locationBytes (now (c .before .before .before .before .before .before .args .file)))
 judged c = c .locations-good .ensures ∙ rw add-sub-cancel-left (cc)
 
 fits : (c : tie.Else1) →

@@ -10,7 +10,7 @@ use borrow.Author.Needs.{needs}
 use borrow.Author.Tests.{lt-ltb, le-ltb}
 use Rattle.policy.specs.Rules.{inputValues, outputValues}
 use Rattle.policy.specs.File.{policyOf}
-use Rattle.policy.specs.Check.{all}
+use Rattle.policy.specs.Check.{allPass}
 use Rattle.policy.proofs.Laws.{all-turn, all-end}
 use Rattle.enforcer.specs.Entries.{eventGood}
 use Rattle.enforcer.specs.Laid.{laid-limits, laid-inputs, laid-outputs}
@@ -22,7 +22,7 @@ abbrev good : ℕ → ℕ → ℕ → Bool
 good inputs outputs b = ltb (b % 16) inputs && ltb (b / 16) outputs
 
 abbrev Inv-loop : tie.InvT-loop
-Inv-loop file events inputs outputs i₀ i = (i ≤ length events) × (all (good inputs outputs) events ≡ all (good inputs outputs) (drop i events))
+Inv-loop file events inputs outputs i₀ i = (i ≤ length events) × (allPass (good inputs outputs) events ≡ allPass (good inputs outputs) (drop i events))
 
 abbrev μ-loop : tie.MeasureT-loop
 μ-loop file events inputs outputs i₀ i = length events - i
@@ -37,7 +37,7 @@ counted c =
 
 good-is : (c : tie.After-values2 Inv-loop μ-loop) →
     let a = c .before .before .before .before .args in
-    all (good (c .before .values .result) (c .values2 .result)) (now (a .events)) ≡ all (eventGood (a .layout .reading) (now (a .file))) (now (a .events))
+    allPass (good (c .before .values .result) (c .values2 .result)) (now (a .events)) ≡ allPass (eventGood (a .layout .reading) (now (a .file))) (now (a .events))
 good-is c = rw (counted c .0, counted c .1)
 
 -- The events are good if the event i is and those after it are.
@@ -46,7 +46,7 @@ turn : (c : tie.In-loop Inv-loop μ-loop) →
     let a = v .before .before .before .before .args in
     let g = good (v .before .values .result) (v .values2 .result) in
     let i = c .before .loop .i in
-    all g (now (a .events)) ≡ (g (getD (now (a .events)) i 0) && all g (drop (i + 1) (now (a .events))))
+    allPass g (now (a .events)) ≡ (g (getD (now (a .events)) i 0) && allPass g (drop (i + 1) (now (a .events))))
 turn c = c .before .loop .inv .1 ∙ all-turn _ _ _ (c .loop-test .taken)
 
 values-requires : tie.Need-values-requires Inv-loop μ-loop

@@ -5,14 +5,14 @@ use lib.ListN.{length, getD, drop}
 use denote.Ref.{now}
 use borrow.Author.Needs.{needs}
 use borrow.Author.Tests.{lt-ltb, le-ltb}
-use Rattle.policy.specs.Check.{all}
+use Rattle.policy.specs.Check.{allPass}
 use Rattle.policy.proofs.Laws.{all-turn, all-end}
 use Rattle.waves.specs.BySignals.{goodFor, past-ones, within-ones}
 use Rattle.waves.proofs.writer.events_good.Statement.{statement}
 use Rattle.waves.proofs.writer.events_good.Tie as tie
 
 abbrev Inv-loop : tie.InvT-loop
-Inv-loop inputs outputs events x-last y-last i₀ i = (i ≤ length events) × (all (goodFor inputs outputs) events ≡ all (goodFor inputs outputs) (drop i events))
+Inv-loop inputs outputs events x-last y-last i₀ i = (i ≤ length events) × (allPass (goodFor inputs outputs) events ≡ allPass (goodFor inputs outputs) (drop i events))
 
 abbrev μ-loop : tie.MeasureT-loop
 μ-loop inputs outputs events x-last y-last i₀ i = length events - i
