@@ -2,6 +2,7 @@
 use crate::answer_word;
 ghost use Rattle.groovepawn.specs.Bays.{NewCall, BayInputCall, BayOutputCall};
 
+// Refusals: 25.
 #[no_mangle]
 pub extern "C" fn groovepawn_bays_new(states: &mut [u16]) -> u32
     ensures { λ r. ⌜ NewCall (now (states .entry)) r (now (states .exit)) ⌝ }
@@ -9,6 +10,7 @@ pub extern "C" fn groovepawn_bays_new(states: &mut [u16]) -> u32
     bays::bays_new(states) as u32
 }
 
+// Refusals: 22, 1 to 10, 24, 16, 15, 17.
 #[no_mangle]
 pub extern "C" fn groovepawn_bay_input(
     reading: u8,
@@ -23,6 +25,7 @@ pub extern "C" fn groovepawn_bay_input(
     answer_word(bays::bay_input(reading, file, marks, states, bay as usize, x))
 }
 
+// Refusals: 22, 1 to 10, 24, 16, 15, 17. With a refusal the list stays.
 #[no_mangle]
 pub extern "C" fn groovepawn_bay_output(
     reading: u8,

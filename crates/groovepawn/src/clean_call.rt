@@ -2,6 +2,7 @@
 use cleaning::Cleaned;
 ghost use Rattle.groovepawn.specs.Clean.{CleanCall};
 
+// Refusals: 22, 1 to 9, 14 for either slice.
 #[no_mangle]
 pub extern "C" fn groovepawn_clean(
     reading: u8,

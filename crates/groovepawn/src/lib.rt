@@ -84,6 +84,7 @@ fn lend(given: State, reading: u8, file: &[u8], marks: &[u8], x: u8, y: u8) -> O
     }
 }
 
+// Refusals: 22, 1 to 10, 11: with 11 the marks are written as with no refusal.
 #[no_mangle]
 pub extern "C" fn groovepawn_prepare(reading: u8, file: &[u8], marks: &mut [u8]) -> u64
     ensures { λ r. ⌜ PrepareCall reading (now (file .entry)) (now (marks .entry)) r (now (marks .exit)) ⌝ }
@@ -91,6 +92,7 @@ pub extern "C" fn groovepawn_prepare(reading: u8, file: &[u8], marks: &mut [u8])
     summary_word(prepare::prepare(reading, file, marks))
 }
 
+// Refusals: 22, 1 to 10, 16 (also for a state that is not five numbers), 15, 17.
 #[no_mangle]
 pub extern "C" fn groovepawn_input(
     reading: u8,
@@ -107,6 +109,7 @@ pub extern "C" fn groovepawn_input(
     answer_word(input_half(reading, file, marks, state_of(state), x))
 }
 
+// Refusals: 22, 1 to 10, 16, 15, 17. With a refusal the state stays.
 #[no_mangle]
 pub extern "C" fn groovepawn_output(
     reading: u8,
@@ -129,6 +132,7 @@ pub extern "C" fn groovepawn_output(
     answer_word(answer)
 }
 
+// Refusals: 22, 1 to 10, 14, 16, 15, 17. Only 17 leaves events released, and the state there.
 #[no_mangle]
 pub extern "C" fn groovepawn_run(
     reading: u8,
@@ -167,6 +171,7 @@ fn odd_indexed(reading: u8, file: &[u8], index: &[u16], marks: &[u8]) -> u8
     16
 }
 
+// Refusals: 1 to 9, 14.
 #[no_mangle]
 pub extern "C" fn groovepawn_index(file: &[u8], index: &mut [u16]) -> u32
     ensures { λ r. ⌜ IndexCall (now (file .entry)) (now (index .entry)) r (now (index .exit)) ⌝ }
@@ -174,6 +179,7 @@ pub extern "C" fn groovepawn_index(file: &[u8], index: &mut [u16]) -> u32
     build(file, index) as u32
 }
 
+// Refusals: 22, 1 to 9, 28, 10, 16, 15, 17.
 #[no_mangle]
 pub extern "C" fn groovepawn_input_indexed(
     reading: u8,
@@ -191,6 +197,7 @@ pub extern "C" fn groovepawn_input_indexed(
     answer_word(input_indexed(reading, file, index, marks, state_of(state), x))
 }
 
+// Refusals: 22, 1 to 9, 28, 10, 16, 15, 17. With a refusal the state stays.
 #[no_mangle]
 pub extern "C" fn groovepawn_output_indexed(
     reading: u8,
@@ -214,6 +221,7 @@ pub extern "C" fn groovepawn_output_indexed(
     answer_word(answer)
 }
 
+// Refusals: 1 to 9 of the first file, then of the second, 12, 13, 14.
 #[no_mangle]
 pub extern "C" fn groovepawn_join(a: &[u8], b: &[u8], out: &mut [u8]) -> u64
     ensures { λ r. ⌜ JoinCall (now (a .entry)) (now (b .entry)) (now (out .entry)) r (now (out .exit)) ⌝ }
@@ -224,6 +232,7 @@ pub extern "C" fn groovepawn_join(a: &[u8], b: &[u8], out: &mut [u8]) -> u64
     }
 }
 
+// Refusals: 18, 19.
 #[no_mangle]
 pub extern "C" fn groovepawn_ticks(milliseconds: u32, tick_length: u32, up: u8) -> u32
     ensures { λ r. ⌜ TicksCall milliseconds «tick_length» up r ⌝ }

@@ -2,6 +2,7 @@
 use crate::answer_word;
 ghost use Rattle.groovepawn.specs.Meter.{MeterNewCall, MeterInputCall, MeterOutputCall};
 
+// Refusals: 14.
 #[no_mangle]
 pub extern "C" fn groovepawn_meter_new(
     station: &mut [u16],
@@ -13,6 +14,7 @@ pub extern "C" fn groovepawn_meter_new(
     meter::meter_new(station, totals, reading_of_register) as u32
 }
 
+// Refusals: 22, 1 to 9, 26, 10, 16, 15, 17.
 #[no_mangle]
 pub extern "C" fn groovepawn_meter_input(
     reading: u8,
@@ -27,6 +29,7 @@ pub extern "C" fn groovepawn_meter_input(
     answer_word(meter::meter_input(reading, file, marks, station, reading_of_register, x))
 }
 
+// Refusals: 22, 1 to 9, 26, 10, 14, 16, 15, 17, 27. With a refusal both slices stay.
 #[no_mangle]
 pub extern "C" fn groovepawn_meter_output(
     reading: u8,

@@ -2,6 +2,7 @@
 use crate::summary_word;
 ghost use Rattle.groovepawn.specs.Fast.{FastCall};
 
+// Refusals: 22, 1 to 10, 23, 11: with 11 the marks are written as with no refusal.
 #[no_mangle]
 pub extern "C" fn groovepawn_prepare_fast(
     reading: u8,

@@ -3,6 +3,7 @@ use waves::Taken;
 use waves::Written;
 ghost use Rattle.groovepawn.specs.Waves.{WaveWriteCall, WaveReadCall};
 
+// Refusals: 1 to 9, 29, 15, 14.
 #[no_mangle]
 pub extern "C" fn groovepawn_wave_write(file: &[u8], events: &[u8], text: &mut [u8]) -> u64
     ensures { λ r. ⌜ WaveWriteCall (now (file .entry)) (now (events .entry)) (now (text .entry)) r (now (text .exit)) ⌝ }
@@ -13,6 +14,7 @@ pub extern "C" fn groovepawn_wave_write(file: &[u8], events: &[u8], text: &mut [
     }
 }
 
+// Refusals: 1 to 9, 21, 14.
 #[no_mangle]
 pub extern "C" fn groovepawn_wave_read(file: &[u8], text: &[u8], events: &mut [u8]) -> u64
     ensures { λ r. ⌜ WaveReadCall (now (file .entry)) (now (text .entry)) (now (events .entry)) r (now (events .exit)) ⌝ }

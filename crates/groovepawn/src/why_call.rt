@@ -12,6 +12,7 @@ use reasons::word;
 ghost use mathlib.Core.Path.{_≡_};
 ghost use Rattle.groovepawn.specs.Why.{WhyCall, oddWhyRun, WhyRunCall};
 
+// Refusals: 22, 1 to 10, 16, 20, 15, 17.
 #[no_mangle]
 pub extern "C" fn groovepawn_why(
     reading: u8,
