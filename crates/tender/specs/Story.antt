@@ -48,38 +48,38 @@ quiet c = record { register = c % 65536; x = 0; y = 0 }
 abbrev pub credit : ℕ → Read
 credit c = record { register = c % 65536; x = 0; y = 2 }
 
-module _ (reading : ℕ) (named : readingRefusal reading ≡ 0) (rest : List ℕ) where
+module _ (reading : ℕ) (named : readingRefusal reading ≡ 0) (rest past more : List ℕ) where
   flows : (c b u : ℕ) (ds : List ℕ) → Flows ds → b + sum ds ≤ 4294967295 → {ts : List Read} {es rs : Stream} {last ends : List ℕ} →
-      MeterTicks reading Transfer (live rest) (stands 0 ((c + sum ds) % 65536)) ((b + sum ds) ∷ u ∷ []) ts es rs last ends →
-      MeterTicks reading Transfer (live rest) (stands 0 (c % 65536)) (b ∷ u ∷ []) (transferReads c ds ++ ts)
+      MeterTicks reading Transfer (live rest) (stands past 0 ((c + sum ds) % 65536)) ((b + sum ds) ∷ u ∷ more) ts es rs last ends →
+      MeterTicks reading Transfer (live rest) (stands past 0 (c % 65536)) (b ∷ u ∷ more) (transferReads c ds ++ ts)
       (replicate (length ds) (event 1 1) ++ es) (replicate (length ds) (event 1 1) ++ rs) last ends
   unfolding sum Flows transferReads
   flows c b u [] f l {ts} {es} {rs} {last} {ends} h =
       let k : c + 0 ≡ c = omega arith in
       let m : b + 0 ≡ b = omega arith in
-      subst (λ (n : ℕ). MeterTicks reading Transfer (live rest) (stands 0 (n % 65536)) (b ∷ u ∷ []) ts es rs last ends) k
-      (subst (λ (n : ℕ). MeterTicks reading Transfer (live rest) (stands 0 ((c + 0) % 65536)) (n ∷ u ∷ []) ts es rs last ends) m h)
+      subst (λ (n : ℕ). MeterTicks reading Transfer (live rest) (stands past 0 (n % 65536)) (b ∷ u ∷ more) ts es rs last ends) k
+      (subst (λ (n : ℕ). MeterTicks reading Transfer (live rest) (stands past 0 ((c + 0) % 65536)) (n ∷ u ∷ more) ts es rs last ends) m h)
   flows c b u (d ∷ ds) f l {ts} {es} {rs} {last} {ends} h =
       let k : c + (d + sum ds) ≡ c + d + sum ds = omega arith in
       let m : b + (d + sum ds) ≡ b + d + sum ds = omega arith in
-      transfer-tick reading named rest c d b u (f .0) (f .1) (omega arith)
+      transfer-tick reading named rest past more c d b u (f .0) (f .1) (omega arith)
       (flows (c + d) (b + d) u ds (f .2) (omega arith)
-      (subst (λ (n : ℕ). MeterTicks reading Transfer (live rest) (stands 0 (n % 65536)) ((b + d + sum ds) ∷ u ∷ []) ts es rs last ends) k
-      (subst (λ (n : ℕ). MeterTicks reading Transfer (live rest) (stands 0 ((c + (d + sum ds)) % 65536)) (n ∷ u ∷ []) ts es rs last ends) m h)))
+      (subst (λ (n : ℕ). MeterTicks reading Transfer (live rest) (stands past 0 (n % 65536)) ((b + d + sum ds) ∷ u ∷ more) ts es rs last ends) k
+      (subst (λ (n : ℕ). MeterTicks reading Transfer (live rest) (stands past 0 ((c + (d + sum ds)) % 65536)) (n ∷ u ∷ more) ts es rs last ends) m h)))
 
   rests : (n c b u : ℕ) → u ≤ 4294967295 → {ts : List Read} {es rs : Stream} {last ends : List ℕ} →
-      MeterTicks reading Transfer (live rest) (stands 3 (c % 65536)) (b ∷ u ∷ []) ts es rs last ends →
-      MeterTicks reading Transfer (live rest) (stands 3 (c % 65536)) (b ∷ u ∷ []) (replicate n (quiet c) ++ ts)
+      MeterTicks reading Transfer (live rest) (stands past 3 (c % 65536)) (b ∷ u ∷ more) ts es rs last ends →
+      MeterTicks reading Transfer (live rest) (stands past 3 (c % 65536)) (b ∷ u ∷ more) (replicate n (quiet c) ++ ts)
       (replicate n (event 0 0) ++ es) (replicate n (event 0 0) ++ rs) last ends
   rests zero c b u l h = h
-  rests (suc n) c b u l h = quiet-tick reading named rest (quiet-3 reading named) c b u l (rests n c b u l h)
+  rests (suc n) c b u l h = quiet-tick reading named rest past more (quiet-3 reading named) c b u l (rests n c b u l h)
 
   -- From the start, with the count c at first: the transfer, three quiet ticks or more, and the stale credit, which does not pass. All pulses are billed.
   told : (c : ℕ) (ds : List ℕ) → Flows ds → sum ds ≤ 4294967295 → (n : ℕ) → 3 ≤ n →
-      MeterTicks reading Transfer (live rest) (stands 0 (c % 65536)) (0 ∷ 0 ∷ []) (transferReads c ds ++ (replicate n (quiet (c + sum ds)) ++ (credit (c + sum ds) ∷ [])))
+      MeterTicks reading Transfer (live rest) (stands past 0 (c % 65536)) (0 ∷ 0 ∷ more) (transferReads c ds ++ (replicate n (quiet (c + sum ds)) ++ (credit (c + sum ds) ∷ [])))
       (replicate (length ds) (event 1 1) ++ (replicate n (event 0 0) ++ (event 0 2 ∷ [])))
       (replicate (length ds) (event 1 1) ++ (replicate n (event 0 0) ++ (event 0 0 ∷ [])))
-      (stands 3 ((c + sum ds) % 65536)) (sum ds ∷ 0 ∷ [])
+      (stands past 3 ((c + sum ds) % 65536)) (sum ds ∷ 0 ∷ more)
   told c ds f l zero k = absurd (omega arith)
   told c ds f l (suc zero) k = absurd (omega arith)
   told c ds f l (suc (suc zero)) k = absurd (omega arith)
@@ -89,13 +89,13 @@ module _ (reading : ℕ) (named : readingRefusal reading ≡ 0) (rest : List ℕ
       let u : 0 ≤ 4294967295 = omega arith in
       let b = sum ds in
       flows c 0 0 ds f (omega arith)
-      (subst (λ (m : ℕ). MeterTicks reading Transfer (live rest) (stands 0 (e % 65536)) (m ∷ 0 ∷ []) (replicate (suc (suc (suc n))) (quiet e) ++ (credit e ∷ []))
+      (subst (λ (m : ℕ). MeterTicks reading Transfer (live rest) (stands past 0 (e % 65536)) (m ∷ 0 ∷ more) (replicate (suc (suc (suc n))) (quiet e) ++ (credit e ∷ []))
       (replicate (suc (suc (suc n))) (event 0 0) ++ (event 0 2 ∷ [])) (replicate (suc (suc (suc n))) (event 0 0) ++ (event 0 0 ∷ []))
-      (stands 3 (e % 65536)) (b ∷ 0 ∷ [])) z
-      (quiet-tick reading named rest (quiet-0 reading named) e b 0 u
-      (quiet-tick reading named rest (quiet-1 reading named) e b 0 u
-      (quiet-tick reading named rest (quiet-2 reading named) e b 0 u
-      (rests n e b 0 u (quiet-tick reading named rest (stale reading named) e b 0 u meter-none))))))
+      (stands past 3 (e % 65536)) (b ∷ 0 ∷ more)) z
+      (quiet-tick reading named rest past more (quiet-0 reading named) e b 0 u
+      (quiet-tick reading named rest past more (quiet-1 reading named) e b 0 u
+      (quiet-tick reading named rest past more (quiet-2 reading named) e b 0 u
+      (rests n e b 0 u (quiet-tick reading named rest past more (stale reading named) e b 0 u meter-none))))))
 
 -- The whole story, over the promises of the code: after prepare's code gave a summary, from a station that meter_new's code set up with the count c at
 -- first, whatever the transfer is that has no more than 4,294,967,295 pulses. The ticks are those that the code's halves answer, the stream is demand 2's,
@@ -105,7 +105,7 @@ pub record Story (reading : ℕ) (marks fresh zeros : List ℕ) (c : ℕ) (ds : 
   pub ticks : MeterTicks reading Transfer marks fresh zeros (transferReads c ds ++ (replicate n (quiet (c + sum ds)) ++ (credit (c + sum ds) ∷ [])))
       (replicate (length ds) (event 1 1) ++ (replicate n (event 0 0) ++ (event 0 2 ∷ [])))
       (replicate (length ds) (event 1 1) ++ (replicate n (event 0 0) ++ (event 0 0 ∷ [])))
-      last (sum ds ∷ 0 ∷ [])
+      last (sum ds ∷ 0 ∷ drop 2 zeros)
   pub enforced :
       TicksReleased (policyOf reading Transfer) (replicate (length ds) (event 1 1) ++ (replicate n (event 0 0) ++ (event 0 2 ∷ [])))
       (replicate (length ds) (event 1 1) ++ (replicate n (event 0 0) ++ (event 0 0 ∷ []))) (stationState last)
@@ -129,11 +129,11 @@ module _ {reading : ℕ} {lent marks : List ℕ} {s : Summary} (h : PreparePromi
   unfolding newRefusal
   set-up = none-unless _ 13 .0 (sym (new .said))
 
-  placed : fresh ≡ stands 0 (c % 65536)
+  placed : fresh ≡ stands (drop 6 before) 0 (c % 65536)
   unfolding newStation
   placed = new .placed ∙ rw set-up
 
-  cleared : zeros ≡ 0 ∷ 0 ∷ []
+  cleared : zeros ≡ 0 ∷ 0 ∷ drop 2 totals
   unfolding newTotals
   cleared = new .cleared ∙ rw set-up
 
@@ -142,12 +142,12 @@ module _ {reading : ℕ} {lent marks : List ℕ} {s : Summary} (h : PreparePromi
       let reads = transferReads c ds ++ (replicate n (quiet (c + sum ds)) ++ (credit (c + sum ds) ∷ [])) in
       let es = replicate (length ds) (event 1 1) ++ (replicate n (event 0 0) ++ (event 0 2 ∷ [])) in
       let rs = replicate (length ds) (event 1 1) ++ (replicate n (event 0 0) ++ (event 0 0 ∷ [])) in
-      let last = stands 3 ((c + sum ds) % 65536) in
-      let t : MeterTicks reading Transfer marks fresh zeros reads es rs last (sum ds ∷ 0 ∷ []) =
-      subst (λ (m : List ℕ). MeterTicks reading Transfer m fresh zeros reads es rs last (sum ds ∷ 0 ∷ [])) (sym marked)
-      (subst (λ (z : List ℕ). MeterTicks reading Transfer (live (drop 4 lent)) fresh z reads es rs last (sum ds ∷ 0 ∷ [])) (sym cleared)
-      (subst (λ (z : List ℕ). MeterTicks reading Transfer (live (drop 4 lent)) z (0 ∷ 0 ∷ []) reads es rs last (sum ds ∷ 0 ∷ [])) (sym placed)
-      (told reading named (drop 4 lent) c ds f l n k)))
+      let last = stands (drop 6 before) 3 ((c + sum ds) % 65536) in
+      let t : MeterTicks reading Transfer marks fresh zeros reads es rs last (sum ds ∷ 0 ∷ drop 2 zeros) =
+      subst (λ (m : List ℕ). MeterTicks reading Transfer m fresh zeros reads es rs last (sum ds ∷ 0 ∷ drop 2 zeros)) (sym marked)
+      (subst (λ (z : List ℕ). MeterTicks reading Transfer (live (drop 4 lent)) fresh z reads es rs last (sum ds ∷ 0 ∷ drop 2 z)) (sym cleared)
+      (subst (λ (z : List ℕ). MeterTicks reading Transfer (live (drop 4 lent)) z (0 ∷ 0 ∷ drop 2 totals) reads es rs last (sum ds ∷ 0 ∷ drop 2 totals)) (sym placed)
+      (told reading named (drop 4 lent) (drop 6 before) (drop 2 totals) c ds f l n k)))
       in
       record { last = last; ticks = t; enforced = meter-release h new t }
 

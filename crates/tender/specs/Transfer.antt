@@ -1,25 +1,27 @@
 -- The policy of a transfer with a meter: "credit K only while the clock is at most 2", where a pulse of the meter starts the clock anew; and the ticks of a station with it.
 use mathlib.Core.Path.{_≡_, refl, sym, ap, ap₂, subst, _∙_}
 use mathlib.Core.Bool.{true, false}
-use mathlib.Core.List.{List, [], _∷_}
+use mathlib.Core.List.{List, [], _∷_, _++_}
 use mathlib.Core.Option.{some}
 use Prim.Native.Nat.{ℕ, _+_, _-_, _%_, _≤_, _<_}
 use native.Mathlib.Omega.{arith}
+use lib.ListN.{length}
 use borrow.Author.Tests.{le-leb, ne-eqb}
 use Rattle.streams.specs.Answer.{gives}
 use Rattle.streams.specs.Stream.{Event, Stream}
 use Rattle.policy.specs.Number.{states, numberOf, statesOf}
-use Rattle.policy.specs.File.{policyOf, byteAt}
+use Rattle.policy.specs.File.{policyOf}
 use Rattle.policy.specs.Check.{readingRefusal, refusalUnder, refusalOf, allPass}
 use Rattle.policy.specs.CheckLaws.{under-none}
+use Rattle.policy.specs.Signals.{weightOf, inputWeight, outputWeight, own-input}
 use Rattle.enforcer.specs.State.{placeIn, stateOf, stateGood, isMarked}
 use Rattle.enforcer.specs.States.{marks-granted, state-granted}
 use Rattle.enforcer.specs.Tick.{outputTick, inputChoice}
 use Rattle.enforcer.specs.Entries.{OutputAnswer, marksRefusal, xGood, yGood, inputOf, outputOf}
 use Rattle.prepare.specs.Table.{marksOf}
-use Rattle.meter.specs.Meter.{stationWords, pulsesOf, weightOf, withPulse, isOn, risen, fits}
+use Rattle.bays.specs.Five.{stateWords}
+use Rattle.meter.specs.Meter.{pulsesOf, withPulse, isOn, risen, fits}
 use Rattle.meter.specs.Entries.{tagP, tagD, settled, metered, meterInputOf, meterOutputOf}
-use Rattle.meter.specs.Signals.{weightAt, own-P}
 use Rattle.meter.specs.There.{input-there, output-there}
 use Rattle.meter.specs.Sums.{advance as pulses-advance}
 use Rattle.tender.specs.Granted.{each-reading, entryRefusal, input-answer, output-answer}
@@ -129,52 +131,54 @@ more-by {reading} {file} {marks} {station} {totals} {last = last} {ends = ends} 
     (meter-more (record { said = sym i }) (record { said = sym o }) h)
 
 -- The weights of P and D in this policy, and the signals that are there.
-weight-P : weightAt Transfer 0 tagP ≡ 1
-unfolding weightOf
+weight-P : inputWeight Transfer tagP ≡ 1
+unfolding weightOf inputWeight
 weight-P = refl
 
-weight-D : weightAt Transfer (1 + byteAt Transfer 0) tagD ≡ 1
-unfolding weightOf
+weight-D : outputWeight Transfer tagD ≡ 1
+unfolding weightOf outputWeight the-file
 weight-D = refl
 
-has-P : weightAt Transfer 0 tagP ≡ 0 → ⊥
+has-P : inputWeight Transfer tagP ≡ 0 → ⊥
 has-P z = let w = weight-P in omega arith
 
-has-D : weightAt Transfer (1 + byteAt Transfer 0) tagD ≡ 0 → ⊥
+has-D : outputWeight Transfer tagD ≡ 0 → ⊥
 has-D z = let w = weight-D in omega arith
 
 abbrev pub event : ℕ → ℕ → Event
 event x y = record { x = x; y = y }
 
--- The station with the clock at v and the last reading, and what the two halves of its tick answer.
-abbrev pub stands : ℕ → ℕ → List ℕ
-stands v last = stationWords (stateOf (clockAt v)) last
+-- The station with the clock at v and the last reading, and what the two halves of its tick answer. The slices may be longer: `past` and `more` stand after
+-- the station and after the totals.
+abbrev pub stands : List ℕ → ℕ → ℕ → List ℕ
+stands past v last = stateWords (stateOf (clockAt v)) ++ (last ∷ past)
 
-module _ (reading : ℕ) (named : readingRefusal reading ≡ 0) (rest : List ℕ) where
+module _ (reading : ℕ) (named : readingRefusal reading ≡ 0) (rest past more : List ℕ) where
   -- The first half, with P set or cleared as x says.
   first-half : {v x y y' v' : ℕ} → StoryGoes reading v x y y' v' → (register last : ℕ) → withPulse 1 (pulsesOf register last) 0 ≡ x →
-      meterInputOf reading Transfer (live rest) (stands v last) register 0 ≡ gives x
+      meterInputOf reading Transfer (live rest) (stands past v last) register 0 ≡ gives x
   first-half {v} {x} g register last e =
-      input-there reading Transfer (live rest) (stands v last) has-P has-D register 0 refl
+      input-there reading Transfer (live rest) (stands past v last) has-P has-D register 0 (le-leb 6 (length (stands past v last)) (omega arith))
       ∙ ap (inputOf reading Transfer (live rest) (stateOf (clockAt v)))
       (ap (λ (w : ℕ). withPulse w (pulsesOf register last) 0) weight-P ∙ e)
       ∙ g .input rest
 
   -- The second half, where the total has room.
   second-half : {v x y y' v' : ℕ} → StoryGoes reading v x y y' v' → (register last b u : ℕ) →
-      fits (b ∷ u ∷ []) (isOn 1 y') (pulsesOf register last) ≡ true →
-      meterOutputOf reading Transfer (live rest) (stands v last) (b ∷ u ∷ []) register x y
-      ≡ record { answer = gives y'; station = stands v' register; totals = risen (b ∷ u ∷ []) (isOn 1 y') (pulsesOf register last) }
+      fits (b ∷ u ∷ more) (isOn 1 y') (pulsesOf register last) ≡ true →
+      meterOutputOf reading Transfer (live rest) (stands past v last) (b ∷ u ∷ more) register x y
+      ≡ record { answer = gives y'; station = stands past v' register; totals = risen (b ∷ u ∷ more) (isOn 1 y') (pulsesOf register last) }
   unfolding settled
   second-half {v} {x} {y} {y'} {v'} g register last b u f =
-      output-there reading Transfer (live rest) (stands v last) has-P has-D (b ∷ u ∷ []) register x y refl
-      ∙ ap₂ (λ (w : ℕ) (o : OutputAnswer). metered (stands v last) (b ∷ u ∷ []) register w (o .state) (o .answer)) weight-D (g .output rest)
+      output-there reading Transfer (live rest) (stands past v last) has-P has-D (b ∷ u ∷ more) register x y
+      (rw (le-leb 6 (length (stands past v last)) (omega arith), le-leb 2 (length (b ∷ u ∷ more)) (omega arith)))
+      ∙ ap₂ (λ (w : ℕ) (o : OutputAnswer). metered (stands past v last) (b ∷ u ∷ more) register w (o .state) (o .answer)) weight-D (g .output rest)
       ∙ rw f
 
   event-P : (v register last y : ℕ) {x : ℕ} → withPulse 1 (pulsesOf register last) 0 ≡ x →
-      eventRead reading Transfer (stands v last) (record { register = register; x = 0; y = y }) ≡ record { x = x; y = y }
+      eventRead reading Transfer (stands past v last) (record { register = register; x = 0; y = y }) ≡ record { x = x; y = y }
   event-P v register last y e =
-      ap (λ (w : ℕ). record { x = withPulse w (pulsesOf register last) 0; y = y }) (sym (own-P reading Transfer (passed reading named)) ∙ weight-P)
+      ap (λ (w : ℕ). record { x = withPulse w (pulsesOf register last) 0; y = y }) (sym (own-input reading Transfer (passed reading named) tagP) ∙ weight-P)
       ∙ ap (λ (x : ℕ). record { x = x; y = y }) e
 
   still : (c : ℕ) → pulsesOf (c % 65536) (c % 65536) ≡ 0
@@ -183,33 +187,33 @@ module _ (reading : ℕ) (named : readingRefusal reading ≡ 0) (rest : List ℕ
   -- A quiet tick: no pulses, and the totals stay.
   pub quiet-tick : {v v' y : ℕ} → StoryGoes reading v 0 y 0 v' → (c b u : ℕ) → u ≤ 4294967295 →
       {ts : List Read} {es rs : Stream} {last ends : List ℕ} →
-      MeterTicks reading Transfer (live rest) (stands v' (c % 65536)) (b ∷ u ∷ []) ts es rs last ends →
-      MeterTicks reading Transfer (live rest) (stands v (c % 65536)) (b ∷ u ∷ []) (record { register = c % 65536; x = 0; y = y } ∷ ts)
+      MeterTicks reading Transfer (live rest) (stands past v' (c % 65536)) (b ∷ u ∷ more) ts es rs last ends →
+      MeterTicks reading Transfer (live rest) (stands past v (c % 65536)) (b ∷ u ∷ more) (record { register = c % 65536; x = 0; y = y } ∷ ts)
       (record { x = 0; y = y } ∷ es) (record { x = 0; y = 0 } ∷ rs) last ends
   unfolding withPulse risen fits
   quiet-tick {v} {v'} {y} g c b u l h =
       let e : withPulse 1 (pulsesOf (c % 65536) (c % 65536)) 0 ≡ 0 = ap (λ (n : ℕ). withPulse 1 n 0) (still c) in
-      let f : fits (b ∷ u ∷ []) false (pulsesOf (c % 65536) (c % 65536)) ≡ true =
-      ap (λ (n : ℕ). fits (b ∷ u ∷ []) false n) (still c) ∙ le-leb (u + 0) 4294967295 (omega arith)
+      let f : fits (b ∷ u ∷ more) false (pulsesOf (c % 65536) (c % 65536)) ≡ true =
+      ap (λ (n : ℕ). fits (b ∷ u ∷ more) false n) (still c) ∙ le-leb (u + 0) 4294967295 (omega arith)
       in
       let z : u + pulsesOf (c % 65536) (c % 65536) ≡ u = let q = still c in omega arith in
       more-by (event-P v (c % 65536) (c % 65536) y e) (first-half g (c % 65536) (c % 65536) e)
       (second-half g (c % 65536) (c % 65536) b u f
-      ∙ ap (λ (n : ℕ). record { answer = gives 0; station = stands v' (c % 65536); totals = b ∷ n ∷ [] }) z) h
+      ∙ ap (λ (n : ℕ). record { answer = gives 0; station = stands past v' (c % 65536); totals = b ∷ n ∷ more }) z) h
 
   -- A tick of the transfer: d pulses, billed.
   pub transfer-tick : (c d b u : ℕ) → 0 < d → d < 65536 → b + d ≤ 4294967295 →
       {ts : List Read} {es rs : Stream} {last ends : List ℕ} →
-      MeterTicks reading Transfer (live rest) (stands 0 ((c + d) % 65536)) ((b + d) ∷ u ∷ []) ts es rs last ends →
-      MeterTicks reading Transfer (live rest) (stands 0 (c % 65536)) (b ∷ u ∷ []) (record { register = (c + d) % 65536; x = 0; y = 1 } ∷ ts)
+      MeterTicks reading Transfer (live rest) (stands past 0 ((c + d) % 65536)) ((b + d) ∷ u ∷ more) ts es rs last ends →
+      MeterTicks reading Transfer (live rest) (stands past 0 (c % 65536)) (b ∷ u ∷ more) (record { register = (c + d) % 65536; x = 0; y = 1 } ∷ ts)
       (record { x = 1; y = 1 } ∷ es) (record { x = 1; y = 1 } ∷ rs) last ends
   unfolding withPulse risen fits
   transfer-tick c d b u p k l h =
       let q : pulsesOf ((c + d) % 65536) (c % 65536) ≡ d = let a = pulses-advance c (c + d) (omega arith) (omega arith) in omega arith in
       let e : withPulse 1 (pulsesOf ((c + d) % 65536) (c % 65536)) 0 ≡ 1 = rw (q, ne-eqb d 0 (λ z. omega arith)) in
-      let f : fits (b ∷ u ∷ []) true (pulsesOf ((c + d) % 65536) (c % 65536)) ≡ true =
-      ap (λ (n : ℕ). fits (b ∷ u ∷ []) true n) q ∙ le-leb (b + d) 4294967295 l
+      let f : fits (b ∷ u ∷ more) true (pulsesOf ((c + d) % 65536) (c % 65536)) ≡ true =
+      ap (λ (n : ℕ). fits (b ∷ u ∷ more) true n) q ∙ le-leb (b + d) 4294967295 l
       in
       more-by (event-P 0 ((c + d) % 65536) (c % 65536) 1 e) (first-half (transfers reading named) ((c + d) % 65536) (c % 65536) e)
       (second-half (transfers reading named) ((c + d) % 65536) (c % 65536) b u f
-      ∙ ap (λ (n : ℕ). record { answer = gives 1; station = stands 0 ((c + d) % 65536); totals = (b + n) ∷ u ∷ [] }) q) h
+      ∙ ap (λ (n : ℕ). record { answer = gives 1; station = stands past 0 ((c + d) % 65536); totals = (b + n) ∷ u ∷ more }) q) h
