@@ -20,8 +20,8 @@
  *   event   one byte: input x in the low four bits, output y in the high four
  *   text    a wave: a Value Change Dump (IEEE 1364) of a stream. 508,119 bytes are always enough
  *   states  a list of bays: five numbers for each of 1 to 8 bays, one bay after the other
- *   station six numbers of 16 bits: a state, then the meter's register as last accepted
- *   totals  two numbers of 32 bits: the pulses billed, the pulses not billed
+ *   station six numbers of 16 bits or more: a state, then the meter's register as last accepted; what stands past them stays
+ *   totals  two numbers of 32 bits or more: the pulses billed, the pulses not billed; what stands past them stays
  *   work    scratch of the second engine: one number of 16 bits for each state, 65,536 are always enough
  *   index   128 numbers: for each of 64 locations the number of its first rule, counted from 0, and how many rules it has
  *
@@ -104,7 +104,7 @@ enum groovepawn_refusal {
     GROOVEPAWN_REFUSED_HOPELESS = 11,         /* the start is not live */
     GROOVEPAWN_REFUSED_OTHER_SIGNALS = 12,    /* two policies differ in signal tags or their order */
     GROOVEPAWN_REFUSED_JOIN_TOO_LARGE = 13,   /* a join has over 64 locations, 4 clocks, 256 rules or 65,536 states */
-    GROOVEPAWN_REFUSED_SLICE_SHORT = 14,      /* the slice to be written is too short; of a meter, station or totals are not six and two numbers */
+    GROOVEPAWN_REFUSED_SLICE_SHORT = 14,      /* the slice to be written is too short */
     GROOVEPAWN_REFUSED_BEYOND_SIGNALS = 15,   /* an event, x or y has a bit beyond its signals */
     GROOVEPAWN_REFUSED_STATE = 16,            /* a state is not five numbers, has a location or clock value out of range, an unused clock not 0, or */
                                               /* a mark other than 1 */
@@ -292,7 +292,7 @@ uint32_t groovepawn_bay_output(uint8_t reading, const uint8_t *file, size_t file
 
 /*
  * Sets up a station with a meter: its state is the start, the first reading of the meter's register is given, and both totals are 0.
- * Refusals: 14 if station is not six numbers or totals is not two; both are then left as given. Stack: none. Returns the refusal.
+ * Refusals: 14 if station has fewer than six numbers or totals fewer than two; both are then left as given. Stack: none. Returns the refusal.
  */
 GROOVEPAWN_LOOK_AT_ANSWER
 uint32_t groovepawn_meter_new(uint16_t *station, size_t station_len, uint32_t *totals, size_t totals_len, uint16_t reading_of_register);
@@ -300,11 +300,11 @@ uint32_t groovepawn_meter_new(uint16_t *station, size_t station_len, uint32_t *t
 /*
  * The halves of a tick of a station with a meter. The pulses of the tick are this register less the last accepted one, modulo 65,536.
  * groovepawn_meter_input sets the input P in x exactly when pulses is not 0, clears it otherwise, and then is groovepawn_input.
- * Refusals in this order: 22, 1 to 9, 26, 10, 16 (also for a station that is not six numbers), 15, 17. Stack: 1,424 bytes.
+ * Refusals in this order: 22, 1 to 9, 26, 10, 16 (also for a station of fewer than six numbers), 15, 17. Stack: 1,424 bytes.
  * Returns refusal | x' << 8. Nothing is written.
  * groovepawn_meter_output takes the same register, that x' and the controller's answer y, and is groovepawn_output; then it adds the pulses to the
  * first total if the output D is on in the y' released, else to the second, and keeps the register.
- * Refusals in this order: 22, 1 to 9, 26, 10, 14 (totals is not two), 16 (as above), 15, 17, 27. Stack: 1,456 bytes.
+ * Refusals in this order: 22, 1 to 9, 26, 10, 14 (fewer than six numbers, or fewer than two totals), 16, 15, 17, 27. Stack: 1,456 bytes.
  * Returns refusal | y' << 8. With a refusal station and totals stay as given.
  */
 GROOVEPAWN_LOOK_AT_ANSWER
