@@ -23,8 +23,8 @@ use Rattle.enforcer.specs.Decided.{ruleSaid, Decided}
 use Rattle.enforcer.specs.declared.state.State.{State}
 use Rattle.enforcer.specs.declared.reach.Here.{Here}
 use Rattle.enforcer.specs.declared.next.Step.{Step}
-use Rattle.enforcer.specs.declared.matcher.Found.{Found}
-use Rattle.enforcer.specs.declared.matcher.Found.the-variants as Found
+use Rattle.enforcer.specs.declared.next.DecidedBy.{DecidedBy}
+use Rattle.enforcer.specs.declared.next.DecidedBy.the-variants as DecidedBy
 use Rattle.enforcer.specs.Decider.{decider-lt, decider-decides}
 
 -- A violation takes the state nowhere.
@@ -33,13 +33,13 @@ unfolding taken
 taken-violation p s r e = rw (eq-eqb _ _ e)
 
 -- A rule that is found is found at one place.
-is-rule : Found → Bool
-is-rule (Found.Rule at) = true
-is-rule Found.Nothing = false
+is-rule : DecidedBy → Bool
+is-rule (DecidedBy.At at) = true
+is-rule DecidedBy.Nothing = false
 
-rule-place : Found → ℕ
-rule-place (Found.Rule at) = at
-rule-place Found.Nothing = 0
+rule-place : DecidedBy → ℕ
+rule-place (DecidedBy.At at) = at
+rule-place DecidedBy.Nothing = 0
 
 module _ {f : List ℕ} {l : Layout} (k : Laid f l) where
   module _ {h : Here} (s : State) (e : Event) (g : HereOf f l s h) where
@@ -61,11 +61,11 @@ module _ {f : List ℕ} {l : Layout} (k : Laid f l) where
         ∙ ap (λ (rs : List Rule). decides rs v e) (own-here k (s .location) (g .own))
         ∙ decides-own v e (well-rising (policyOf (l .reading) f) (laid-well k))
 
-    pub decided-none : none ≡ found → Decided f l s e Found.Nothing
+    pub decided-none : none ≡ found → Decided f l s e DecidedBy.Nothing
     unfolding is-rule
     decided-none p = record { says = rw (sym p) at own-decides; stands = λ at q. absurd (false≢true (ap is-rule q)) }
 
-    pub decided-rule : (i : ℕ) → some i ≡ found → Decided f l s e (Found.Rule (from + i * ruleSize (l .clocks)))
+    pub decided-rule : (i : ℕ) → some i ≡ found → Decided f l s e (DecidedBy.At (from + i * ruleSize (l .clocks)))
     unfolding rule-place
     decided-rule i p =
         record {
@@ -75,18 +75,18 @@ module _ {f : List ℕ} {l : Layout} (k : Laid f l) where
         }
 
 -- What the rule that decides makes of the state is what the event does.
-module _ {f : List ℕ} {l : Layout} {s : State} {r : Found} where
+module _ {f : List ℕ} {l : Layout} {s : State} {r : DecidedBy} where
   pub decided-step : {e : Event} → Decided f l s e r → {t : Step} → t ≡ stepFrom s (bind (ruleSaid (l .clocks) f r) (taken stopped (policyOf (l .reading) f) (place (l .clocks) s))) →
       t ≡ stepFrom s (step stopped (policyOf (l .reading) f) (place (l .clocks) s) e)
   unfolding step
   decided-step k q = rw (← k .says) q
 
   module _ (marks : List ℕ) {x y : ℕ} (k : Decided f l s (eventXY x y) r) where
-    pub reaches-none : r ≡ Found.Nothing → reaches (policyOf (l .reading) f) marks (place (l .clocks) s) x y ≡ false
+    pub reaches-none : r ≡ DecidedBy.Nothing → reaches (policyOf (l .reading) f) marks (place (l .clocks) s) x y ≡ false
     unfolding reaches step bind
     reaches-none e = rw (sym (k .says) ∙ ap (ruleSaid (l .clocks) f) e)
 
-    pub reaches-rule : {at : ℕ} → r ≡ Found.Rule at →
+    pub reaches-rule : {at : ℕ} → r ≡ DecidedBy.At at →
         reaches (policyOf (l .reading) f) marks (place (l .clocks) s) x y ≡ leads (place (l .clocks) s) (policyOf (l .reading) f) marks (ruleFrom (l .clocks) f at)
     unfolding reaches leads step bind
     reaches-rule e = rw (sym (k .says) ∙ ap (ruleSaid (l .clocks) f) e)

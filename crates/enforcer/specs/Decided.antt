@@ -10,18 +10,18 @@ use Rattle.policy.specs.declared.Layout.{Layout}
 use Rattle.enforcer.specs.State.{place}
 use Rattle.enforcer.specs.RuleAhead.{RuleAt}
 use Rattle.enforcer.specs.declared.state.State.{State}
-use Rattle.enforcer.specs.declared.matcher.Found.{Found}
-use Rattle.enforcer.specs.declared.matcher.Found.the-variants as Found
+use Rattle.enforcer.specs.declared.next.DecidedBy.{DecidedBy}
+use Rattle.enforcer.specs.declared.next.DecidedBy.the-variants as DecidedBy
 
-abbrev pub ruleSaid : ℕ → List ℕ → Found → Option Rule
-ruleSaid clocks f (Found.Rule at) = some (ruleFrom clocks f at)
-ruleSaid clocks f Found.Nothing = none
+abbrev pub ruleSaid : ℕ → List ℕ → DecidedBy → Option Rule
+ruleSaid clocks f (DecidedBy.At at) = some (ruleFrom clocks f at)
+ruleSaid clocks f DecidedBy.Nothing = none
 
 -- The rule found, if there is one, is the location's, and lies within the file.
-abbrev pub Stands : List ℕ → Layout → ℕ → Found → Type 0
-Stands f l a r = (at : ℕ) → r ≡ Found.Rule at → RuleAt f l a at
+abbrev pub Stands : List ℕ → Layout → ℕ → DecidedBy → Type 0
+Stands f l a r = (at : ℕ) → r ≡ DecidedBy.At at → RuleAt f l a at
 
 -- "The first rule decides".
-pub record Decided (f : List ℕ) (l : Layout) (s : State) (e : Event) (r : Found) : Type 0 where
+pub record Decided (f : List ℕ) (l : Layout) (s : State) (e : Event) (r : DecidedBy) : Type 0 where
   pub says : ruleSaid (l .clocks) f r ≡ decides (policyOf (l .reading) f .rules) (looked stopped (policyOf (l .reading) f) (place (l .clocks) s)) e
   pub stands : Stands f l (s .location) r

@@ -11,6 +11,7 @@ ghost use Rattle.policy.specs.Own.{level};
 ghost use Rattle.enforcer.specs.Code.{eventXY, decider, foundSaid};
 ghost use Rattle.enforcer.specs.State.{place};
 
+// The number of a rule among those that were looked through, the first being 0.
 pub enum Found {
     Rule(usize),
     Nothing,

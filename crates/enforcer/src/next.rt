@@ -1,5 +1,4 @@
 // The next state.
-use crate::matcher::Found;
 use crate::state::State;
 use policy::Layout;
 use policy::bytes::byte_within;
@@ -16,6 +15,12 @@ ghost use Rattle.enforcer.specs.Decided.{ruleSaid, Stands};
 pub struct Step {
     pub permitted: bool,
     pub state: State,
+}
+
+// The rule that decides an event, by where it stands in the file.
+pub(crate) enum DecidedBy {
+    At(usize),
+    Nothing,
 }
 
 // Each clock goes to 0 if the mask names it, else up by one and no further than its ceiling. An unused clock stays at its ceiling 0.
@@ -47,16 +52,16 @@ pub(crate) fn advanced(
 
 impl State {
     // The next state by the rule that decides. No such rule means violation, which leaves the state as it is.
-    pub(crate) fn by(self, file: &[u8], layout: Layout, rule: Found) -> Step
+    pub(crate) fn by(self, file: &[u8], layout: Layout, rule: DecidedBy) -> Step
         requires { ⌜ Laid (now file) layout × Stands (now file) layout (self .location) rule ⌝ }
         ensures { λ r. ⌜ r ≡ stepFrom self (bind (ruleSaid (layout .clocks) (now (file .entry)) rule) (taken stopped (policyOf (layout .reading) (now (file .entry))) (place (layout .clocks) self))) ⌝ }
     {
         match rule {
-            Found::Nothing => Step {
+            DecidedBy::Nothing => Step {
                 permitted: false,
                 state: self,
             },
-            Found::Rule(at) => {
+            DecidedBy::At(at) => {
                 let target = byte_within(file, at + 6);
                 if target == 255 {
                     return Step {

@@ -2,6 +2,7 @@
 use crate::lead::leads;
 use crate::matcher::Found;
 use crate::matcher::first_rule;
+use crate::next::DecidedBy;
 use crate::next::Step;
 use crate::next::advanced;
 use crate::state::State;
@@ -75,8 +76,8 @@ pub fn here_by(file: &[u8], layout: Layout, own: Own, state: State) -> Here
     }
 }
 
-// The rule that decides the event x, y, by where it stands in the file: the first of the location's own that fires.
-fn rule_of(file: &[u8], layout: Layout, here: Here, state: State, x: u8, y: u8) -> Found
+// The rule that decides the event x, y: the first of the location's own that fires.
+fn rule_of(file: &[u8], layout: Layout, here: Here, state: State, x: u8, y: u8) -> DecidedBy
     requires { ⌜ Laid (now file) layout × HereOf (now file) layout state here ⌝ }
     ensures { λ r. ⌜ Decided (now (file .entry)) layout state (eventXY x y) r ⌝ }
 {
@@ -86,8 +87,8 @@ fn rule_of(file: &[u8], layout: Layout, here: Here, state: State, x: u8, y: u8) 
     let from = layout.rules_start + here.own.start;
     let to = from + count * size;
     match first_rule(&file[from..to], count, clocks, here.seen, x, y) {
-        Found::Nothing => Found::Nothing,
-        Found::Rule(number) => Found::Rule(from + number * size),
+        Found::Nothing => DecidedBy::Nothing,
+        Found::Rule(number) => DecidedBy::At(from + number * size),
     }
 }
 
@@ -147,7 +148,7 @@ pub(crate) fn reaches(
     ensures { λ r. ⌜ r ≡ reaches (policyOf (layout .reading) (now (file .entry))) (now (marks .entry)) (place (layout .clocks) state) x y ⌝ }
 {
     match rule_of(file, layout, here, state, x, y) {
-        Found::Nothing => false,
-        Found::Rule(at) => leads(file, layout, marks, state, at),
+        DecidedBy::Nothing => false,
+        DecidedBy::At(at) => leads(file, layout, marks, state, at),
     }
 }
