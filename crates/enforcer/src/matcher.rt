@@ -2,6 +2,8 @@
 use crate::state::State;
 use policy::bytes::byte_within;
 use policy::bytes::pair_within;
+use policy::limits::BOUND_SIZE;
+use policy::limits::RULE_HEAD;
 ghost use mathlib.Core.Path.{_≡_};
 ghost use Prim.Native.Nat.{_+_, _*_, _≤_, _<_, _^_};
 ghost use lib.ListN.{length, take};
@@ -43,8 +45,8 @@ pub(crate) fn bounds_hold(
         if clocks <= i {
             return true;
         }
-        let low = pair_within(rules, at + 4 * i);
-        let high = pair_within(rules, at + 4 * i + 2);
+        let low = pair_within(rules, at + BOUND_SIZE * i);
+        let high = pair_within(rules, at + BOUND_SIZE * i + 2);
         if !is_within(low, high, values[i]) {
             return false;
         }
@@ -65,7 +67,7 @@ fn rule_fires(rules: &[u8], at: usize, clocks: usize, state: State, x: u8, y: u8
         return false;
     }
     let values = state.clocks;
-    bounds_hold(rules, at + 7, clocks, values)
+    bounds_hold(rules, at + RULE_HEAD, clocks, values)
 }
 
 // The number of the first that fires of the rules, all of which are the location's.
@@ -74,7 +76,7 @@ pub fn first_rule(rules: &[u8], count: usize, clocks: usize, state: State, x: u8
     requires { ⌜ level (state .location) (rulesFrom clocks (now rules) 0 count) ≡ count ⌝ }
     ensures { λ r. ⌜ foundSaid r ≡ decider (rulesFrom clocks (now (rules .entry)) 0 count) (place clocks state) (eventXY x y) ⌝ }
 {
-    let size = 7 + 4 * clocks;
+    let size = RULE_HEAD + BOUND_SIZE * clocks;
     let mut at = 0;
     let mut ahead = count;
     while 0 < ahead {

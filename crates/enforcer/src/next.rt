@@ -2,6 +2,7 @@
 use crate::state::State;
 use policy::Layout;
 use policy::bytes::byte_within;
+use policy::limits::VIOLATION;
 ghost use mathlib.Core.Path.{_≡_};
 ghost use mathlib.Core.Option.{bind};
 ghost use Rattle.policy.specs.Rules.{stopped, advance, taken};
@@ -63,7 +64,7 @@ impl State {
             },
             DecidedBy::At(at) => {
                 let target = byte_within(file, at + 6);
-                if target == 255 {
+                if target == VIOLATION {
                     return Step {
                         permitted: false,
                         state: self,

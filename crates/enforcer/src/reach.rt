@@ -8,6 +8,8 @@ use crate::next::advanced;
 use crate::state::State;
 use policy::Layout;
 use policy::Own;
+use policy::limits::BOUND_SIZE;
+use policy::limits::RULE_HEAD;
 use policy::own_rules;
 ghost use mathlib.Core.Path.{_≡_};
 ghost use Prim.Native.Nat.{_≤_, _^_};
@@ -83,7 +85,7 @@ fn rule_of(file: &[u8], layout: Layout, here: Here, state: State, x: u8, y: u8) 
 {
     let clocks = layout.clocks;
     let count = here.own.count;
-    let size = 7 + 4 * clocks;
+    let size = RULE_HEAD + BOUND_SIZE * clocks;
     let from = layout.rules_start + here.own.start;
     let to = from + count * size;
     match first_rule(&file[from..to], count, clocks, here.seen, x, y) {
