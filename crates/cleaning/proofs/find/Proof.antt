@@ -26,7 +26,7 @@ use-rules-requires c κs =
     let s = c .before .before .before .before .before .before .before .before .before .before .before .before .before .before .before in
     let w = c .before .before .before .before .before .before .before .before .before .plan .ensures in
     let r = c .before .before .before .before .reached .ensures in
-    ((s .pre .0, r .0 ∙ s .pre .1, r .1, laid-sized (s .pre .0)), (w .0 ∙ s .pre .2, w .1))
+    ((s .pre .0, r .0 ∙ s .pre .1, r .1 .reaches, laid-sized (s .pre .0)), (w .0 ∙ s .pre .2, w .1))
 
 enter-requires : tie.Need-enter-requires
 enter-requires c κs =
@@ -45,7 +45,7 @@ returns : tie.Need-returns
 returns c =
     let s = c .before .before .before .before .before .before .before .before .before .before .before .before .before .before .before .before .before .before .before .before .before .before in
     let r = c .before .before .before .before .before .before .before .before .before .before .before .reached .ensures in (
-      (same-length c, enters-entered (policyOf (s .args .layout .reading) (now (s .args .file))) (laid-well (s .pre .0)) (r .1) (laid-sized (s .pre .0)) (c .before .before .enter .ensures)),
+      (same-length c, enters-entered (policyOf (s .args .layout .reading) (now (s .args .file))) (laid-well (s .pre .0)) (r .1 .reaches) (laid-sized (s .pre .0)) (c .before .before .enter .ensures)),
       (same-length-2 c, c .before .before .before .before .before .before .use-rules .ensures .1),
     )
 
