@@ -13,8 +13,8 @@
  * is given anew, whatever they are, and always returns.
  *
  *   file    the policy file: at most 5,974 bytes
- *   marks   one byte for each state, 1 live and 0 not: 65,536 bytes are always enough, and those past the number of states stay. A policy has
- *           as many states as its locations times the product of (ceiling + 1) over its clocks
+ *   marks   one byte for each state, 1 live and 0 not: 65,536 bytes are always enough, and those past the number of states stay. groovepawn_check
+ *           says how many a policy has: its locations times the product of (ceiling + 1) over its clocks
  *   state   five numbers: the location, then the four clock values, unused ones 0. The start state is { 0, 0, 0, 0, 0 }
  *   x, y    an input, an output: bit 0 is the first signal of its section of the file
  *   event   one byte: input x in the low four bits, output y in the high four
@@ -23,6 +23,7 @@
  *   station six numbers of 16 bits or more: a state, then the meter's register as last accepted; what stands past them stays
  *   totals  two numbers of 32 bits or more: the pulses billed, the pulses not billed; what stands past them stays
  *   work    scratch of the second engine: one number of 16 bits for each state, 65,536 are always enough
+ *   reasons one number of 64 bits for each event of groovepawn_why_run; ticks, rests and prepared are scratch of its own, with an entry for each state
  *   index   128 numbers: for each of 64 locations the number of its first rule, counted from 0, and how many rules it has
  *
  * Readings. Contracts read a deadline in two ways, and the caller names one, by the number 1 or 2, as the first argument:
@@ -36,9 +37,9 @@
  * then not promised, and 17 may come. So name one reading for a policy, and keep to it.
  *
  * Answers. The low eight bits are the number of a refusal, or 0 for none; the fields above hold then. With a refusal they are 0, except for the count
- * of groovepawn_run. With a refusal nothing is written, with three exceptions: refusal 11 of groovepawn_prepare and of groovepawn_prepare_fast
- * leaves the marks as success does, and the work slices of the second with anything in them; refusal 17 of groovepawn_run leaves the events
- * released before it, and the state there. The refusals and their words are the enum groovepawn_refusal below.
+ * of groovepawn_run. With a refusal nothing is written, with these exceptions: refusal 11 of groovepawn_prepare and of groovepawn_prepare_fast
+ * leaves the marks as success does, and the work slices of the second with anything in them, as 20 and 15 leave those of groovepawn_why_run;
+ * refusal 17 of groovepawn_run leaves the events released before it, and the state there. The refusals and their words are the enum groovepawn_refusal below.
  *
  * Where several hold, the first in this order is given: 22, 1 to 9 as they come in the file, 26 or 28, 10, 23 or 24, 11, 14, 16, 20, 15, 17, 27. A join
  * asks 1 to 9 of its first file, then of its second, then 12, 13, 14. A conversion asks 18, then 19. After 1 to 9 the writer of waves asks 29, 15,
@@ -57,7 +58,7 @@
 
 /* The version of what this file declares. The first number rises when something goes or means something else, the second when something is added. */
 #define GROOVEPAWN_VERSION_MAJOR 1
-#define GROOVEPAWN_VERSION_MINOR 0
+#define GROOVEPAWN_VERSION_MINOR 1
 #define GROOVEPAWN_VERSION_PATCH 0
 #define GROOVEPAWN_VERSION (GROOVEPAWN_VERSION_MAJOR * 10000 + GROOVEPAWN_VERSION_MINOR * 100 + GROOVEPAWN_VERSION_PATCH)
 
@@ -163,9 +164,9 @@ extern "C" {
 #define GROOVEPAWN_LIST_LENGTH(answer) ((answer) >> 32)
 
 /*
- * Checks the policy alone: how many states it has, and so how many marks are enough for it, under either reading.
- * Refusals in this order: 1 to 9. Stack: 248 bytes.
- * Returns refusal | states << 8.
+ * Checks the policy alone, and says how many states it has: so many marks are enough for it, under either reading.
+ * Refusals in this order: 1 to 9, as they come in the file. Stack: 248 bytes.
+ * Returns refusal | states << 8. Nothing is written.
  */
 GROOVEPAWN_LOOK_AT_ANSWER
 uint64_t groovepawn_check(const uint8_t *file, size_t file_len);
@@ -373,9 +374,11 @@ uint64_t groovepawn_why(uint8_t reading, const uint8_t *file, size_t file_len, c
  * groovepawn_why read it. The state moves as with groovepawn_run, so that a long record can be handed over in pieces.
  * The last eight slices are scratch, each with an entry for each state or more: two tables of 32 bits, the marks as bytes, and five slices of 16 bits.
  * They may hold anything, and what they hold afterwards is not said.
- * Refusals 22, 1 to 10, 23 (a work slice has fewer entries than there are states), 14 (reasons has fewer than there are events), 16, 20, 15. 17 never
- * comes. Returns refusal | events << 8, the number of all events; with a refusal it is 0, and state and reasons stay as given. The work slices are
- * not written with 22, 1 to 10, 23, 14 and 16. Entries past the events stay.
+ * A tool, and no part of a station's loop: it prepares the policy anew and goes over all states.
+ * Refusals in this order: 22, 1 to 9, 10, 23 (a work slice has fewer entries than there are states), 14 (reasons has fewer than there are events),
+ * 16, 20, 15. 17 never comes. Stack: not read yet.
+ * Returns refusal | events << 8, the number of all events; with a refusal it is 0, and state and reasons stay as given. The work slices are not
+ * written with 22, 1 to 10, 23, 14 and 16. Entries past the events stay.
  */
 GROOVEPAWN_LOOK_AT_ANSWER
 uint64_t groovepawn_why_run(uint8_t reading, const uint8_t *file, size_t file_len, const uint8_t *marks, size_t marks_len, uint16_t *state,

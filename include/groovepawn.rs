@@ -7,7 +7,7 @@
 
 // The numbers of `groovepawn.h`, by its names. A refusal is the low eight bits of an answer.
 pub const GROOVEPAWN_VERSION_MAJOR: u32 = 1;
-pub const GROOVEPAWN_VERSION_MINOR: u32 = 0;
+pub const GROOVEPAWN_VERSION_MINOR: u32 = 1;
 pub const GROOVEPAWN_VERSION_PATCH: u32 = 0;
 
 pub const GROOVEPAWN_READING_AT_START: u8 = 1;
