@@ -20,8 +20,9 @@ pub use Rattle.indexed.specs.Promises.{InputIndexedPromise, OutputIndexedPromis
 pub use Rattle.bays.specs.Promises.{NewPromise, new-one, BayInputPromise, bay-input-one, BayOutputPromise, bay-output-one}
 -- A station with a meter: setting it up, and the two halves.
 pub use Rattle.meter.specs.Promises.{MeterNewPromise, meter-new-one, MeterInputPromise, meter-input-one, MeterOutputPromise, meter-output-one}
--- Why a half was edited.
+-- Why a half was edited, for one event and for a run of them.
 pub use Rattle.reasons.specs.Promise.{WhyPromise, why-one}
+pub use Rattle.reasons.specs.Runs.{WhyRunPromise, why-run-one}
 -- The join.
 pub use Rattle.join.specs.Promise.{JoinPromise, join-one}
 -- A policy is cleaned.
@@ -75,8 +76,10 @@ pub use Rattle.groovepawn.specs.Meter.{
   meter-input-one as c-meter-input-one,
   meter-output-one as c-meter-output-one,
 }
--- groovepawn_why:
-pub use Rattle.groovepawn.specs.Why.{WhyCall, why-one as c-why-one}
+-- groovepawn_why, _why_run:
+pub use Rattle.groovepawn.specs.Why.{WhyCall, why-one as c-why-one, WhyRunCall, why-run-one as c-why-run-one}
+-- groovepawn_check:
+pub use Rattle.groovepawn.specs.Check.{CheckCall, check-one as c-check-one}
 -- groovepawn_clean:
 pub use Rattle.groovepawn.specs.Clean.{CleanCall, clean-one as c-clean-one}
 -- groovepawn_wave_write, _wave_read:
