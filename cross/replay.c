@@ -11,14 +11,15 @@ extern const uint8_t cases_begin[], cases_end[], wrong_begin[], wrong_end[];
 
 enum { POLICY = 8192, STRING = 65600, NUMBERS = 136, TOTALS = 4, GUARD = 16, GUARDED = 0xC3, PARTS = 12, WORK = 5 };
 
-/* What a function is given, in the order of its record, and what of that it writes:
-   b h w numbers of 1, 2 and 4 bytes; s n t a string, numbers of 16 and of 32 bits; S N T the same, written; k the work slices, which are not compared. */
+/* What a function is given, in the order of its record, and what of that it writes: b h w numbers of 1, 2 and 4 bytes; s n a string and numbers of
+   16 bits; S N T R a string and numbers of 16, 32 and 64 bits, written; p q a string and numbers of 32 bits that are scratch, and k the five work
+   slices: what these hold afterwards is not compared. */
 static const struct kind { const char *name, *given; } kinds[] = {
     {"prepare", "bsS"}, {"input", "bssnb"}, {"output", "bssNbb"}, {"run", "bssNsS"}, {"join", "ssS"}, {"ticks", "wwb"},
     {"wave_write", "ssS"}, {"wave_read", "ssS"}, {"index", "sN"}, {"input_indexed", "bssnnb"}, {"output_indexed", "bssNnbb"},
     {"bays_new", "N"}, {"bay_input", "bssnwb"}, {"bay_output", "bssNwbb"}, {"meter_new", "NTh"}, {"meter_input", "bssnhb"},
     {"meter_output", "bssNThbb"}, {"prepare_fast", "bsSk"}, {"clean", "bsSS"}, {"why", "bssnbb"},
-    {"check", "s"},
+    {"check", "s"}, {"why_run", "bssNsRqqpk"},
 };
 enum { KINDS = sizeof kinds / sizeof *kinds };
 
@@ -72,19 +73,22 @@ static int string(uint8_t *bytes, size_t len, int compare) {
 static int numbers(uint8_t *bytes, size_t len, int size, int compare) {
     int same = 1;
     for (size_t i = 0; i < len; i++) {
-        uint32_t n = (uint32_t)number(size), is;
+        uint64_t n = number(size);
         uint16_t *pair = (uint16_t *)bytes + i;
         uint32_t *total = (uint32_t *)bytes + i;
-        is = size == 2 ? *pair : *total;
-        if (compare) same &= is == n;
+        uint64_t *reason = (uint64_t *)bytes + i;
+        if (compare) same &= n == (size == 2 ? *pair : size == 4 ? *total : *reason);
         else if (size == 2) *pair = (uint16_t)n;
-        else *total = n;
+        else if (size == 4) *total = (uint32_t)n;
+        else *reason = n;
     }
     return same;
 }
 
-static int size_of(char kind) { return kind == 'n' || kind == 'N' ? 2 : 4; }
-static int is_string(char kind) { return kind == 's' || kind == 'S'; }
+static int size_of(char kind) { return kind == 'n' || kind == 'N' ? 2 : kind == 'R' ? 8 : 4; }
+static int is_string(char kind) { return kind == 's' || kind == 'S' || kind == 'p'; }
+/* What is lent for reading only is compared with what was given. */
+static int is_read_only(char kind) { return kind == 's' || kind == 'n'; }
 
 /* Memory for a slice of so many bytes, with guards. */
 static uint8_t *lend(size_t bytes) {
@@ -112,7 +116,7 @@ static int take(const char *given, int compare) {
         char kind = given[i];
         if (!compare) *part = (struct part){kind, 0, room + GUARD, 0};
         /* What was written is compared with what is expected; here it is passed over. */
-        int skip = compare && (kind == 'S' || kind == 'N' || kind == 'T');
+        int skip = compare && !is_read_only(kind);
         if (kind == 'b' || kind == 'h' || kind == 'w') {
             part->number = (uint32_t)number(kind == 'b' ? 1 : kind == 'h' ? 2 : 4);
         } else if (kind == 'k') {
@@ -137,7 +141,7 @@ static int take(const char *given, int compare) {
     return same;
 }
 
-/* The n-th part of this kind, written ones only. */
+/* The n-th part of this kind. */
 static struct part *written(const char *given, char kind, int n) {
     for (int i = 0; given[i]; i++) if (given[i] == kind && n-- == 0) return &parts[i];
     return NULL;
@@ -153,6 +157,7 @@ static int after(struct part *part) {
 #define BYTES(i) parts[i].bytes, parts[i].len
 #define PAIRS(i) (uint16_t *)parts[i].bytes, parts[i].len
 #define WORDS(i) (uint32_t *)parts[i].bytes, parts[i].len
+#define LONGS(i) (uint64_t *)parts[i].bytes, parts[i].len
 #define BYTE(i) (uint8_t)parts[i].number
 #define PAIR(i) (uint16_t)parts[i].number
 #define WORD(i) parts[i].number
@@ -180,7 +185,10 @@ static uint64_t call(int kind) {
     case 18: return groovepawn_prepare_fast(BYTE(0), BYTES(1), BYTES(2), LENT(0), LENT(1), LENT(2), LENT(3), LENT(4));
     case 19: return groovepawn_clean(BYTE(0), BYTES(1), BYTES(2), BYTES(3));
     case 20: return groovepawn_why(BYTE(0), BYTES(1), BYTES(2), PAIRS(3), BYTE(4), BYTE(5));
-    default: return groovepawn_check(BYTES(0));
+    case 21: return groovepawn_check(BYTES(0));
+    default:
+        return groovepawn_why_run(BYTE(0), BYTES(1), BYTES(2), PAIRS(3), BYTES(4), LONGS(5), WORDS(6), WORDS(7), BYTES(8), LENT(0), LENT(1), LENT(2),
+                                  LENT(3), LENT(4));
     }
 }
 
@@ -200,6 +208,7 @@ static int record(int kind) {
     same &= after(written(given, 'S', 0));
     same &= after(written(given, 'N', 0));
     same &= after(written(given, 'T', 0));
+    same &= after(written(given, 'R', 0));
     same &= after(written(given, 'S', 1));
     return same;
 }

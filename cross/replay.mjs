@@ -7,14 +7,15 @@ import { Library } from './library.mjs';
 const [wasm, casesPath, wrongPath] = process.argv.slice(2);
 const library = new Library(wasm);
 
-// What a function is given, in the order of its record: b h w numbers of 1, 2 and 4 bytes; s n t a string, numbers of 16 and of 32 bits; S N T the
-// same, written; k the work slices, which are not compared. Then the order in which the function takes them.
+// What a function is given, in the order of its record: b h w numbers of 1, 2 and 4 bytes; s n a string and numbers of 16 bits; S N T R a string and
+// numbers of 16, 32 and 64 bits, written; p q k a string and numbers of 32 and of 16 bits that are scratch: what these hold afterwards is not compared.
+// Then the order in which the function takes them.
 const KINDS = [
   ['prepare', 'bsS'], ['input', 'bssnb'], ['output', 'bssNbb'], ['run', 'bssNsS'], ['join', 'ssS'], ['ticks', 'wwb'],
   ['wave_write', 'ssS'], ['wave_read', 'ssS'], ['index', 'sN'], ['input_indexed', 'bssnnb', [0, 1, 4, 2, 3, 5]],
   ['output_indexed', 'bssNnbb', [0, 1, 4, 2, 3, 5, 6]], ['bays_new', 'N'], ['bay_input', 'bssnwb'], ['bay_output', 'bssNwbb'],
   ['meter_new', 'NTh'], ['meter_input', 'bssnhb'], ['meter_output', 'bssNThbb'], ['prepare_fast', 'bsSkkkkk'], ['clean', 'bsSS'],
-  ['why', 'bssnbb'], ['check', 's'],
+  ['why', 'bssnbb'], ['check', 's'], ['why_run', 'bssNsRqqpkkkkk'],
 ];
 
 class Reader {
@@ -50,7 +51,7 @@ class Reader {
 
   numbers(Numbers) {
     const size = Numbers.BYTES_PER_ELEMENT;
-    return Numbers.from({ length: this.number(1) }, () => this.number(size));
+    return Numbers.from({ length: this.number(1) }, () => (size === 8 ? this.answer() : this.number(size)));
   }
 
   part(kind) {
@@ -58,8 +59,9 @@ class Reader {
       case 'b': return this.number(1);
       case 'h': return this.number(2);
       case 'w': return this.number(4);
-      case 's': return this.string();
-      case 't': return this.numbers(Uint32Array);
+      case 's': case 'p': return this.string();
+      case 't': case 'q': return this.numbers(Uint32Array);
+      case 'r': return this.numbers(BigUint64Array);
       default: return this.numbers(Uint16Array);
     }
   }
@@ -75,14 +77,13 @@ function holds([name, given, order], body) {
   const answer = library.call(name, ...(order ?? [...kinds.keys()]).map((i) => lent[i]));
   let good = answer === body.answer();
   kinds.forEach((kind, i) => {
-    if ('snt'.includes(kind)) good = same(lent[i], before[i]) && good;
+    if ('sn'.includes(kind)) good = same(lent[i], before[i]) && good;
   });
   const written = (kind) => lent.filter((_, i) => kinds[i] === kind);
   const [first, ...list] = written('S');
-  const expected = [first, ...written('N'), ...written('T'), ...list].filter((slice) => slice);
-  for (const slice of expected) {
-    const kind = slice instanceof Uint8Array ? 's' : slice instanceof Uint16Array ? 'n' : 't';
-    good = same(slice, body.part(kind)) && good;
+  const expected = [['s', first], ['n', ...written('N')], ['t', ...written('T')], ['r', ...written('R')], ['s', ...list]];
+  for (const [kind, slice] of expected) {
+    if (slice) good = same(slice, body.part(kind)) && good;
   }
   if (body.at !== body.bytes.length) throw new Error('malformed');
   return good;
