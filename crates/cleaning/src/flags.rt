@@ -1,4 +1,5 @@
 // Flags, a byte each: 1 where it is set.
+use policy::limits::VIOLATION;
 ghost use mathlib.Core.Path.{_≡_};
 ghost use mathlib.Core.Logic.{_⊎_};
 ghost use Prim.Native.Nat.{_≤_, _<_};
@@ -8,6 +9,9 @@ ghost use Rattle.resting.specs.Table.{bit};
 ghost use Rattle.cleaning.specs.Sift.{rank};
 ghost use Rattle.cleaning.specs.Clean.{renumbered};
 ghost use Rattle.cleaning.specs.Code.{flagsOf};
+
+// The byte of a rule of which it is open still whether it is used.
+pub(crate) const OPEN: u8 = 2;
 
 pub(crate) fn flag_byte(set: bool) -> u8
     ensures { λ r. ⌜ r ≡ bit set ⌝ }
@@ -40,8 +44,8 @@ pub(crate) fn renumber(entered: &[u8], target: usize) -> usize
     requires { ⌜ ((target < length (now entered)) ⊎ (target ≡ 255)) × (length (now entered) ≤ 64) ⌝ }
     ensures { λ r. ⌜ (r ≡ renumbered (flagsOf (now (entered .entry))) target) × (r ≤ target) ⌝ }
 {
-    if target == 255 {
-        return 255;
+    if target == VIOLATION {
+        return VIOLATION;
     }
     rank(entered, target)
 }

@@ -3,6 +3,8 @@ use join::lay::put;
 use join::lay::put_pair;
 use policy::Layout;
 use policy::bytes::byte_within;
+use policy::limits::BOUND_SIZE;
+use policy::limits::RULE_HEAD;
 ghost use mathlib.Core.Path.{_≡_};
 ghost use mathlib.Core.Bool.{cond};
 ghost use mathlib.Core.List.{[], _∷_};
@@ -64,7 +66,7 @@ fn lay_rules_struck(
     ensures { λ r. ⌜ LaidAt (struckBytes (rulesStruck (flagsOf (now (entered .entry))) 0 (flagsOf (now (used .entry))) (rulesOf (now (file .entry))))) (now (out .entry)) at (now (out .exit)) r ⌝ }
 {
     let clocks = layout.clocks;
-    let size = 7 + 4 * clocks;
+    let size = RULE_HEAD + BOUND_SIZE * clocks;
     let mut next = at;
     let mut p = layout.rules_start;
     let mut i = 0;

@@ -6,6 +6,8 @@ use join::lay::put;
 use join::lay::put_pair;
 use policy::Layout;
 use policy::bytes::byte_within;
+use policy::limits::BOUND_SIZE;
+use policy::limits::RULE_HEAD;
 ghost use mathlib.Core.Bool.{cond};
 ghost use mathlib.Core.List.{[]};
 ghost use Prim.Native.Nat.{_+_, _≤_, _<_, _^_};
@@ -33,7 +35,7 @@ fn lay_rule(
     let cares = put(source, out, at);
     let targets = copy(file, p + 1, 5, out, cares);
     let bounds = put(target, out, targets);
-    copy(file, p + 7, 4 * clocks, out, bounds)
+    copy(file, p + RULE_HEAD, BOUND_SIZE * clocks, out, bounds)
 }
 
 // The rule at p, where it is kept.
@@ -69,7 +71,7 @@ fn lay_rules(
     ensures { λ r. ⌜ LaidAt (cleanedRules (flagsOf (now (entered .entry))) (flagsOf (now (used .entry))) (rulesOf (now (file .entry)))) (now (out .entry)) at (now (out .exit)) r ⌝ }
 {
     let clocks = layout.clocks;
-    let size = 7 + 4 * clocks;
+    let size = RULE_HEAD + BOUND_SIZE * clocks;
     let mut next = at;
     let mut p = layout.rules_start;
     let mut i = 0;
