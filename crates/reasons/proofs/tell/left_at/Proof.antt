@@ -30,7 +30,7 @@ shared-slice-read-k : tie.Need-shared-slice-read-k
 shared-slice-read-k c = search needs
 
 sub-t14 : tie.Need-sub-t14
-sub-t14 c = let s = c .before .before .before .before .before in counted-ticks (laid-well (s .pre .0)) (s .pre .1) (s .pre .2) (c .if1 .taken) .1
+sub-t14 c = let s = c .before .before .before .before .before in omega (arith, counted-ticks (laid-well (s .pre .0)) (s .pre .1) (s .pre .2) (c .if1 .taken) .1)
 
 cast-t15 : tie.Need-cast-t15
 cast-t15 c = search needs
@@ -57,7 +57,7 @@ may-rest-requires c κs =
     (k .locations, k .start, location-below k (s .args .number) (c .before .before .numbered .ensures) (s .pre .2))
 
 sub-t19 : tie.Need-sub-t19
-sub-t19 c = some-left c
+sub-t19 c = omega (arith, some-left c)
 
 cast-t20 : tie.Need-cast-t20
 cast-t20 c =
