@@ -10,13 +10,13 @@ ghost use Rattle.texts.specs.Wrote.{Wrote};
 ghost use Rattle.conditions.specs.Steps.{boundsOf, begunOf, Masked};
 ghost use Rattle.phrases.specs.Ended.{ruleBy};
 
-fn high_byte(n: u16) -> u8
+pub fn high_byte(n: u16) -> u8
     ensures { λ r. ⌜ r ≡ n / 256 ⌝ }
 {
     (n / 256) as u8
 }
 
-fn low_byte(n: u16) -> u8
+pub fn low_byte(n: u16) -> u8
     ensures { λ r. ⌜ r ≡ n % 256 ⌝ }
 {
     (n % 256) as u8

@@ -126,7 +126,7 @@ pub(crate) fn ceilings_of(file: &[u8], at: usize, n: usize) -> [u16; CLOCKS]
 }
 
 // How many states there are: locations × the product of (ceiling + 1).
-pub(crate) fn states_of(ceilings: [u16; CLOCKS], clocks: usize, locations: usize) -> usize
+pub fn states_of(ceilings: [u16; CLOCKS], clocks: usize, locations: usize) -> usize
     requires { ⌜ (clocks ≤ 4) × (locations ≤ 64) × ((i : ℕ) → i < clocks → getD ceilings i 0 ≤ 1001) ⌝ }
     ensures { λ r. ⌜ r ≡ statesOf ceilings clocks locations ⌝ }
 {

@@ -21,7 +21,7 @@ use Rattle.wording.specs.Reader.{Draft, empty, withInput, withOutput, in
 
 -- A line that is none of a rule adds no rule.
 module _ (d : Draft) where
-  none-added : (l : Line) → isRule l ≡ false → Keeps (λ e. e .rules ≡ d .rules) (readLine d l)
+  pub none-added : (l : Line) → isRule l ≡ false → Keeps (λ e. e .rules ≡ d .rules) (readLine d l)
   unfolding isRule readLine inputLine outputLine
   none-added [] h = goes-on refl
   none-added (w ∷ ws) h =
@@ -35,12 +35,12 @@ module _ (d : Draft) where
       (λ g. absurd (false≢true (sym h ∙ rw (a, b, c, f, g))))))))
 
   -- One of a rule adds one.
-  one-added : (l : Line) → isRule l ≡ true → Keeps (λ e. (r : Rule) × (e ≡ addRule d r)) (readLine d l)
+  pub one-added : (l : Line) → isRule l ≡ true → Keeps (λ e. (r : Rule) × (e ≡ addRule d r)) (readLine d l)
   unfolding isRule
   one-added [] h = absurd (false≢true h)
   one-added (w ∷ ws) h = rw (rule-by d w ws h) (rule-adds d (w ∷ ws) (d .source))
 
-  added : (r : Rule) → addRule d r .rules ≡ d .rules ++ (r ∷ [])
+  pub added : (r : Rule) → addRule d r .rules ≡ d .rules ++ (r ∷ [])
   unfolding addRule
   added r = refl
 

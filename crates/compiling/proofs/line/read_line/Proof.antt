@@ -1,0 +1,90 @@
+-- `compiling::line::read_line` meets its contract.
+use mathlib.Core.Path.{_∙_}
+use native.Mathlib.Omega.{arith}
+use denote.Ref.{now}
+use borrow.Author.Needs.{needs}
+use Rattle.compiling.specs.Line.{line-blank, line-behind, line-ruled}
+use Rattle.declarations.specs.Table.{draftOf, fit-at}
+use Rattle.compiling.proofs.line.read_line.Statement.{statement}
+use Rattle.compiling.proofs.line.read_line.Tie as tie
+
+word-in-requires : tie.Need-word-in-requires
+word-in-requires c κs = search needs
+
+unsaid-requires : tie.Need-unsaid-requires
+unsaid-requires c κs = search needs
+
+returns : tie.Need-returns
+returns c =
+    let s = c .before .before .before .before in
+    let a = s .args in
+    let f = s .pre .2 in
+    record {
+      line = λ rules long. line-blank (c .before .before .word-in .ensures) (draftOf (now (a .text)) (a .table) rules) (c .if1 .taken);
+      fit = f;
+      masked = c .before .unsaid .ensures .1;
+      one = omega arith;
+      room = λ z y. absurd (omega arith);
+    }
+
+sub-keyword : tie.Need-sub-keyword
+sub-keyword c = search needs
+
+part-keyword-start : tie.Need-part-keyword-start
+part-keyword-start c = search needs
+
+part-keyword-end : tie.Need-part-keyword-end
+part-keyword-end c = search needs
+
+keyword-requires : tie.Need-keyword-requires
+keyword-requires c κs = search needs
+
+words-behind-requires : tie.Need-words-behind-requires
+words-behind-requires c κs = search needs
+
+returns-2 : tie.Need-returns-2
+returns-2 c =
+    let s = c .before .before .before .before .before .before .before .before .before in
+    let a = s .args in
+    let f = s .pre .2 in
+    let said = c .before .words-behind in
+    record {
+      line = λ rules long. said .ensures .0 rules ∙ line-behind (c .before .before .before .before .before .before .before .word-in .ensures) (draftOf (now (a .text)) (a .table) rules) (c .before .before .before .before .before .if1 .left) (c .before .before .before .keyword .result) (c .before .before .before .keyword .ensures) (c .before .before .if2 .taken);
+      fit = said .ensures .1;
+      masked = c .before .before .before .before .before .before .unsaid .ensures .1;
+      one = omega arith;
+      room = λ z y. absurd (omega arith);
+    }
+
+rule-line-requires : tie.Need-rule-line-requires
+rule-line-requires c κs = search needs
+
+returns-3 : tie.Need-returns-3
+returns-3 c =
+    let s = c .before .before .before .before .before .before .before .before .before in
+    let a = s .args in
+    let f = s .pre .2 in
+    let said = c .before .rule-line in
+    record {
+      line = λ rules long. said .ensures .0 rules long ∙ line-ruled (c .before .before .before .before .before .before .before .word-in .ensures) (draftOf (now (a .text)) (a .table) rules) (c .before .before .before .before .before .if1 .left) (c .before .before .before .keyword .result) (c .before .before .before .keyword .ensures) (c .before .before .if2 .left);
+      fit = fit-at f (a .table .source);
+      masked = said .ensures .1;
+      one = omega arith;
+      room = λ z y. said .ensures .2 z;
+    }
+
+pub read-line-spec : {M : Type 1} → statement M
+read-line-spec =
+    tie.close
+    (tie.spec
+    word-in-requires
+    unsaid-requires
+    returns
+    sub-keyword
+    part-keyword-start
+    part-keyword-end
+    keyword-requires
+    words-behind-requires
+    returns-2
+    rule-line-requires
+    returns-3)

@@ -1,0 +1,36 @@
+-- `compiling::lines::unread` meets its contract.
+use mathlib.Core.Path.{refl}
+use native.Mathlib.Omega.{arith}
+use borrow.Author.Needs.{needs}
+use Rattle.words.specs.Spans.{spans}
+use Rattle.compiling.proofs.lines.unread.Statement.{statement}
+use Rattle.compiling.proofs.lines.unread.Tie as tie
+
+returns : tie.Need-returns
+unfolding spans
+returns c = (
+  λ text. refl,
+  λ text. record {
+    inputs = omega arith;
+    outputs = omega arith;
+    order = omega arith;
+    clocks = omega arith;
+    places = omega arith;
+    first = λ h. refl;
+    tags-long = refl;
+    starts-long = refl;
+    ends-long = refl;
+    cstarts-long = refl;
+    cends-long = refl;
+    ceilings-long = refl;
+    pstarts-long = refl;
+    pends-long = refl;
+    left-long = refl;
+    names = λ k h. absurd (omega arith);
+    clock-names = λ k h. absurd (omega arith);
+    place-names = λ k h. absurd (omega arith);
+  },
+)
+
+pub unread-spec : {M : Type 1} → statement M
+unread-spec = tie.close (tie.spec returns)

@@ -1,0 +1,80 @@
+-- `compiling::reader::read` meets its contract: the lines, the file's own check, the room, the file.
+use native.Mathlib.Omega.{arith}
+use denote.Ref.{now}
+use borrow.Author.Needs.{needs}
+use Rattle.compiling.specs.Promise.{Got, got, ceilings-fit, read-stopped, read-own, read-short, counts-room, read-whole}
+use Rattle.compiling.proofs.reader.read.Statement.{statement}
+use Rattle.compiling.proofs.reader.read.Tie as tie
+
+read-lines-requires : tie.Need-read-lines-requires
+read-lines-requires c κs = search needs
+
+returns : tie.Need-returns
+returns c = let a = c .before .before .before .before .before .args in let r = c .before .before .read-lines in read-stopped (now (a .text)) (now (a .out)) (r .result) (r .ensures .0) (c .if1 .taken)
+
+own-refusal-requires : tie.Need-own-refusal-requires
+own-refusal-requires c κs =
+    let a = c .before .before .before .before .before .before .before .args in
+    let r = c .before .before .before .before .read-lines in
+    let f = r .ensures .1 in
+    let g : Got (now (a .text)) (r .result) = got (r .ensures .0) (c .before .before .if1 .left) in
+    (f .clocks, f .places, ceilings-fit (now (a .text)) (now (a .out)) f g)
+
+returns-2 : tie.Need-returns-2
+returns-2 c =
+    let a = c .before .before .before .before .before .before .before .before .before .args in
+    let r = c .before .before .before .before .before .before .read-lines in
+    let f = r .ensures .1 in
+    let g : Got (now (a .text)) (r .result) = got (r .ensures .0) (c .before .before .before .before .if1 .left) in
+    read-own (now (a .text)) (now (a .out)) f g (c .before .own-refusal .ensures) (c .if2 .taken)
+
+file-length-requires : tie.Need-file-length-requires
+file-length-requires c κs = search needs
+
+returns-3 : tie.Need-returns-3
+returns-3 c =
+    let a = c .before .before .before .before .before .before .before .before .before .before .before .args in
+    let r = c .before .before .before .before .before .before .before .before .read-lines in
+    let f = r .ensures .1 in
+    let g : Got (now (a .text)) (r .result) = got (r .ensures .0) (c .before .before .before .before .before .before .if1 .left) in
+    read-short (now (a .text)) (now (a .out)) f g (c .before .before .before .own-refusal .ensures) (c .before .before .if2 .left) (omega (arith, c .before .file-length .ensures, c .if3 .taken))
+
+put-counts-requires : tie.Need-put-counts-requires
+put-counts-requires c κs = search needs
+
+store-lines-requires : tie.Need-store-lines-requires
+store-lines-requires c κs =
+    let a = c .before .before .before .before .before .before .before .before .before .before .before .before .before .before .before .before .args in
+    let r = c .before .before .before .before .before .before .before .before .before .before .before .before .before .read-lines in
+    let f = r .ensures .1 in
+    let g : Got (now (a .text)) (r .result) = got (r .ensures .0) (c .before .before .before .before .before .before .before .before .before .before .before .if1 .left) in
+    let p = c .before .before .before .put-counts in
+    (g .draft, g .lines, omega (arith, p .ensures .next, p .kept .1 .0, counts-room (now (a .text)) (now (a .out)) f g (omega (arith, c .before .before .before .before .before .before .file-length .ensures, c .before .before .before .before .before .if3 .left))))
+
+same-length : tie.Need-same-length
+same-length c = search needs
+
+returns-4 : tie.Need-returns-4
+returns-4 c =
+    let a = c .before .before .before .before .before .before .before .before .before .before .before .before .before .before .before .before .before .before .before .args in
+    let r = c .before .before .before .before .before .before .before .before .before .before .before .before .before .before .before .before .read-lines in
+    let f = r .ensures .1 in
+    let g : Got (now (a .text)) (r .result) = got (r .ensures .0) (c .before .before .before .before .before .before .before .before .before .before .before .before .before .before .if1 .left) in
+    let p = c .before .before .before .before .before .before .put-counts in
+    let w = c .before .before .store-lines in
+    read-whole (now (a .text)) (now (a .out)) f g (c .before .before .before .before .before .before .before .before .before .before .before .own-refusal .ensures) (c .before .before .before .before .before .before .before .before .before .before .if2 .left) (omega (arith, c .before .before .before .before .before .before .before .before .before .file-length .ensures, c .before .before .before .before .before .before .before .before .if3 .left)) (p .ensures) (w .ensures (g .draft) (g .lines))
+
+pub read-spec : {M : Type 1} → statement M
+read-spec =
+    tie.close
+    (tie.spec
+    read-lines-requires
+    returns
+    own-refusal-requires
+    returns-2
+    file-length-requires
+    returns-3
+    put-counts-requires
+    store-lines-requires
+    same-length
+    returns-4)

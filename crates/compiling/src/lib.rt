@@ -1,0 +1,10 @@
+// A policy's text compiled into its file.
+mod counts;
+mod line;
+mod lines;
+mod reader;
+mod ruleline;
+mod store;
+
+pub use reader::ReadText;
+pub use reader::read;
