@@ -32,7 +32,8 @@ pub use Rattle.ticks.specs.Conversion.{Converted, converted-one}
 -- The wave writer and the wave reader.
 pub use Rattle.waves.specs.Promise.{WritePromise, TakePromise}
 pub use Rattle.waves.specs.Laws.{write-one, take-one, written-reads, read-writes}
--- The text of a policy file.
+-- The file of a text, and the text of a policy file.
+pub use Rattle.compiling.specs.Promise.{ReadTextPromise, read-one as read-text-one}
 pub use Rattle.showing.specs.Promise.{WriteTextPromise, write-one as write-text-one}
 -- The functions for a controller in C. groovepawn_prepare, _input, _output, _run, _join, _ticks:
 pub use Rattle.groovepawn.specs.Calls.{
