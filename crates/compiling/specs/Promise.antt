@@ -72,14 +72,19 @@ module _ (text before : List ℕ) where
   promised : {x : FromText (List ℕ)} → fitted before (fileFromText text) ≡ x → {r : ReadText} {after : List ℕ} → r ≡ answered x → after ≡ filled before x → ReadTextPromise text before r after
   promised e a b = record { says = a ∙ ap answered (sym e); writes = b ∙ ap (filled before) (sym e) }
 
-  pub read-stopped : (r : Said) → Held text r (readLines 1 empty (linesOf text)) → (r .refusal ≡ 0 → ⊥) → ReadTextPromise text before (record { refusal = r .refusal; line = r .line; length = 0 }) before
+  pub file-stopped : (r : Said) → Held text r (readLines 1 empty (linesOf text)) → (r .refusal ≡ 0 → ⊥) → fileFromText text ≡ stops (r .refusal) (r .line)
   unfolding fileFromText policyFromText
-  read-stopped r h z = go (readLines 1 empty (linesOf text)) refl h
+  file-stopped r h z = go (readLines 1 empty (linesOf text)) refl h
     where
-      go : (x : FromText Draft) → readLines 1 empty (linesOf text) ≡ x → Held text r x → ReadTextPromise text before (record { refusal = r .refusal; line = r .line; length = 0 }) before
-      go (stops n line) e k =
-          promised (ap (λ (x : FromText Draft). fitted before (filed (saidBy 1 x))) e) (λ i. record { refusal = k .0 i; line = k .1 i; length = 0 }) refl
+      go : (x : FromText Draft) → readLines 1 empty (linesOf text) ≡ x → Held text r x → fileFromText text ≡ stops (r .refusal) (r .line)
+      go (stops n line) e k = ap (λ (x : FromText Draft). filed (saidBy 1 x)) e ∙ (λ i. stops (sym (k .0) i) (sym (k .1) i))
       go (reads d) e k = absurd (z (k .0))
+
+  stopped : {n line : ℕ} → fileFromText text ≡ stops n line → ReadTextPromise text before (record { refusal = n; line = line; length = 0 }) before
+  stopped e = promised (ap (fitted before) e) refl refl
+
+  pub read-stopped : (r : Said) → Held text r (readLines 1 empty (linesOf text)) → (r .refusal ≡ 0 → ⊥) → ReadTextPromise text before (record { refusal = r .refusal; line = r .line; length = 0 }) before
+  read-stopped r h z = stopped (file-stopped r h z)
 
   module _ {r : Said} (f : Fit text (r .table)) (g : Got text r) where
     abbrev t : Table
@@ -147,15 +152,17 @@ module _ (text before : List ℕ) where
         let body : length (p .rules) * ruleSize (length (p .ceilings)) ≡ r .count * (7 + 4 * t .clocks) = (λ j. g .many j * ruleSize (c j)) in
         omega (arith, n, i, o, c, l, body, f .order)
 
-    pub read-own : {n : ℕ} → n ≡ ownRefusal → (n ≡ 0 → ⊥) → ReadTextPromise text before (record { refusal = n; line = 0; length = 0 }) before
-    read-own {n} e z =
-        go n z (file-is ∙ ap (λ (m : ℕ). passed m (bytesOf p)) (own-is ∙ sym e))
+    pub file-own : {n : ℕ} → n ≡ ownRefusal → (n ≡ 0 → ⊥) → fileFromText text ≡ stops n 0
+    file-own {n} e z = go n z (file-is ∙ ap (λ (m : ℕ). passed m (bytesOf p)) (own-is ∙ sym e))
       where
-        go : (m : ℕ) → (m ≡ 0 → ⊥) → fileFromText text ≡ passed m (bytesOf p) → ReadTextPromise text before (record { refusal = m; line = 0; length = 0 }) before
+        go : (m : ℕ) → (m ≡ 0 → ⊥) → fileFromText text ≡ passed m (bytesOf p) → fileFromText text ≡ stops m 0
         go zero y h = absurd (y refl)
-        go (suc m) y h = promised (ap (fitted before) h) refl refl
+        go (suc m) y h = h
 
-    file-read : {n : ℕ} → n ≡ ownRefusal → n ≡ 0 → fileFromText text ≡ reads (bytesOf p)
+    pub read-own : {n : ℕ} → n ≡ ownRefusal → (n ≡ 0 → ⊥) → ReadTextPromise text before (record { refusal = n; line = 0; length = 0 }) before
+    read-own e z = stopped (file-own e z)
+
+    pub file-read : {n : ℕ} → n ≡ ownRefusal → n ≡ 0 → fileFromText text ≡ reads (bytesOf p)
     file-read e z = file-is ∙ ap (λ (m : ℕ). passed m (bytesOf p)) (own-is ∙ sym e ∙ z)
 
     pub read-short : {n : ℕ} → n ≡ ownRefusal → n ≡ 0 → length before < fileLength → ReadTextPromise text before (record { refusal = 14; line = 0; length = 0 }) before

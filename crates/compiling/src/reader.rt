@@ -19,7 +19,7 @@ pub struct ReadText {
 }
 
 // What the file's own check refuses of a text that is read: 2, no location; 9, too many states.
-fn own_refusal(ceilings: [u16; 4], clocks: usize, places: usize) -> u8
+pub fn own_refusal(ceilings: [u16; 4], clocks: usize, places: usize) -> u8
     requires { ⌜ (clocks ≤ 4) × (places ≤ 64) × ((i : ℕ) → i < clocks → getD ceilings i 0 ≤ 1001) ⌝ }
     ensures { λ r. ⌜ r ≡ (unless (leb 1 places) 2 orElse unless (leb (statesOf ceilings clocks places) 65536) 9) ⌝ }
 {
