@@ -8,6 +8,7 @@ pub enum Differs {
     State,
     Totals,
     List,
+    Reasons,
 }
 
 // What differs, and where the record ends.
@@ -23,6 +24,19 @@ pub(crate) fn first_of(answer: bool, bytes: bool, state: bool) -> Differs {
         Differs::Bytes
     } else if !state {
         Differs::State
+    } else {
+        Differs::Nothing
+    }
+}
+
+// Of reasons for a run, which writes no bytes.
+pub(crate) fn first_of_reasons(answer: bool, state: bool, reasons: bool) -> Differs {
+    if !answer {
+        Differs::Answer
+    } else if !state {
+        Differs::State
+    } else if !reasons {
+        Differs::Reasons
     } else {
         Differs::Nothing
     }

@@ -4,6 +4,7 @@ mod bodies;
 mod calls;
 mod differs;
 mod indexes;
+mod longs;
 mod marked;
 mod numbers;
 mod records;
@@ -12,6 +13,7 @@ mod stations;
 mod strings;
 mod tally;
 mod totals;
+mod why_runs;
 
 use libc::STDOUT_FILENO;
 

@@ -5,6 +5,7 @@ use crate::indexes;
 use crate::numbers::Cursor;
 use crate::stations;
 use crate::tally::Kind;
+use crate::why_runs::why_run_record;
 
 // The rest of a record of a run.
 fn run_record(
@@ -84,6 +85,7 @@ fn state_record(
         Kind::Input => calls::input(cases, next, reading, file, marks, &state[..numbers]),
         Kind::Output => calls::output(cases, next, reading, file, marks, &mut state[..numbers]),
         Kind::Why => calls::why(cases, next, reading, file, marks, &state[..numbers]),
+        Kind::WhyRun => { why_run_record(cases, next, reading, file, marks, &mut state[..numbers]) }
         Kind::InputIndexed => {
             indexed_input_record(cases, next, reading, file, marks, &state[..numbers])
         }

@@ -4,7 +4,7 @@ use crate::numbers::Cursor;
 use libc::STDOUT_FILENO;
 
 // The kinds of records have the numbers from 1 to below this.
-pub const KINDS: usize = 22;
+pub const KINDS: usize = 23;
 
 pub enum Kind {
     Prepare,
@@ -28,6 +28,7 @@ pub enum Kind {
     Clean,
     Why,
     Check,
+    WhyRun,
     Unknown,
 }
 
@@ -55,6 +56,7 @@ impl Kind {
             19 => Kind::Clean,
             20 => Kind::Why,
             21 => Kind::Check,
+            22 => Kind::WhyRun,
             _ => Kind::Unknown,
         }
     }
@@ -82,6 +84,7 @@ impl Kind {
             Kind::Clean => print(b"clean"),
             Kind::Why => print(b"why"),
             Kind::Check => print(b"check"),
+            Kind::WhyRun => print(b"why_run"),
             Kind::Unknown => print(b"unknown"),
         }
     }
@@ -200,5 +203,6 @@ fn print_differs(differs: Differs) {
         Differs::State => print(b" state\n"),
         Differs::Totals => print(b" totals\n"),
         Differs::List => print(b" list\n"),
+        Differs::Reasons => print(b" reasons\n"),
     }
 }
