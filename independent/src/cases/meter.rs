@@ -55,7 +55,7 @@ fn without_a_signal(random: &mut Random, mut policy: Policy) -> Policy {
 }
 
 fn meter_new_call(random: &mut Random) -> Call {
-    let length = random.pick(&[STATION_LENGTH, STATION_LENGTH, 7, 8, 11, 0, 5]);
+    let length = random.pick(&[STATION_LENGTH, STATION_LENGTH, 7, 8, 8, 0, 5]);
     let totals = random.pick(&[TOTALS, TOTALS, 3, 4, 4, 0, 1]);
     Call::MeterNew {
         station: some_numbers(random, length),
