@@ -4,4 +4,3 @@ pub mod Lines
 pub mod Counts
 pub mod Stored
 pub mod Promise
-pub mod RuleAt

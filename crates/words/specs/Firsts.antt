@@ -10,7 +10,7 @@ use lib.Seq.{take-take, take-nil, drop-nil}
 use borrow.Author.Tests.{lt-ltb, le-ltb}
 use Rattle.policy.specs.File.{part}
 use Rattle.wording.specs.Words.{Word, Line, wordsOf}
-use Rattle.words.specs.Lex.{Next}
+use Rattle.words.specs.Lex.{blanks, Next}
 use Rattle.words.specs.declared.firsts.Few.{Few}
 
 pub drop-take : (a e : ℕ) (l : List ℕ) → drop a (take e l) ≡ take (e - a) (drop a l)
@@ -23,6 +23,7 @@ drop-take (suc a) (suc e) (c ∷ l) =
 
 -- As `Next`, of the line that ends at `end`.
 pub record NextIn (text : List ℕ) (end at start stop : ℕ) : Type 0 where
+  pub begins : start ≡ at + blanks (part text at (end - at))
   pub after : at ≤ start
   pub order : start ≤ stop
   pub within : stop ≤ end
@@ -36,6 +37,7 @@ next-in text end at start stop h n =
     ap (take (stop - start)) (drop-take start end text) ∙ take-take (stop - start) (end - start) (drop start text) (omega (arith, n .order)) in
     let rest = drop-take stop end text in
     record {
+      begins = n .begins ∙ ap (λ (l : List ℕ). at + blanks l) (drop-take at end text);
       after = n .after;
       order = n .order;
       within = within;

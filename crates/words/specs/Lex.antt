@@ -131,6 +131,7 @@ kind-high c h = plain-kind c h
 
 -- What the search for the next word gives: its first byte and the one after its last, or two times the same position and no word.
 pub record Next (l : List ℕ) (at start end : ℕ) : Type 0 where
+  pub begins : start ≡ at + blanks (drop at l)
   pub after : at ≤ start
   pub order : start ≤ end
   pub within : end ≤ length l
@@ -178,6 +179,7 @@ module _ (l : List ℕ) (at : ℕ) (h : at ≤ length l) (start : ℕ) (e : star
   nothing : wordsOf (drop start l) ≡ [] → Next l at start start
   nothing n =
       record {
+        begins = e;
         after = omega arith;
         order = omega arith;
         within = start-within;
@@ -213,6 +215,7 @@ module _ (l : List ℕ) (at : ℕ) (h : at ≤ length l) (start : ℕ) (e : star
       let rest : drop n cs ≡ drop end l = drop-drop n (start + 1) l ∙ ap (λ (m : ℕ). drop m l) (sym f) in
       let here = at-byte l start s in
       record {
+        begins = e;
         after = omega arith;
         order = omega arith;
         within = omega arith;

@@ -16,7 +16,7 @@ use Rattle.words.specs.Spans.{placeBelow}
 use Rattle.words.specs.Keywords.{keywords, keyword-is}
 use Rattle.words.specs.Firsts.{NextIn, in-none, in-word}
 use Rattle.words.specs.Lex.{NextLine}
-use Rattle.compiling.specs.declared.ruleat.RuleAt.{RuleAt}
+use Rattle.pointing.specs.declared.ruleat.RuleAt.{RuleAt}
 
 -- The line of the rule i of a text that is read. 35: it has no such rule.
 abbrev pub lineOfRule : List ℕ → ℕ → FromText (List ℕ) → FromText ℕ

@@ -1,7 +1,7 @@
 // The line of a rule, for tools.
-use crate::lines::next_line;
-use crate::lines::read_lines;
-use crate::reader::own_refusal;
+use compiling::lines::next_line;
+use compiling::lines::read_lines;
+use compiling::reader::own_refusal;
 use words::firsts::word_in;
 use words::keywords::keyword;
 use words::words::line_end;
@@ -11,7 +11,7 @@ ghost use lib.ListN.{length, getD};
 ghost use Rattle.policy.specs.File.{part};
 ghost use Rattle.wording.specs.Words.{wordsOf};
 ghost use Rattle.wording.specs.RuleLines.{ruleNumbers};
-ghost use Rattle.compiling.specs.RuleAt.{ruleBit, RuleAtPromise};
+ghost use Rattle.pointing.specs.RuleAt.{ruleBit, RuleAtPromise};
 
 // A refusal and its line, 0 for the file's own and for 35; or 0 and the line of the rule.
 pub struct RuleAt {

@@ -1,8 +1,8 @@
--- `compiling::ruleat::rule_bit` meets its contract.
+-- `pointing::ruleat::rule_bit` meets its contract.
 use borrow.Author.Needs.{needs}
-use Rattle.compiling.specs.RuleAt.{bit-blank, bit-declared, bit-rule}
-use Rattle.compiling.proofs.ruleat.rule_bit.Statement.{statement}
-use Rattle.compiling.proofs.ruleat.rule_bit.Tie as tie
+use Rattle.pointing.specs.RuleAt.{bit-blank, bit-declared, bit-rule}
+use Rattle.pointing.proofs.ruleat.rule_bit.Statement.{statement}
+use Rattle.pointing.proofs.ruleat.rule_bit.Tie as tie
 
 word-in-requires : tie.Need-word-in-requires
 word-in-requires c κs = search needs

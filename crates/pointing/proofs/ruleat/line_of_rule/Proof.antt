@@ -1,12 +1,12 @@
--- `compiling::ruleat::line_of_rule` meets its contract: the text as for `read`, then the rule lines counted.
+-- `pointing::ruleat::line_of_rule` meets its contract: the text as for `read`, then the rule lines counted.
 use mathlib.Core.List.{[]}
 use native.Mathlib.Omega.{arith}
 use denote.Ref.{now}
 use borrow.Author.Needs.{needs}
 use Rattle.compiling.specs.Promise.{Got, got, ceilings-fit, file-stopped, file-own, file-read}
-use Rattle.compiling.specs.RuleAt.{rule-stops, rule-none, rule-there}
-use Rattle.compiling.proofs.ruleat.line_of_rule.Statement.{statement}
-use Rattle.compiling.proofs.ruleat.line_of_rule.Tie as tie
+use Rattle.pointing.specs.RuleAt.{rule-stops, rule-none, rule-there}
+use Rattle.pointing.proofs.ruleat.line_of_rule.Statement.{statement}
+use Rattle.pointing.proofs.ruleat.line_of_rule.Tie as tie
 
 read-lines-requires : tie.Need-read-lines-requires
 read-lines-requires c κs = search needs

@@ -1,4 +1,4 @@
--- `compiling::ruleat::find_rule` meets its contract. The invariant: the rule lines that are left decide.
+-- `pointing::ruleat::find_rule` meets its contract. The invariant: the rule lines that are left decide.
 use mathlib.Core.Path.{_≡_, refl, ap, sym, _∙_}
 use mathlib.Core.List.{List}
 use Prim.Native.Nat.{ℕ, _-_, _+_, _≤_, _<_}
@@ -6,11 +6,11 @@ use native.Mathlib.Omega.{arith}
 use lib.ListN.{length, getD}
 use denote.Ref.{now}
 use borrow.Author.Needs.{needs}
 use Rattle.compiling.specs.Lines.{next-drop, next-more}
-use Rattle.compiling.specs.RuleAt.{rulesLeft, left-none, left-here, left-on}
+use Rattle.pointing.specs.RuleAt.{rulesLeft, left-none, left-here, left-on}
 use Rattle.wording.specs.RuleLines.{ruleNumbers}
-use Rattle.compiling.proofs.ruleat.find_rule.Statement.{statement}
-use Rattle.compiling.proofs.ruleat.find_rule.Tie as tie
+use Rattle.pointing.proofs.ruleat.find_rule.Statement.{statement}
+use Rattle.pointing.proofs.ruleat.find_rule.Tie as tie
 
 abbrev Inv-loop : tie.InvT-loop
 Inv-loop text i left₀ passed₀ at₀ left passed at =

@@ -1,0 +1,2 @@
+pub mod RuleAt
+pub mod NameAt
