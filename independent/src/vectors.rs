@@ -26,6 +26,8 @@ const LONGEST_POLICY: usize = 8_192;
 const LONGEST_STRING: usize = 65_600;
 /// The most numbers of 16 bits that stand together, and the longest table.
 const LONGEST_NUMBERS: usize = 136;
+/// The most of a state or a station.
+const LONGEST_STATION: usize = 8;
 /// The most totals.
 const LONGEST_TOTALS: usize = 4;
 /// The most reasons of a run.
@@ -76,10 +78,13 @@ pub fn chosen(seed: u64) -> impl Iterator<Item = (Call, Outcome)> {
 
 /// Whether a reader with the buffers the README names can hold the call.
 fn strings_fit(call: &Call) -> bool {
-    call.given().iter().all(|(_, given)| match given {
+    call.given().iter().all(|(name, given)| match given {
         Given::Policy(bytes) => bytes.len() <= LONGEST_POLICY,
         Given::Bytes(bytes) => bytes.len() <= LONGEST_STRING,
-        Given::Numbers(numbers) => numbers.len() <= LONGEST_NUMBERS,
+        Given::Numbers(numbers) => match name.split(' ').next() {
+            Some("state" | "station") => numbers.len() <= LONGEST_STATION,
+            _ => numbers.len() <= LONGEST_NUMBERS,
+        },
         Given::Work(work) => work.iter().all(|slice| slice.len() <= LONGEST_NUMBERS),
         Given::Totals(totals) => totals.len() <= LONGEST_TOTALS,
         Given::Longs(longs) => longs.len() <= LONGEST_REASONS,
