@@ -7,7 +7,7 @@
 set -uo pipefail
 cd "$(dirname "$0")/.."
 
-names=(gate edits edges lists header examples independent bench processors)
+names=(gate edits edges lists header examples documents independent bench processors)
 declare -A does=(
     [gate]='.ci/run'
     [edits]='python3 tools/must-fail-logs.py'
@@ -15,6 +15,7 @@ declare -A does=(
     [lists]='python3 tools/reading-list.py'
     [header]='python3 tools/check-header.py'
     [examples]='rt staticlib groovepawn && example/try.sh'
+    [documents]='rt staticlib groovepawn && tools/check-documents.sh && tools/spoil-documents.py'
     [independent]='cd independent && cargo test --offline'
     [bench]='cd bench && cargo test --offline'
     [processors]='tools/cross-test.sh'

@@ -424,6 +424,38 @@ def check_kit(page):
     hold(page, said is not None and said.group(1) in found, f"rt version prints {found.strip()}")
 
 
+def check_axioms(page, target):
+    """How many C functions a program's check counts, as the toolchain's own log has it."""
+    for line in read(page):
+        row = re.match(r"\s*\| (`.*?`) \| `axioms=(\d+)` \|", line)
+        for name in re.findall(r"`(\w+)`", row.group(1)) if row else []:
+            log = os.path.join(target, "log", name + ".out")
+            if not os.path.exists(log):
+                skip(page, f"the C functions of {name}: there is no {log}")
+                continue
+            with open(log, encoding="utf-8") as file:
+                found = re.findall(r"axioms=(\d+)", file.read())
+            hold(page, found == [row.group(2)], f"the check of {name} counts {found}")
+
+
+def check_stops(page):
+    """Each stop of the auditor's hour names files, and in them what to look at; and the minutes make an hour."""
+    minutes = 0
+    for line in read(page):
+        stop = re.match(r"\d\. \*\*.*\*\* \((\d+) minutes\)\. (.*)", line)
+        if not stop:
+            continue
+        minutes += int(stop.group(1))
+        quoted = re.findall(r"`([^`]+)`", stop.group(2))
+        text = ""
+        for path in [one for one in quoted if one.startswith("crates/")]:
+            with open(path, encoding="utf-8") as file:
+                text += file.read()
+        for name in [one for one in quoted if not one.startswith("crates/")]:
+            hold(page, re.search(rf"\b{re.escape(name)}\b", text), f"{name} stands in none of the files of its stop")
+    hold(page, minutes == 60, f"the stops take {minutes} minutes")
+
+
 def check_refusals(page, text_page):
     """Every refusal of the header, and every one of a policy's text, has a row; and no row is without one."""
     with open("include/groovepawn.h", encoding="utf-8") as file:
@@ -530,6 +562,8 @@ def main():
     check_links(pages)
     check_tender("docs/AUDIT.md")
     check_kit("docs/AUDIT.md")
+    check_axioms("docs/AUDIT.md", target)
+    check_stops("docs/AUDIT.md")
     check_refusals("docs/REFUSALS.md", "docs/POLICY-TEXT.md")
     check_file_page("docs/POLICY-FILE.md")
     for line in skipped:
