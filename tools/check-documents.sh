@@ -7,4 +7,4 @@
 # what comes after it is run, and only where its program is there. What was skipped is said. With RT=no `rt version` is not asked either.
 # A copy of the pages may be checked in place of the repository's own: PAGES=folder tools/check-documents.sh
 cd "$(dirname "$0")/.." || exit 1
-exec python3 tools/pages.py "${1:-target}"
+exec python3 -B tools/pages.py "${1:-target}"

@@ -270,15 +270,15 @@ class PolicyPage:
                 self.had(f"a stream under reading {reading}")
 
 
-def clause_text(signals, clause):
-    """The text of a clause of the table of joins: `never` one thing or several, or a deadline of four rules."""
+def clause_text(signals, clause, last=None):
+    """The text of a clause of the table of joins: `never` one thing or several, or a deadline of four rules, or of more with other last ones."""
     never = re.fullmatch(r"never ((?:`[^`]*`(?:, )?)+)", clause)
     if never:
         rules = "".join(f"{condition} -> violation\n" for condition in re.findall(r"`([^`]*)`", never.group(1)))
         return f"{signals}location all\nat all\n{rules}any -> all\n"
     late, ticks, cause = re.fullmatch(r"`(\w+)` within (\d+) ticks after `(\w+)`", clause).groups()
     return (f"{signals}clock age {int(ticks) - 1}\nlocation quiet\nlocation due\nat quiet\n{cause} !{late} -> due reset age\nany -> quiet\n"
-            f"at due\n{late} -> quiet\nage <= {int(ticks) - 2} -> due\n")
+            f"at due\n{late} -> quiet\n" + (last or "age <= {} -> due\n").format(int(ticks) - (1 if last else 2)))
 
 
 def joined(library, files, reading):
@@ -314,6 +314,10 @@ def check_joins(page, library):
     alone = joined(library, deadlines, 0)
     for ticks in (re.search(r"join to (\d+) rules", text), re.search(r"a fourth still fits \((\d+)\)", text)):
         hold(page, ticks is not None and ticks.group(1) in alone[2:4], f"deadlines alone join to {alone}")
+    written = [file_of(clause_text(signals, row[1], "age >= {} -> violation\nany -> due\n")) for row in rows[len(nevers):]]
+    said = re.search(r"With five rules each, three make (\d+), and the fourth is refused", text)
+    alone = joined(library, written, 0)
+    hold(page, said is not None and alone[2:] == [said.group(1), "refused 13"], f"deadlines of five rules join to {alone}")
 
 
 def check_policies(page, library, shell):
@@ -391,7 +395,8 @@ def check_page(page, shell, library, crates, outputs, files):
 
 
 def check_links(pages):
-    for page in pages:
+    beside = [page for page in ("bench/README.md", "cross/README.md", "independent/README.md") if os.path.exists(os.path.join(PAGES, page))]
+    for page in pages + beside:
         for number, line in enumerate(read(page), 1):
             for link in re.findall(r"\]\(([^)#\s]+)(?:#[^)]*)?\)", line):
                 if "://" not in link:
