@@ -7,6 +7,7 @@ import tempfile
 MOST_STATES = 65536
 MOST_FILE_BYTES = 5974
 MOST_STRUCK_BYTES = 957
+MOST_TEXT_BYTES = 508119
 
 
 class Refused(Exception):
@@ -22,16 +23,14 @@ class Library:
             compiler = os.environ.get("CC", "cc")
             subprocess.run([compiler, "-shared", "-o", shared, "-Wl,--whole-archive", archive, "-Wl,--no-whole-archive"], check=True)
             self.functions = ctypes.CDLL(shared)
-        for name in ("prepare", "run", "join", "clean"):
+        for name in ("prepare", "run", "join", "clean", "wave_write"):
             getattr(self.functions, "groovepawn_" + name).restype = ctypes.c_uint64
 
     def call(self, name, *arguments):
         """Slices are handed over with their lengths; the refusal is raised, and what stands above it is given back."""
         handed = []
         for argument in arguments:
-            if isinstance(argument, bytes):
-                handed += [argument, ctypes.c_size_t(len(argument))]
-            elif isinstance(argument, ctypes.Array):
+            if isinstance(argument, (bytes, ctypes.Array)):
                 handed += [argument, ctypes.c_size_t(len(argument))]
             else:
                 handed.append(ctypes.c_uint8(argument))
@@ -62,6 +61,10 @@ class Library:
     def clean(self, reading, file):
         out, struck = (ctypes.c_uint8 * MOST_FILE_BYTES)(), (ctypes.c_uint8 * MOST_STRUCK_BYTES)()
         return bytes(out[: self.call("clean", reading, file, out, struck) & 0xFFFFFF])
+
+    def wave(self, file, events):
+        text = (ctypes.c_uint8 * MOST_TEXT_BYTES)()
+        return bytes(text[: self.call("wave_write", file, events, text)]).decode()
 
 
 def rules_in(file):

@@ -1,5 +1,4 @@
 """What tools/check-documents.sh does: reads the pages themselves, so that nothing is stored twice, and holds them against the programs and the library."""
-import ctypes
 import glob
 import hashlib
 import os
@@ -114,7 +113,8 @@ class Shell:
 
     def missing(self, command):
         used = re.findall(r"target/(?:bin|staticlib)/[\w.]+", command)
-        return [path for path in used if not os.path.exists(os.path.join(self.folder, path))]
+        tools = [tool for tool in ("xxd", "cc") if re.search(rf"(^|\| ){tool} ", command, re.M) and not shutil.which(tool)]
+        return tools + [path for path in used if not os.path.exists(os.path.join(self.folder, path))]
 
     def run(self, command):
         shell = shutil.which("dash") or "sh"
@@ -147,7 +147,7 @@ def run_block(block, following, shell, crates):
     missing = shell.missing(command)
     if missing:
         skip(block.where, f"not run, there is no {', '.join(missing)}")
-        return following is not None
+        return following is not None and not following.is_command() and not following.after_heading
     done = shell.run(command)
     if block.after.startswith("prints nothing"):
         hold(block.where, done.stdout + done.stderr == "", f"it prints {(done.stdout + done.stderr)[:200]!r}")
@@ -352,11 +352,9 @@ def check_policies(page, library, shell):
 
 def check_wave(block, library):
     """The wave of C-INTERFACE: the text that is written for S and the events named above it."""
-    policy = bytes.fromhex("0241420152000100000300030300000 0FF00020201010 0FF00000000000000".replace(" ", ""))
+    policy = bytes.fromhex("02 41 42 01 52 00 01 00 00 03  00 03 03 00 00 00 FF  00 02 02 01 01 00 FF  00 00 00 00 00 00 00")
     events = bytes.fromhex(re.search(r"the events `([0-9A-F ]+)`", block.before).group(1))
-    text = (ctypes.c_uint8 * 508119)()
-    library.functions.groovepawn_wave_write.restype = ctypes.c_uint64
-    written = bytes(text[: library.call("wave_write", policy, events, text)]).decode()
+    written = library.wave(policy, events)
     hold(block.where, written == "\n".join(block.lines) + "\n", f"it is\n{written}")
 
 
@@ -470,6 +468,18 @@ def check_refusals(page, text_page):
     hold(page, len(rows) == len(set(rows)) and set(rows) == header | of_text, f"rows and refusals differ in {sorted(set(rows) ^ (header | of_text))}")
 
 
+def check_helper(samples):
+    """The helper that reads texts, held against the texts and files of which it is proved that they say the same."""
+    with open(samples, encoding="utf-8") as file:
+        source = file.read()
+    files = {name.lower(): bytes.fromhex("".join(re.findall(r"0x(..)", body))) for name, body in re.findall(r"^(\w+) =\s+((?:0x..\s+∷\s+)+)\[\]", source, re.M)}
+    texts = re.findall(r'^(?:text|written|letters)(\w+) = ascii "(.*)"$', source, re.M)
+    hold(samples, len(texts) >= 5, f"only {len(texts)} texts are found")
+    for name, text in texts:
+        text = re.sub(r"\\([ntr])", lambda one: {"n": "\n", "t": "\t", "r": "\r"}[one.group(1)], text)
+        hold(samples, file_of(text) == files.get(name.lower()), f"tools/policy_text.py gives another file for a text of {name}")
+
+
 def check_file_page(page):
     """The bytes of POLICY-FILE's table are those that its command puts into the program."""
     lines = read(page)
@@ -571,6 +581,7 @@ def main():
     check_stops("docs/AUDIT.md")
     check_refusals("docs/REFUSALS.md", "docs/POLICY-TEXT.md")
     check_file_page("docs/POLICY-FILE.md")
+    check_helper("crates/wording/specs/Samples.antt")
     for line in skipped:
         print(f"skipped: {line}")
     for line in faults:
