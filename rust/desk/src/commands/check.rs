@@ -1,0 +1,81 @@
+//! `check`: what a policy comes to, or where it is wrong.
+
+use std::ffi::OsStr;
+
+use groovepawn::{Reading, Summary};
+
+use crate::fault::Fault;
+use crate::out::Out;
+use crate::policies::Named;
+use crate::signals::Signals;
+use crate::words::Words;
+
+pub fn obey(words: &Words) -> Result<(), Fault> {
+    if words.operands.is_empty() {
+        return Err(words.wrong_count());
+    }
+    let readings = match words.reading_named()? {
+        Some(reading) => vec![reading],
+        None => Reading::BOTH.to_vec(),
+    };
+    let mut out = Out::standard();
+    let mut fault: Option<Fault> = None;
+    for path in &words.operands {
+        // One that is wrong does not keep the others from being told.
+        let checked = check(path, &readings, &mut out);
+        out.flush()?;
+        if let Err(next) = checked {
+            if let Some(earlier) = fault.replace(next) {
+                earlier.tell();
+            }
+        }
+    }
+    out.finish()?;
+    fault.map_or(Ok(()), Err)
+}
+
+fn check(path: &OsStr, readings: &[Reading], out: &mut Out) -> Result<(), Fault> {
+    let named = Named::read(path)?;
+    out.line(&format!("{}: {}", named.name, contents(&named)))?;
+    let mut hopeless = Ok(());
+    for &reading in readings {
+        let comes_to = match named.prepare(reading) {
+            Ok((_, summary)) => verdict(summary),
+            Err(fault) => {
+                hopeless = Err(fault);
+                format!("{} live, hopeless", named.policy.marks(reading).live())
+            }
+        };
+        out.line(&format!("  reading {}: {comes_to}", reading.number()))?;
+    }
+    hopeless
+}
+
+fn verdict(summary: Summary) -> String {
+    let words = match summary.verdict() {
+        0 => "every state that a permitted stream leads to is live",
+        _ => "some state that a permitted stream leads to is not live",
+    };
+    format!(
+        "{} live, verdict {}: {words}",
+        summary.live,
+        summary.verdict()
+    )
+}
+
+/// What stands in the file.
+fn contents(named: &Named) -> String {
+    let policy = &named.policy;
+    let counts = [
+        (policy.ceilings().len(), "clock"),
+        (policy.locations().len(), "location"),
+        (policy.rules().len(), "rule"),
+        (policy.states(), "state"),
+    ];
+    let counts =
+        counts.map(|(count, what)| format!("{count} {what}{}", if count == 1 { "" } else { "s" }));
+    let signals = Signals::of(policy);
+    let inputs = signals.words(policy.signals() & 0x0f);
+    let outputs = signals.words(policy.signals() & 0xf0);
+    format!("inputs {inputs}, outputs {outputs}, {}", counts.join(", "))
+}

@@ -1,0 +1,61 @@
+//! `join`: several policies as one.
+
+use groovepawn::{Policy, Refusal};
+
+use crate::fault::Fault;
+use crate::help;
+use crate::limits;
+use crate::out::Out;
+use crate::policies::Named;
+use crate::words::Words;
+
+pub fn obey(words: &Words) -> Result<(), Fault> {
+    let path = words.needed(&help::OUT)?;
+    let clean = match (words.has(&help::CLEAN), words.reading_named()?) {
+        (true, None) => return Err(words.wrong("--clean needs the reading, -r 1 or -r 2".into())),
+        (false, Some(_)) => {
+            return Err(words.wrong("a join has no reading; -r is that of --clean".into()))
+        }
+        (_, reading) => reading,
+    };
+    let [first, others @ ..] = &words.operands[..] else {
+        return Err(words.wrong_count());
+    };
+    let first = Named::read(first)?;
+    // All are read before the first is joined, so that a wrong one is told at once.
+    let others = others
+        .iter()
+        .map(|path| Named::read(path))
+        .collect::<Result<Vec<_>, _>>()?;
+    let cleaned = |policy: Policy| match clean {
+        None => Ok(policy),
+        Some(reading) => policy.clean(reading).map(|cleaned| cleaned.policy),
+    };
+    let mut joined =
+        cleaned(first.policy).map_err(|refusal| Fault::refused(&first.name, refusal))?;
+    for (number, other) in others.into_iter().enumerate() {
+        let refused = |refusal: Refusal| {
+            let what = format!("{} (policy {})", other.name, number + 2);
+            Fault::refused(what, why_not(refusal, &joined, &other.policy))
+        };
+        joined = joined
+            .join(&other.policy)
+            .and_then(cleaned)
+            .map_err(refused)?;
+    }
+    let mut out = Out::of(Some(path))?;
+    out.put(joined.bytes())?;
+    out.finish()
+}
+
+/// A refused join, with the limit that it is over.
+fn why_not(refusal: Refusal, joined: &Policy, other: &Policy) -> Refusal {
+    match refusal.number() {
+        12 => refusal.at(limits::signals(joined, other)),
+        13 => refusal.at(format!(
+            "joined to those before it: {}",
+            limits::over(joined, other)
+        )),
+        _ => refusal,
+    }
+}

@@ -1,0 +1,303 @@
+//! Where a policy file is wrong, in words. The number of the refusal is the library's;
+//! this looks for the place that it is about, in the order of the file.
+
+/// The place of a refusal from 1 to 9.
+pub fn place(file: &[u8], number: u8) -> Option<String> {
+    match walk(file) {
+        Err(found) if found.number == number => Some(found.place),
+        _ => None,
+    }
+}
+
+/// The first thing in a file that is wrong.
+#[derive(Debug)]
+struct Found {
+    number: u8,
+    place: String,
+}
+
+fn found<T>(number: u8, place: String) -> Result<T, Found> {
+    Err(Found { number, place })
+}
+
+const CUT_SHORT: u8 = 1;
+const COUNT: u8 = 2;
+const TAG: u8 = 3;
+const CEILING: u8 = 4;
+const LOCATION: u8 = 5;
+const RULE: u8 = 6;
+const BOUNDS: u8 = 7;
+const LEFT_OVER: u8 = 8;
+const TOO_MANY_STATES: u8 = 9;
+
+const MOST_SIGNALS: usize = 4;
+const MOST_CLOCKS: usize = 4;
+const MOST_LOCATIONS: usize = 64;
+const MOST_RULES: usize = 256;
+const MOST_STATES: u64 = 65_536;
+const HIGHEST_CEILING: u16 = 1_001;
+const NO_UPPER_BOUND: u16 = 65_535;
+const VIOLATION: u8 = 255;
+
+/// How many there are of what a rule may name.
+struct Head {
+    inputs: usize,
+    outputs: usize,
+    ceilings: Vec<u16>,
+    locations: usize,
+}
+
+fn walk(file: &[u8]) -> Result<(), Found> {
+    let mut cursor = Cursor { file, at: 0 };
+    let mut tags = Vec::new();
+    let inputs = signals(&mut cursor, "input", &mut tags)?;
+    let outputs = signals(&mut cursor, "output", &mut tags)?;
+    let ceilings = clocks(&mut cursor)?;
+    let locations = locations(&mut cursor)?;
+    let head = Head {
+        inputs,
+        outputs,
+        ceilings,
+        locations,
+    };
+    rules(&mut cursor, &head)?;
+    if cursor.at < file.len() {
+        return found(
+            LEFT_OVER,
+            format!("byte {}: the last rule ends before it", cursor.at),
+        );
+    }
+    states(&head)
+}
+
+/// A place in the file, moved on section by section.
+struct Cursor<'a> {
+    file: &'a [u8],
+    at: usize,
+}
+
+impl<'a> Cursor<'a> {
+    /// A number of so many bytes, the high one first.
+    fn count(&mut self, bytes: usize, what: &str) -> Result<usize, Found> {
+        let Some(number) = self.file.get(self.at..self.at + bytes) else {
+            let place = format!("byte {}: the count of {what} is missing", self.file.len());
+            return found(CUT_SHORT, place);
+        };
+        self.at += bytes;
+        Ok(number
+            .iter()
+            .fold(0, |number, &byte| number << 8 | usize::from(byte)))
+    }
+
+    /// So many items of a size.
+    fn items(&mut self, count: usize, size: usize, what: &str) -> Result<&'a [u8], Found> {
+        let rest = &self.file[self.at..];
+        let Some(items) = rest.get(..count * size) else {
+            let whole = rest.len() / size;
+            let end = self.file.len();
+            let place = format!("byte {end}: the file ends after {whole} of {count} {what}");
+            return found(CUT_SHORT, place);
+        };
+        self.at += items.len();
+        Ok(items)
+    }
+}
+
+fn within(count: usize, least: usize, most: usize, at: usize, what: &str) -> Result<(), Found> {
+    if (least..=most).contains(&count) {
+        return Ok(());
+    }
+    found(
+        COUNT,
+        format!("byte {at}: {count} {what}; there may be {least} to {most}"),
+    )
+}
+
+fn signals(cursor: &mut Cursor, what: &str, tags: &mut Vec<u8>) -> Result<usize, Found> {
+    let many = format!("{what}s");
+    let at = cursor.at;
+    let count = cursor.count(1, &many)?;
+    within(count, 0, MOST_SIGNALS, at, &many)?;
+    let first = cursor.at;
+    for (number, &tag) in cursor.items(count, 1, &many)?.iter().enumerate() {
+        let byte = first + number;
+        if !tag.is_ascii_uppercase() {
+            let place =
+                format!("byte {byte}: the tag of {what} {number} is {tag}, no letter A to Z");
+            return found(TAG, place);
+        }
+        if tags.contains(&tag) {
+            return found(
+                TAG,
+                format!("byte {byte}: {} is there already", char::from(tag)),
+            );
+        }
+        tags.push(tag);
+    }
+    Ok(count)
+}
+
+fn clocks(cursor: &mut Cursor) -> Result<Vec<u16>, Found> {
+    let at = cursor.at;
+    let count = cursor.count(1, "clocks")?;
+    within(count, 0, MOST_CLOCKS, at, "clocks")?;
+    let first = cursor.at;
+    let bytes = cursor.items(count, 2, "ceilings")?;
+    let ceilings: Vec<u16> = bytes.chunks_exact(2).map(number).collect();
+    for (clock, &ceiling) in ceilings.iter().enumerate() {
+        if !(1..=HIGHEST_CEILING).contains(&ceiling) {
+            let byte = first + 2 * clock;
+            return found(
+                CEILING,
+                format!("clock {clock}, byte {byte}: its ceiling is {ceiling}"),
+            );
+        }
+    }
+    Ok(ceilings)
+}
+
+fn locations(cursor: &mut Cursor) -> Result<usize, Found> {
+    let at = cursor.at;
+    let count = cursor.count(1, "locations")?;
+    within(count, 1, MOST_LOCATIONS, at, "locations")?;
+    let first = cursor.at;
+    for (location, &byte) in cursor.items(count, 1, "locations")?.iter().enumerate() {
+        if byte > 1 {
+            let at = first + location;
+            let place =
+                format!("location {location}, byte {at}: it is {byte}; 0 may rest, 1 must be left");
+            return found(LOCATION, place);
+        }
+    }
+    Ok(count)
+}
+
+/// How long the part of a rule before its bounds is, and the bounds of one clock.
+const RULE_HEAD: usize = 7;
+const RULE_BOUNDS: usize = 4;
+
+fn rules(cursor: &mut Cursor, head: &Head) -> Result<(), Found> {
+    let at = cursor.at;
+    let count = cursor.count(2, "rules")?;
+    within(count, 0, MOST_RULES, at, "rules")?;
+    let first = cursor.at;
+    let size = RULE_HEAD + RULE_BOUNDS * head.ceilings.len();
+    let mut last_source = 0;
+    for (rule, bytes) in cursor
+        .items(count, size, "rules")?
+        .chunks_exact(size)
+        .enumerate()
+    {
+        let byte = first + rule * size;
+        if let Some((at, words)) = wrong_head(bytes, head, last_source) {
+            return found(RULE, format!("rule {rule}, byte {}: {words}", byte + at));
+        }
+        last_source = bytes[0];
+        for (clock, (bounds, &ceiling)) in bytes[RULE_HEAD..]
+            .chunks_exact(RULE_BOUNDS)
+            .zip(&head.ceilings)
+            .enumerate()
+        {
+            if let Some((at, words)) = wrong_bounds(number(bounds), number(&bounds[2..]), ceiling) {
+                let at = byte + RULE_HEAD + RULE_BOUNDS * clock + at;
+                return found(
+                    BOUNDS,
+                    format!("rule {rule}, clock {clock}, byte {at}: {words}"),
+                );
+            }
+        }
+    }
+    Ok(())
+}
+
+/// What is wrong in the first seven bytes of a rule, and at which of them.
+fn wrong_head(rule: &[u8], head: &Head, last_source: u8) -> Option<(usize, String)> {
+    let (source, target) = (rule[0], rule[6]);
+    let locations = head.locations;
+    if usize::from(source) >= locations {
+        return Some((
+            0,
+            format!("its source {source} is no location; there are {locations}"),
+        ));
+    }
+    if source < last_source {
+        return Some((
+            0,
+            format!("its source {source} comes after {last_source}; sources never fall"),
+        ));
+    }
+    let masks = [
+        (1, head.inputs, "input care", "inputs"),
+        (3, head.outputs, "output care", "outputs"),
+    ];
+    for (at, count, mask, what) in masks {
+        if beyond(rule[at], count) {
+            return Some((
+                at,
+                format!("its {mask} {:#04x} has a bit beyond the {what}", rule[at]),
+            ));
+        }
+        if rule[at + 1] & !rule[at] != 0 {
+            let value = rule[at + 1];
+            return Some((
+                at + 1,
+                format!("its value {value:#04x} has a bit outside its {mask}"),
+            ));
+        }
+    }
+    if beyond(rule[5], head.ceilings.len()) {
+        return Some((
+            5,
+            format!(
+                "its reset mask {:#04x} has a bit beyond the clocks",
+                rule[5]
+            ),
+        ));
+    }
+    if usize::from(target) >= locations && target != VIOLATION {
+        return Some((
+            6,
+            format!("its target {target} is no location and not 255; there are {locations}"),
+        ));
+    }
+    None
+}
+
+fn beyond(mask: u8, count: usize) -> bool {
+    u32::from(mask) >> count != 0
+}
+
+/// What is wrong with the bounds of one clock, and at which of their bytes.
+fn wrong_bounds(low: u16, high: u16, ceiling: u16) -> Option<(usize, String)> {
+    if low > high {
+        return Some((0, format!("the low {low} is above the high {high}")));
+    }
+    if low > ceiling {
+        return Some((0, format!("the low {low} is above the ceiling {ceiling}")));
+    }
+    if high >= ceiling && high != NO_UPPER_BOUND {
+        return Some((
+            2,
+            format!("the high {high} is not below the ceiling {ceiling}"),
+        ));
+    }
+    None
+}
+
+fn states(head: &Head) -> Result<(), Found> {
+    let values = head.ceilings.iter().map(|&ceiling| u64::from(ceiling) + 1);
+    let states = values.product::<u64>() * head.locations as u64;
+    if states <= MOST_STATES {
+        return Ok(());
+    }
+    let ceilings: Vec<String> = head.ceilings.iter().map(u16::to_string).collect();
+    let (locations, ceilings) = (head.locations, ceilings.join(", "));
+    found(
+        TOO_MANY_STATES,
+        format!("{locations} locations and the ceilings {ceilings} make {states}"),
+    )
+}
+
+fn number(bytes: &[u8]) -> u16 {
+    u16::from_be_bytes([bytes[0], bytes[1]])
+}

@@ -1,0 +1,39 @@
+//! How far long work has come, on a terminal, from the second second on.
+
+use std::io::{self, IsTerminal, Write};
+use std::time::{Duration, Instant};
+
+const SELDOM: Duration = Duration::from_secs(1);
+
+pub struct Progress {
+    last: Instant,
+    shown: bool,
+    terminal: bool,
+}
+
+impl Progress {
+    pub fn begin() -> Progress {
+        Progress {
+            last: Instant::now(),
+            shown: false,
+            terminal: io::stderr().is_terminal(),
+        }
+    }
+
+    pub fn tell(&mut self, ticks: u64) {
+        if self.terminal && self.last.elapsed() >= SELDOM {
+            self.last = Instant::now();
+            self.shown = true;
+            let _ = write!(io::stderr(), "\r{ticks} ticks");
+        }
+    }
+}
+
+/// The line is taken away again.
+impl Drop for Progress {
+    fn drop(&mut self) {
+        if self.shown {
+            let _ = write!(io::stderr(), "\r\x1b[K");
+        }
+    }
+}
