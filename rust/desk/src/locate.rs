@@ -301,3 +301,29 @@ fn states(head: &Head) -> Result<(), Found> {
 fn number(bytes: &[u8]) -> u16 {
     u16::from_be_bytes([bytes[0], bytes[1]])
 }
+
+#[cfg(test)]
+mod tests {
+    use super::walk;
+    use groovepawn::Policy;
+
+    use crate::random::{policy, spoilt, Random};
+
+    /// The walk finds the library's number, or nothing where the library does.
+    #[test]
+    fn the_place_is_that_of_the_librarys_number() {
+        let mut random = Random::new(10);
+        let mut seen = [0; 10];
+        for _ in 0..200_000 {
+            let file = policy(&mut random);
+            let file = spoilt(&mut random, &file);
+            let number = Policy::check(&file)
+                .err()
+                .map_or(0, |refusal| refusal.number());
+            let found = walk(&file).err().map_or(0, |found| found.number);
+            assert_eq!(found, number, "{file:?}");
+            seen[usize::from(number)] += 1;
+        }
+        assert!(seen[..9].iter().all(|&count| count > 20), "{seen:?}");
+    }
+}

@@ -15,6 +15,11 @@ mod man;
 mod out;
 mod policies;
 mod progress;
+// Random policies for the tests, of which some functions serve other tests.
+#[cfg(test)]
+#[allow(dead_code)]
+#[path = "../tests/common/random.rs"]
+mod random;
 mod runner;
 mod signals;
 mod texts;
