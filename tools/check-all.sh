@@ -7,7 +7,7 @@
 set -uo pipefail
 cd "$(dirname "$0")/.."
 
-names=(gate edits edges lists header examples documents independent bench processors)
+names=(gate edits edges lists header examples documents desk station independent bench processors)
 declare -A does=(
     [gate]='.ci/run'
     [edits]='python3 tools/must-fail-logs.py'
@@ -16,6 +16,8 @@ declare -A does=(
     [header]='python3 tools/check-header.py'
     [examples]='rt staticlib groovepawn && example/try.sh'
     [documents]='rt staticlib groovepawn && tools/check-documents.sh && tools/spoil-documents.py'
+    [desk]='rt staticlib groovepawn && cd rust && cargo test --offline'
+    [station]='make desk && example/station/play.sh && git diff --exit-code example/station'
     [independent]='cd independent && cargo test --offline'
     [bench]='cd bench && cargo test --offline'
     [processors]='tools/cross-test.sh'
