@@ -214,7 +214,7 @@ impl Policy {
 
     /// The ceilings of the clocks.
     pub fn ceilings(&self) -> Vec<u16> {
-        let ceilings = section(self.from_clocks(), 2);
+        let ceilings = section(self.clocks_on(), 2);
         ceilings
             .chunks_exact(2)
             .map(|two| u16::from_be_bytes([two[0], two[1]]))
@@ -223,7 +223,7 @@ impl Policy {
 
     /// The locations; number 0 is the start.
     pub fn locations(&self) -> Vec<Location> {
-        let bytes = section(self.from_locations(), 1);
+        let bytes = section(self.locations_on(), 1);
         bytes
             .iter()
             .map(|&byte| Location {
@@ -234,9 +234,9 @@ impl Policy {
 
     /// The rules.
     pub fn rules(&self) -> Vec<Rule> {
-        let clocks = section(self.from_clocks(), 2).len() / 2;
-        let locations = section(self.from_locations(), 1).len();
-        let after_count = &self.from_locations()[1 + locations + 2..];
+        let clocks = section(self.clocks_on(), 2).len() / 2;
+        let locations = section(self.locations_on(), 1).len();
+        let after_count = &self.locations_on()[1 + locations + 2..];
         after_count
             .chunks_exact(HEAD + BOUNDS * clocks)
             .map(Rule::of_bytes)
@@ -254,13 +254,15 @@ impl Policy {
         bits(self.inputs()) | bits(self.outputs()) << 4
     }
 
-    fn from_clocks(&self) -> &[u8] {
+    /// The file from its clocks on.
+    fn clocks_on(&self) -> &[u8] {
         &self.file[2 + self.inputs().len() + self.outputs().len()..]
     }
 
-    fn from_locations(&self) -> &[u8] {
-        let from = self.from_clocks();
-        &from[1 + section(from, 2).len()..]
+    /// The file from its locations on.
+    fn locations_on(&self) -> &[u8] {
+        let clocks_on = self.clocks_on();
+        &clocks_on[1 + section(clocks_on, 2).len()..]
     }
 }
 

@@ -1,6 +1,6 @@
 //! `live`: a filter beside a running station.
 
-use std::io::{self, Read, Write};
+use std::io::{self, BufRead, Read, Write};
 
 use groovepawn::{Refusal, Station};
 
@@ -23,7 +23,7 @@ pub fn obey(words: &Words) -> Result<(), Fault> {
     )
 }
 
-fn filter(mut station: Station, mut from: impl Read, mut to: impl Write) -> Result<(), Fault> {
+fn filter(mut station: Station, mut from: impl BufRead, mut to: impl Write) -> Result<(), Fault> {
     let mut tick = 1u64;
     while let Some(x) = next(&mut from)? {
         let passed = station
@@ -45,7 +45,7 @@ fn filter(mut station: Station, mut from: impl Read, mut to: impl Write) -> Resu
 }
 
 /// The next byte; none at the end.
-fn next(from: &mut impl Read) -> Result<Option<u8>, Fault> {
+fn next(from: &mut impl BufRead) -> Result<Option<u8>, Fault> {
     match from.bytes().next() {
         None => Ok(None),
         Some(Ok(byte)) => Ok(Some(byte)),

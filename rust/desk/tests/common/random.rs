@@ -99,7 +99,8 @@ fn rule(
 pub fn events(random: &mut Random, file: &[u8], count: usize) -> Vec<u8> {
     let inputs = file[0];
     let outputs = file[1 + usize::from(inputs)];
-    let signals = (1u8 << inputs) - 1 | ((1u8 << outputs) - 1) << 4;
+    let bits = |count: u8| (1u8 << count) - 1;
+    let signals = bits(inputs) | (bits(outputs) << 4);
     (0..count).map(|_| random.next() as u8 & signals).collect()
 }
 
