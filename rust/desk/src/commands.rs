@@ -14,24 +14,25 @@ pub mod why;
 use std::ffi::OsString;
 
 use crate::fault::Fault;
-use crate::help::{self, Command, COMMANDS};
+use crate::help::{Command, COMMANDS};
 use crate::man;
 use crate::out::Out;
+use crate::pages;
 use crate::words::Words;
 
 /// Does what the words of the call say.
 pub fn obey(words: &[OsString]) -> Result<(), Fault> {
     let Some((first, rest)) = words.split_first() else {
-        return Err(Fault::Wrong(format!("no command\n\n{}", help::page())));
+        return Err(Fault::Wrong(format!("no command\n\n{}", pages::help())));
     };
     match &*first.to_string_lossy() {
-        "-h" | "--help" => print(&help::page()),
-        "--version" => print(&help::version()),
+        "-h" | "--help" => print(&pages::help()),
+        "--version" => print(&pages::version()),
         // For whoever installs the program.
         "--man" => print(&man::page()),
         "help" => help_on(rest),
         name => match command(name) {
-            Some(command) if asks_for_help(rest) => print(&help::page_of(command)),
+            Some(command) if asks_for_help(rest) => print(&pages::help_on(command)),
             Some(command) => (command.obey)(&Words::parse(command, rest)?),
             None => Err(no_command(name)),
         },
@@ -40,11 +41,11 @@ pub fn obey(words: &[OsString]) -> Result<(), Fault> {
 
 fn help_on(words: &[OsString]) -> Result<(), Fault> {
     let Some(name) = words.first() else {
-        return print(&help::page());
+        return print(&pages::help());
     };
     let name = name.to_string_lossy();
     match command(&name) {
-        Some(command) => print(&help::page_of(command)),
+        Some(command) => print(&pages::help_on(command)),
         None => Err(no_command(&name)),
     }
 }

@@ -1,4 +1,5 @@
-//! The words of `--help` and of the man page, and the table that options are read by.
+//! The commands and their options: the words of `--help` and of the man page, and the
+//! table that options are read by.
 
 use crate::commands;
 use crate::fault::Fault;
@@ -90,20 +91,23 @@ pub const NAME: &str = "groovepawn";
 pub const SUMMARY: &str = "policies for transfer stations: check, join, clean, run, explain, draw";
 
 pub const ABOUT: &[&str] = &[
-    "A policy says which inputs and outputs of a station may come, tick by tick. The enforcer stands between the field wiring and the controller: it \
-     corrects what the policy forbids, as little as possible, the input first. What is permitted, released and refused, and why, is decided by the \
-     proved library; this program shows its answers.",
+    "A policy says which inputs and outputs of a station may come, tick by tick. The enforcer \
+     stands between the field wiring and the controller: it corrects what the policy forbids, \
+     as little as possible, the input first. What is permitted, released and refused, and why, \
+     is decided by the proved library; this program shows its answers.",
 ];
 
 pub const FILES: &[&str] = &[
-    "POLICY is a policy file (docs/POLICY-FILE.md). EVENTS is a text with a line for each tick: the signals that are on, by their letters, as A C; - \
-     where none is on; * 20 at the end for twenty such ticks; # begins a comment. With --bytes it has one byte for each tick. It may be of any length. \
-     The word - stands for standard input.",
+    "POLICY is a policy file (docs/POLICY-FILE.md). EVENTS is a text with a line for each tick: \
+     the signals that are on, by their letters, as A C; - where none is on; * 20 at the end for \
+     twenty such ticks; # begins a comment. With --bytes it has one byte for each tick. It may \
+     be of any length. The word - stands for standard input. Where a run needs a reading and -r \
+     does not name it, it is 1, as that of the program enforce.",
 ];
 
 pub const STATUS: &[&str] = &[
-    "0: done. 1: refused, with the number, its words and the place on standard error, or a file could not be read or written, or a text of events is \
-     wrong. 2: called wrongly.",
+    "0: done. 1: refused, with the number, its words and the place on standard error, or a file \
+     could not be read or written, or a text of events is wrong. 2: called wrongly.",
 ];
 
 pub const COMMANDS: &[Command] = &[
@@ -111,8 +115,12 @@ pub const COMMANDS: &[Command] = &[
         name: "check",
         takes: "[-r 1|2] POLICY ..",
         does: "say how many states a policy has, how many are live, and its verdict; or where it is wrong",
-        more: &["Verdict 0: every state that a permitted stream leads to is live. Verdict 1: the start is live, and some such state is not: the enforcer \
-                 will keep streams away from it. A policy whose start is not live is hopeless, and refused by 11. Without -r both readings are told."],
+        more: &[
+            "Verdict 0: every state that a permitted stream leads to is live. Verdict 1: the \
+             start is live, and some such state is not: the enforcer will keep streams away \
+             from it. A policy whose start is not live is hopeless, and refused by 11. Without \
+             -r both readings are told.",
+        ],
         flags: &[&READING],
         obey: commands::check::obey,
     },
@@ -120,8 +128,10 @@ pub const COMMANDS: &[Command] = &[
         name: "join",
         takes: "[--clean -r 1|2] POLICY POLICY .. -o FILE",
         does: "join policies over the same signals into one that asks what all ask",
-        more: &["They are joined from left to right. A join has at most 64 locations, 4 clocks, 256 rules and 65,536 states; rules multiply, so clean in \
-                 between."],
+        more: &[
+            "They are joined from left to right. A join has at most 64 locations, 4 clocks, 256 \
+             rules and 65,536 states; rules multiply, so clean in between.",
+        ],
         flags: &[&CLEAN, &READING, &OUT],
         obey: commands::join::obey,
     },
@@ -129,7 +139,10 @@ pub const COMMANDS: &[Command] = &[
         name: "clean",
         takes: "-r 1|2 POLICY -o FILE",
         does: "write a policy without what is of no use, and print what went",
-        more: &["Under the reading named the cleaned policy releases the same for every stream. Numbers are those of the old file, counted from 0."],
+        more: &[
+            "Under the reading named the cleaned policy releases the same for every stream. \
+             Numbers are those of the old file, counted from 0.",
+        ],
         flags: &[&READING, &OUT],
         obey: commands::clean::obey,
     },
@@ -137,8 +150,11 @@ pub const COMMANDS: &[Command] = &[
         name: "run",
         takes: "[-r 1|2] [--bytes] [--plain] POLICY EVENTS",
         does: "print what is released, a line for each tick",
-        more: &["The lines are themselves a text of events: the signals released, and in a comment the tick, with what was read where a half was edited. \
-                 With --bytes one byte is read and written for each tick."],
+        more: &[
+            "The lines are themselves a text of events: the signals released, and in a comment \
+             the tick, with what was read where a half was edited. With --bytes one byte is \
+             read and written for each tick.",
+        ],
         flags: &[&READING, &BYTES, &PLAIN],
         obey: commands::run::obey,
     },
@@ -146,7 +162,10 @@ pub const COMMANDS: &[Command] = &[
         name: "why",
         takes: "[-r 1|2] [--bytes] [--from N] [--to N] POLICY EVENTS",
         does: "tell for each edited tick what was read and released, and why",
-        more: &["Rules, locations and clocks are counted from 0, as in the file. The last line says how many of the ticks told of were edited."],
+        more: &[
+            "Rules, locations and clocks are counted from 0, as in the file. The last line says \
+             how many of the ticks told of were edited.",
+        ],
         flags: &[&READING, &BYTES, &FROM, &TO],
         obey: commands::why::obey,
     },
@@ -154,7 +173,10 @@ pub const COMMANDS: &[Command] = &[
         name: "wave",
         takes: "[-r 1|2] [--bytes] [--all] POLICY EVENTS -o FILE",
         does: "write what is released as a file for wave viewers (Value Change Dump)",
-        more: &["A time of the file is a tick, drawn as 100 ms; without --all there are at most 16,384."],
+        more: &[
+            "A time of the file is a tick, drawn as 100 ms; without --all there are at most \
+             16,384.",
+        ],
         flags: &[&READING, &BYTES, &ALL, &OUT],
         obey: commands::wave::obey,
     },
@@ -162,8 +184,10 @@ pub const COMMANDS: &[Command] = &[
         name: "draw",
         takes: "[-r 1|2] POLICY [-o FILE]",
         does: "write the automaton for Graphviz (dot -Tsvg)",
-        more: &["Locations that must be left have two rings, violations are red, and what no permitted stream enters or uses under the reading is grey \
-                 and dashed."],
+        more: &[
+            "Locations that must be left have two rings, violations are red, and what no \
+             permitted stream enters or uses under the reading is grey and dashed.",
+        ],
         flags: &[&READING, &OUT],
         obey: commands::draw::obey,
     },
@@ -171,8 +195,10 @@ pub const COMMANDS: &[Command] = &[
         name: "firmware",
         takes: "[-r 1|2] POLICY [-o FILE]",
         does: "write a C header with the policy, its marks and its index as constants",
-        more: &["A small controller has them in flash and prepares nothing. The names are policy, marks and rule_index; POLICY_READING is the reading \
-                 that the marks belong to."],
+        more: &[
+            "A small controller has them in flash and prepares nothing. The names are policy, \
+             marks and rule_index; POLICY_READING is the reading that the marks belong to.",
+        ],
         flags: &[&READING, &OUT],
         obey: commands::firmware::obey,
     },
@@ -180,8 +206,11 @@ pub const COMMANDS: &[Command] = &[
         name: "live",
         takes: "[-r 1|2] POLICY",
         does: "correct a running station: read x, write x', read y, write y', one byte each, tick after tick",
-        more: &["Each byte is answered at once. The end of the input between two ticks ends it with status 0, within a tick with status 1. A byte with a \
-                 bit beyond its signals is refused: nothing is written for it, and it ends with status 1."],
+        more: &[
+            "Each byte is answered at once. The end of the input between two ticks ends it with \
+             status 0, within a tick with status 1. A byte with a bit beyond its signals is \
+             refused: nothing is written for it, and it ends with status 1.",
+        ],
         flags: &[&READING],
         obey: commands::live::obey,
     },
@@ -189,97 +218,10 @@ pub const COMMANDS: &[Command] = &[
         name: "ticks",
         takes: "TIME --tick LENGTH --down|--up",
         does: "print a time in ticks",
-        more: &["TIME and LENGTH are whole numbers with a unit: ms, s or min, as 250ms."],
+        more: &[
+            "TIME and LENGTH are whole numbers with a unit: ms, s or min, as 250ms.",
+        ],
         flags: &[&TICK, &DOWN, &UP],
         obey: commands::ticks::obey,
     },
 ];
-
-/// The page of `--help`.
-pub fn page() -> String {
-    let mut page = format!("{NAME}: {SUMMARY}\n\n");
-    put_paragraphs(&mut page, ABOUT);
-    for command in COMMANDS {
-        page.push_str(&format!("  {NAME} {}\n", command.usage()));
-        put_folded(&mut page, command.does, 6);
-    }
-    page.push_str(&format!(
-        "  {NAME} COMMAND --help\n      more about a command\n  {NAME} --version\n      what this is, and how it was built\n\n"
-    ));
-    put_paragraphs(&mut page, FILES);
-    page.push_str("Status:\n");
-    put_paragraphs(&mut page, STATUS);
-    page.truncate(page.trim_end().len());
-    page.push('\n');
-    page
-}
-
-/// The page of a command's `--help`.
-pub fn page_of(command: &Command) -> String {
-    let mut page = format!("usage: {NAME} {}\n\n", command.usage());
-    put_folded(&mut page, &sentence(command.does), 0);
-    page.push('\n');
-    put_paragraphs(&mut page, command.more);
-    for flag in command.flags {
-        page.push_str(
-            &format!("  {} {}\n", flag.name, flag.value.unwrap_or_default()).replace(" \n", "\n"),
-        );
-        put_folded(&mut page, flag.words, 6);
-    }
-    page.push('\n');
-    put_paragraphs(&mut page, FILES);
-    page.truncate(page.trim_end().len());
-    page.push('\n');
-    page
-}
-
-/// What `--version` prints.
-pub fn version() -> String {
-    let (major, minor, patch) = groovepawn::HEADER_VERSION;
-    format!(
-        "{NAME} {}\nlibrary: groovepawn.h {major}.{minor}.{patch}; kit: {}\nbuilt by {}\n",
-        env!("CARGO_PKG_VERSION"),
-        env!("DESK_KIT"),
-        env!("DESK_BUILT"),
-    )
-}
-
-/// Words as a sentence.
-pub fn sentence(words: &str) -> String {
-    let mut letters = words.chars();
-    match letters.next() {
-        Some(first) => format!("{}{}.", first.to_uppercase(), letters.as_str()),
-        None => String::new(),
-    }
-}
-
-fn put_paragraphs(page: &mut String, paragraphs: &[&str]) {
-    for paragraph in paragraphs {
-        put_folded(page, paragraph, 0);
-        page.push('\n');
-    }
-}
-
-/// The width of a page.
-const WIDTH: usize = 80;
-
-/// Words in lines of at most a width, set in by some blanks.
-fn put_folded(page: &mut String, words: &str, set_in: usize) {
-    let mut width = 0;
-    for word in words.split_whitespace() {
-        if width > 0 && width + 1 + word.len() > WIDTH {
-            page.push('\n');
-            width = 0;
-        }
-        if width == 0 {
-            page.push_str(&" ".repeat(set_in));
-            width = set_in;
-        } else {
-            page.push(' ');
-            width += 1;
-        }
-        page.push_str(word);
-        width += word.len();
-    }
-    page.push('\n');
-}

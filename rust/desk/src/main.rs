@@ -13,6 +13,7 @@ mod limits;
 mod locate;
 mod man;
 mod out;
+mod pages;
 mod policies;
 mod progress;
 // Random policies for the tests, of which some functions serve other tests.

@@ -1,6 +1,7 @@
 //! The man page, of the same words as `--help`.
 
-use crate::help::{sentence, Command, ABOUT, COMMANDS, FILES, NAME, STATUS, SUMMARY};
+use crate::help::{Command, ABOUT, COMMANDS, FILES, NAME, STATUS, SUMMARY};
+use crate::pages::sentence;
 
 pub fn page() -> String {
     let mut page = format!(

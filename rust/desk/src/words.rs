@@ -6,6 +6,7 @@ use groovepawn::Reading;
 
 use crate::fault::Fault;
 use crate::help::{Command, Flag};
+use crate::policies::STANDARD_INPUT;
 
 /// The words that a command was given.
 pub struct Words<'a> {
@@ -32,6 +33,15 @@ impl<'a> Words<'a> {
             } else {
                 parsed.option(word, &mut words)?;
             }
+        }
+        if parsed
+            .operands
+            .iter()
+            .filter(|&&word| word == STANDARD_INPUT)
+            .count()
+            > 1
+        {
+            return Err(parsed.wrong("standard input can be read once".to_string()));
         }
         Ok(parsed)
     }

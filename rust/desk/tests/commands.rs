@@ -232,8 +232,8 @@ fn wave_writes_what_is_released() {
     let all = desk_reading(&["wave", "--all", &d, "-", "-o", "-"], b"R\n-*4").good();
     for line in [
         "$var wire 1 c C_read $end",
-        "$var wire 1 1 output_edited $end",
-        "#4\n1C\n11\n#5\n",
+        "$var wire 1 > output_edited $end",
+        "#4\n1C\n1>\n#5\n",
     ] {
         assert!(all.text().contains(line), "{}", all.text());
     }
@@ -345,6 +345,7 @@ fn help_and_version_are_there_for_all() {
     desk(&["run", "a"]).bad(2, "usage: groovepawn run");
     desk(&["run", "-r"]).bad(2, "-r needs 1|2 behind it");
     desk(&["run", "-r", "1", "-r", "2", "a", "b"]).bad(2, "-r is there twice");
+    desk(&["run", "-", "-"]).bad(2, "standard input can be read once");
     desk(&["check", "--", "-r"]).bad(1, "-r: No such file");
 }
 

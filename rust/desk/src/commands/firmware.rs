@@ -16,7 +16,8 @@ pub fn obey(words: &Words) -> Result<(), Fault> {
     let number = reading.number();
     let (states, live) = (summary.states, summary.live);
     let mut text = format!(
-        "/* A policy, its marks under reading {number} and its index: {states} states, {live} of them live. Made by groovepawn firmware. */\n\
+        "/* A policy, its marks under reading {number} and its index: {states} states, {live} of \
+         them live. Made by groovepawn firmware. */\n\
          #ifndef POLICY_H\n#define POLICY_H\n\n#include <stdint.h>\n\n#define POLICY_READING {number}\n"
     );
     put_array(&mut text, "uint8_t policy", named.policy.bytes());

@@ -94,8 +94,8 @@ fn wires(policy: &Policy) -> Vec<Wire> {
             bit,
         );
     }
-    wire("input_edited".to_string(), '0', edits, INPUT_EDITED);
-    wire("output_edited".to_string(), '1', edits, OUTPUT_EDITED);
+    wire("input_edited".to_string(), '<', edits, INPUT_EDITED);
+    wire("output_edited".to_string(), '>', edits, OUTPUT_EDITED);
     wires
 }
 
