@@ -3,7 +3,7 @@
 use std::ffi::OsStr;
 use std::io::{BufRead, BufReader, Read};
 
-use groovepawn::{Policy, Refusal};
+use groovepawn::Policy;
 
 use crate::fault::Fault;
 use crate::policies::{name_of, open};
@@ -152,13 +152,10 @@ impl Events {
         }
     }
 
+    /// A word that names no signal: there is no event to put to the library.
     fn no_signal(&self, word: &str, tick: u64) -> Fault {
         let all = self.signals.all();
-        let place = format!(
-            "line {}, tick {tick}: no signal {word}; there are {all}",
-            self.line
-        );
-        Fault::refused(&self.name, Refusal::of(15).at(place))
+        self.wrong(format!("tick {tick}: no signal {word}; there are {all}"))
     }
 
     fn wrong(&self, words: impl AsRef<str>) -> Fault {

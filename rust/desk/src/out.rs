@@ -51,9 +51,12 @@ impl Out {
         };
         match opened {
             Ok((file, place)) => Ok(Out::to(name, Box::new(file), place)),
-            Err(error) if error.kind() == io::ErrorKind::AlreadyExists => Err(Fault::Failed(
-                format!("{}: it is in the way", part_of(path).display()),
-            )),
+            Err(error) if error.kind() == io::ErrorKind::AlreadyExists => {
+                Err(Fault::Failed(format!(
+                    "{}: it is in the way: remove it if nobody writes it",
+                    part_of(path).display()
+                )))
+            }
             Err(error) => Err(Fault::of_io(&name, &error)),
         }
     }

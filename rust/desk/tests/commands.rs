@@ -162,11 +162,10 @@ fn events_that_are_wrong_are_told_by_their_line() {
     let folder = Folder::new();
     let s = folder.file("s", S);
     let told = |events: &[u8], words: &str| desk_reading(&["run", &s, "-"], events).bad(1, words);
-    let told_15 = told(
+    told(
         b"A\n\n- * 5\nQ\n",
-        "refused 15: an event, an input or an output has a bit beyond its signals",
+        "line 4: tick 7: no signal Q; there are A B R",
     );
-    told_15.bad(1, "line 4, tick 7: no signal Q; there are A B R");
     told(b"AB\n", "no signal AB");
     told(b"A A\n", "line 1: A is there twice");
     told(b"- A\n", "no signal -");
@@ -249,7 +248,7 @@ fn a_wave_that_is_too_long_is_refused_and_not_written() {
     desk_reading(&["wave", &d, "-", "-o", &out], b"- * 16384").good();
     let long = folder.path("long.vcd");
     desk_reading(&["wave", &d, "-", "-o", &long], b"- * 16385").bad(1, "refused 29");
-    desk_reading(&["wave", &d, "-", "-o", &long], b"- * 9\nQ").bad(1, "refused 15");
+    desk_reading(&["wave", &d, "-", "-o", &long], b"- * 9\nQ").bad(1, "tick 10: no signal Q");
     assert_eq!(folder.names(), ["d", "d.vcd"]);
     desk_reading(&["wave", "--all", &d, "-", "-o", &long], b"- * 200000").good();
     assert!(std::fs::read_to_string(&long)
@@ -288,6 +287,8 @@ fn firmware_writes_constants() {
         .text()
         .contains("static const uint16_t rule_index[] = {\n    0, 2, 2, 0, 0,"));
     desk(&["firmware", &folder.file("n", N)]).bad(1, "refused 11");
+    let second = desk(&["firmware", "-r", "2", &folder.file("d", D)]).good();
+    assert!(second.text().contains("#define POLICY_READING 2"));
 }
 
 #[test]

@@ -6,7 +6,7 @@ mod common;
 use std::fs::{self, OpenOptions, Permissions};
 use std::os::unix::fs::PermissionsExt;
 use std::os::unix::process::CommandExt;
-use std::process::Stdio;
+use std::process::{Command, Stdio};
 
 use common::samples::{D, K, T};
 use common::{desk, desk_reading, program, Folder};
@@ -108,8 +108,11 @@ fn no_permission() {
     let kept = folder.file("kept", K);
     fs::set_permissions(&secret, Permissions::from_mode(0o000)).expect("they are ours");
     fs::set_permissions(&kept, Permissions::from_mode(0o444)).expect("they are ours");
+    // Nobody may well have no way to where the program was built.
+    let copy = folder.path("groovepawn");
+    fs::copy(env!("CARGO_BIN_EXE_groovepawn"), &copy).expect("it can be copied");
     let as_nobody = |words: &[&str]| {
-        let mut command = program();
+        let mut command = Command::new(&copy);
         command.args(words);
         if fs::File::open(&secret).is_ok() {
             command.uid(NOBODY).gid(NOBODY);
