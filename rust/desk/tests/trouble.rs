@@ -108,6 +108,8 @@ fn no_permission() {
     let kept = folder.file("kept", K);
     fs::set_permissions(&secret, Permissions::from_mode(0o000)).expect("they are ours");
     fs::set_permissions(&kept, Permissions::from_mode(0o444)).expect("they are ours");
+    // Others may make files beside it, and still not replace it.
+    fs::set_permissions(folder.path("."), Permissions::from_mode(0o777)).expect("it is ours");
     // Nobody may well have no way to where the program was built.
     let copy = folder.path("groovepawn");
     fs::copy(env!("CARGO_BIN_EXE_groovepawn"), &copy).expect("it can be copied");
