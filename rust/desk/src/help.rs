@@ -44,7 +44,7 @@ pub const OUT: Flag = Flag {
 pub const CLEAN: Flag = Flag {
     name: "--clean",
     value: None,
-    words: "clean after every join, under the reading of -r, so that more clauses fit",
+    words: "clean each policy, and after every join, under the reading of -r, so that more fits",
 };
 pub const BYTES: Flag = Flag {
     name: "--bytes",

@@ -2,8 +2,10 @@
 
 mod common;
 
+use common::random::{policy, Random};
 use common::samples::{D, DOORS, K, N, S, T};
 use common::{desk, desk_reading, Folder};
+use groovepawn::{Policy, Reading};
 
 #[test]
 fn check_tells_states_and_verdicts() {
@@ -348,6 +350,61 @@ fn help_and_version_are_there_for_all() {
     desk(&["run", "-r", "1", "-r", "2", "a", "b"]).bad(2, "-r is there twice");
     desk(&["run", "-", "-"]).bad(2, "standard input can be read once");
     desk(&["check", "--", "-r"]).bad(1, "-r: No such file");
+}
+
+#[test]
+fn lines_may_end_as_on_another_system() {
+    let folder = Folder::new();
+    let s = folder.file("s", S);
+    let said = desk_reading(&["run", &s, "-"], b"A\r\n- * 2\r\n\r\nR").good();
+    assert_eq!(said.text().lines().count(), 1 + 4);
+}
+
+#[test]
+fn what_never_ends_is_told_by_its_beginning() {
+    let folder = Folder::new();
+    let s = folder.file("s", S);
+    desk(&["check", "/dev/zero"]).bad(1, "byte 3: 0 locations");
+    desk(&["run", &s, "/dev/zero"]).bad(1, "line 1: it is longer than 4096 bytes");
+}
+
+#[test]
+fn a_drawing_has_each_rule_once_and_a_join_is_the_librarys() {
+    let folder = Folder::new();
+    let mut random = Random::new(13);
+    let mut joins = 0;
+    for _ in 0..40 {
+        let file = policy(&mut random);
+        let checked = Policy::check(&file).expect("it is made to pass");
+        let path = folder.file("policy", &file);
+        let drawn = desk(&["draw", &path]).good();
+        for (number, rule) in checked.rules().iter().enumerate() {
+            let from = format!("  q{} -> ", rule.source);
+            let label = format!("[label=\"{number}: ");
+            let lines = drawn
+                .text()
+                .lines()
+                .filter(|line| line.starts_with(&from) && line.contains(&label));
+            assert_eq!(lines.count(), 1, "{}", drawn.text());
+        }
+        let out = folder.path("joined");
+        let said = desk(&["join", "--clean", "-r", "2", &path, &path, "-o", &out]);
+        let cleaned = |policy: &Policy| {
+            policy
+                .clean(Reading::AfterCounting)
+                .map(|cleaned| cleaned.policy)
+        };
+        let part = cleaned(&checked).expect("it passed its check");
+        match part.join(&part).and_then(|both| cleaned(&both)) {
+            Ok(joined) => {
+                said.good();
+                assert_eq!(std::fs::read(&out).expect("it was written"), joined.bytes());
+                joins += 1;
+            }
+            Err(refusal) => drop(said.bad(1, &format!("(policy 2): {refusal}"))),
+        }
+    }
+    assert!(joins > 10, "{joins} joined");
 }
 
 impl common::Done {

@@ -134,3 +134,13 @@ fn every_number_has_words_of_its_own() {
     }
     assert_eq!(Refusal::of(200).words(), "a refusal of another version");
 }
+
+/// The package has the version of the functions that it calls.
+#[test]
+fn the_version_is_that_of_the_header() {
+    let (major, minor, patch) = groovepawn::HEADER_VERSION;
+    assert_eq!(
+        format!("{major}.{minor}.{patch}"),
+        env!("CARGO_PKG_VERSION")
+    );
+}

@@ -18,31 +18,29 @@ pub fn obey(words: &Words) -> Result<(), Fault> {
         }
         (_, reading) => reading,
     };
-    let [first, others @ ..] = &words.operands[..] else {
-        return Err(words.wrong_count());
-    };
-    let first = Named::read(first)?;
     // All are read before the first is joined, so that a wrong one is told at once.
-    let others = others
+    let parts = words
+        .operands
         .iter()
         .map(|path| Named::read(path))
         .collect::<Result<Vec<_>, _>>()?;
-    let cleaned = |policy: Policy| match clean {
-        None => Ok(policy),
+    let cleaned = |policy: &Policy| match clean {
+        None => Ok(policy.clone()),
         Some(reading) => policy.clean(reading).map(|cleaned| cleaned.policy),
     };
-    let mut joined =
-        cleaned(first.policy).map_err(|refusal| Fault::refused(&first.name, refusal))?;
-    for (number, other) in others.into_iter().enumerate() {
-        let refused = |refusal: Refusal| {
-            let what = format!("{} (policy {})", other.name, number + 2);
-            Fault::refused(what, why_not(refusal, &joined, &other.policy))
-        };
-        joined = joined
-            .join(&other.policy)
-            .and_then(cleaned)
-            .map_err(refused)?;
+    let mut joined: Option<Policy> = None;
+    for (number, part) in parts.iter().enumerate() {
+        let what = || format!("{} (policy {})", part.name, number + 1);
+        let policy = cleaned(&part.policy).map_err(|refusal| Fault::refused(what(), refusal))?;
+        joined = Some(match joined {
+            None => policy,
+            Some(before) => {
+                let both = before.join(&policy).and_then(|both| cleaned(&both));
+                both.map_err(|refusal| Fault::refused(what(), why_not(refusal, &before, &policy)))?
+            }
+        });
     }
+    let joined = joined.ok_or_else(|| words.wrong_count())?;
     let mut out = Out::of(Some(path))?;
     out.put(joined.bytes())?;
     out.finish()
