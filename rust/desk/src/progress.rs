@@ -27,13 +27,19 @@ impl Progress {
             let _ = write!(io::stderr(), "\r{ticks} ticks");
         }
     }
-}
 
-/// The line is taken away again.
-impl Drop for Progress {
-    fn drop(&mut self) {
+    /// The line is taken away again.
+    pub fn end(&mut self) {
         if self.shown {
+            self.shown = false;
             let _ = write!(io::stderr(), "\r\x1b[K");
         }
+    }
+}
+
+/// Also where the work is given up.
+impl Drop for Progress {
+    fn drop(&mut self) {
+        self.end();
     }
 }

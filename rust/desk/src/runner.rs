@@ -62,6 +62,7 @@ impl<'a> Runner<'a> {
         let before = self.station.state();
         let count = self.release()?;
         if count == 0 {
+            self.progress.end();
             return match self.fault.take() {
                 Some(fault) => Err(fault),
                 None => Ok(None),
