@@ -11,6 +11,9 @@ import sys
 
 TOP = pathlib.Path(__file__).resolve().parent.parent
 
+# What a crate only hands on, and so does not name: the prover must see the type all the same.
+HANDED_ON = {("pointing", "declarations")}
+
 
 def sources(crate):
     """All of a crate's Rattle and antt as one text."""
@@ -29,8 +32,9 @@ def main():
         if line.startswith("#") or ":" not in line:
             continue
         crate, below = line.split(":")
-        text = sources(crate.strip())
-        unused += [f"{crate.strip()}: {other}" for other in below.split() if not names(text, other)]
+        crate = crate.strip()
+        text = sources(crate)
+        unused += [f"{crate}: {other}" for other in below.split() if not names(text, other) and (crate, other) not in HANDED_ON]
     for edge in unused:
         print(f"{edge} is named by no file")
     return 1 if unused else 0

@@ -7,8 +7,8 @@ use mathlib.Core.Logic.{_↔_, _⊎_, inl, inr, ⊎-elim, Iff·trans}
 use Prim.Native.Nat.{ℕ, _*_, _/_, _%_, _^_, _≤_, _<_}
 use native.Mathlib.Omega.{arith}
 use lib.Dec.{leb}
-use lib.ListN.{length, getD, take, drop}
-use borrow.Author.Tests.{eqb-true}
+use lib.ListN.{length, take, drop, length-map}
+use borrow.Author.Tests.{eqb-true, eq-eqb}
 use Rattle.streams.specs.Answer.{Answer, refused, gives, _orElse_, unless}
 use Rattle.streams.specs.Stream.{Event, Stream, _alongside_, Hopeless}
 use Rattle.streams.specs.Laws.{not-both}
@@ -33,16 +33,16 @@ use Rattle.prepare.specs.declared.Prepared.the-variants as Prepared
 use Rattle.join.specs.Promise.{JoinPromise}
 use Rattle.join.specs.declared.Joined.the-variants as Code
 use Rattle.console.specs.Scratch.{start-is}
-use Rattle.bays.specs.Five.{stateWords, stateIn, words-in}
+use Rattle.bays.specs.Five.{stateWords, stateIn, words-in, words-back}
 use Rattle.bays.specs.Odd.{oddRefusal}
 use Rattle.bays.specs.Halves.{four-long, output-four}
 use Rattle.groovepawn.specs.Words.{isState, outputState, runState, runOut}
 use Rattle.groovepawn.specs.Calls.{PrepareCall, InputCall, OutputCall, RunCall, JoinCall}
 use Rattle.groovepawn.specs.Fields.{summaryIn, answerIn, answer-fields, prepare-fields, input-fields, output-fields, run-fields, join-fields}
-use Rattle.tender.specs.Granted.{well-formed, given-passed, given-goes-on, prepared-granted}
+use Rattle.tender.specs.Granted.{well-formed, given-passed, given-goes-on, prepared-granted, entryRefusal}
 use Rattle.tender.specs.Demand2.{ReleasedFor, Released, fromStart}
 use Rattle.tender.specs.Demand2Shown.{releases, hopeless-exactly, prepared-otherwise, input-never-17, run-never-17}
-use Rattle.tender.specs.TickByTick.{TickByTick, ticks-none, ticks-more, TicksReleased, ticks-release, ticks-go-on}
+use Rattle.tender.specs.TickByTick.{TickByTick, ticks-none, ticks-more, TicksReleased, ticks-run, ticks-release, ticks-go-on}
 use Rattle.tender.specs.Demand3.{JoinMade, SameReleased, Alike, permitsAll}
 use Rattle.tender.specs.Demand3Shown.{permits-exactly, order, grouping, repetition, unit-law, unit-law-first}
 use Rattle.tender.specs.Calls.{preparedIn, halfIn, prepared-refused, prepared-none, half-given, half-refused, c-prepare, c-input, c-output, output-five}
@@ -235,10 +235,6 @@ pub data CTicks (reading : ℕ) (file marks : List ℕ) : List ℕ → (read rel
       InputCall reading file marks state (e .x) (r .x * 256) → OutputCall reading file marks state (r .x) (e .y) (r .y * 256) next →
       CTicks reading file marks next es rs last → CTicks reading file marks state (e ∷ es) (r ∷ rs) last
 
--- The state in five numbers.
-abbrev pub cState : List ℕ → State
-cState l = record { location = getD l 0 0; clocks = getD l 1 0 ∷ getD l 2 0 ∷ getD l 3 0 ∷ getD l 4 0 ∷ [] }
-
 -- A word without a refusal is the answer of five numbers.
 value-said : (v : ℕ) (t : Bool) (a : Answer ℕ) (n : ℕ) → answerIn (v * 256) ≡ cond t a (refused n) → (t ≡ true) × (gives v ≡ a)
 value-said v true a n e = let f = answer-fields v in (refl, rw (f .0, f .1) at e)
@@ -246,7 +242,7 @@ value-said v false a n e = let f = answer-fields v in let h : gives v ≡ refuse
 
 -- They are the halves of the code, and so all that specs/TickByTick.antt says of those holds of them.
 pub c-ticks : {reading : ℕ} {file marks state last : List ℕ} {es rs : Stream} → CTicks reading file marks state es rs last →
-    TickByTick reading file marks (cState state) es rs (cState last)
+    TickByTick reading file marks (stateIn state) es rs (stateIn last)
 unfolding outputState
 c-ticks c-none = ticks-none
 c-ticks {reading} {file} {marks} (c-more {state = state} {next = next} {e = e} {r = r} i o h) =
@@ -264,7 +260,7 @@ c-ticks {reading} {file} {marks} (c-more {state = state} {next = next} {e = e} {
 -- From { 0, 0, 0, 0, 0 }, after groovepawn_prepare refused nothing: demand 2's stream, and the five numbers are the state that it leads to.
 pub c-ticks-release :
     {reading : ℕ} {file before marks last : List ℕ} {v : ℕ} {es rs : Stream} → PrepareCall reading file before v marks → v % 256 ≡ 0 →
-    CTicks reading file marks cStart es rs last → TicksReleased (policyOf reading file) es rs (cState last)
+    CTicks reading file marks cStart es rs last → TicksReleased (policyOf reading file) es rs (stateIn last)
 c-ticks-release {reading} {file} {before} h z k =
     let s = prepare-read h z in ticks-release {s = (s .0)} (record { said = sym (s .1); marks = h .marks }) (c-ticks k)
 
@@ -292,6 +288,31 @@ c-ticks-go-on {reading} {file} {before} {marks} {last} h z k x w f i =
           (on .2 y (record { answer = halfIn u; state = stateIn next }) g
           (subst (λ (n : ℕ). OutputPromise reading file marks (stateIn last) n y (record { answer = halfIn u; state = stateIn next })) (value .1) out) .1)
           .0,
+    )
+
+-- One tick by the two halves is one tick of the run, in C too: over the same events and from the same five numbers, groovepawn_run releases the same and leaves
+-- the same state.
+pub c-ticks-run :
+    {reading : ℕ} {file marks state last out next written : List ℕ} {es rs : Stream} {r : ℕ} → CTicks reading file marks state es rs last →
+    length state ≡ 5 → entryRefusal reading file marks (stateIn state) ≡ 0 →
+    RunCall reading file marks state (map byteOf es) out r next written → length es ≤ length out → length es < 2 ^ 56 →
+    (r % 256 ≡ 0) × (r / 256 ≡ length rs) × (next ≡ last) × (written ≡ map byteOf rs ++ drop (length rs) out)
+unfolding runState runOut
+c-ticks-run {reading} {file} {marks} {state} {last} {out} {es = es} {rs} {r} h five none k long few =
+    let q = runOf reading file marks (stateIn state) (map byteOf es) out in
+    let ran : Ran = record { refusal = q .refusal; count = q .count; state = q .state } in
+    let same : q ≡ record { refusal = 0; count = length rs; state = stateIn last; out = map byteOf rs ++ drop (length rs) out } =
+    ticks-run {r = ran} (c-ticks h) refl none (record { said = refl }) long
+    in
+    let is : isState state ≡ true = eq-eqb (length state) 5 five in
+    let f = run-fields reading file marks state (map byteOf es) out in
+    let odd = oddRefusal reading file marks (leb (length (map byteOf es)) (length out)) in
+    let fewer : length (map byteOf es) < 2 ^ 56 = rw length-map few in (
+      ap (λ (n : ℕ). n % 256) (k .said) ∙ f .refusal ∙ ap (λ (t : Bool). cond t (q .refusal) odd) is ∙ ap (λ (z : RunAnswer). z .refusal) same,
+      ap (λ (n : ℕ). n / 256) (k .said) ∙ f .whole fewer ∙ ap (λ (t : Bool). cond t (q .count) 0) is ∙ ap (λ (z : RunAnswer). z .count) same,
+      k .next ∙ ap (λ (t : Bool). cond t (stateWords (q .state)) state) is ∙ ap (λ (z : RunAnswer). stateWords (z .state)) same
+          ∙ words-back last (five-stay h five),
+      k .released ∙ ap (λ (t : Bool). cond t (q .out) out) is ∙ ap (λ (z : RunAnswer). z .out) same,
     )
 
 -- "Wherever the joins named are made": what join's code wrote is a join that was made, and so is what groovepawn_join wrote.

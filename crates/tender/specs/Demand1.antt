@@ -35,6 +35,9 @@ pub use Rattle.waves.specs.Laws.{write-one, take-one, written-reads, read-write
 -- The file of a text, and the text of a policy file.
 pub use Rattle.compiling.specs.Promise.{ReadTextPromise, read-one as read-text-one}
 pub use Rattle.showing.specs.Promise.{WriteTextPromise, write-one as write-text-one}
+-- Where the rules and the names of a text stand in it.
+pub use Rattle.pointing.specs.RuleAt.{RuleAtPromise, rule-at-one}
+pub use Rattle.pointing.specs.NameAt.{NameAtPromise, name-at-one}
 -- The functions for a controller in C. groovepawn_prepare, _input, _output, _run, _join, _ticks:
 pub use Rattle.groovepawn.specs.Calls.{
   PrepareCall,

@@ -1,21 +1,23 @@
 -- Sentences of 01 and 02 that the crates below state of an entry, said of its function in C: over the call and its word.
 use mathlib.Core.Path.{_≡_, refl, sym, ap, subst, _∙_}
-use mathlib.Core.Bool.{Bool, true, false}
+use mathlib.Core.Bool.{Bool, true, false, cond}
 use mathlib.Core.List.{List, _++_}
 use mathlib.Core.Logic.{_↔_}
-use Prim.Native.Nat.{ℕ, _/_, _%_, _≤_, _<_}
+use Prim.Native.Nat.{ℕ, zero, suc, _/_, _%_, _≤_, _<_}
 use native.Mathlib.Omega.{arith}
 use lib.ListN.{length, getD, take, drop}
 use lib.Seq.{take-at}
-use Rattle.streams.specs.Answer.{Answer, refused, gives}
+use Rattle.streams.specs.Answer.{Answer, refused, gives, _orElse_}
 use Rattle.policy.specs.Rules.{Live, Dead}
 use Rattle.policy.specs.File.{policyOf}
 use Rattle.policy.specs.Check.{refusalUnder}
 use Rattle.policy.specs.Number.{states, placeOf}
 use Rattle.enforcer.specs.State.{placeIn}
-use Rattle.enforcer.specs.Promises.{InputPromise, OutputPromise}
+use Rattle.enforcer.specs.Entries.{OutputAnswer}
+use Rattle.enforcer.specs.Promises.{answerSaid, answer-one, InputPromise, OutputPromise}
 use Rattle.enforcer.specs.declared.state.State.{State}
 use Rattle.enforcer.specs.declared.halves.HalfAnswer.{HalfAnswer}
+use Rattle.enforcer.specs.declared.halves.HalfAnswer.the-variants as Half
 use Rattle.enforcer.specs.declared.halves.Output.{Output}
 use Rattle.prepare.specs.PromiseLaws.{prepare-live, prepare-dead}
 use Rattle.prepare.specs.declared.Summary.{Summary}
@@ -23,6 +25,8 @@ use Rattle.prepare.specs.Judged.{Judges, gives-judges}
 use Rattle.index.specs.Index.{indexOf}
 use Rattle.index.specs.Names.{index-length}
 use Rattle.index.specs.Entry.{BuildPromise, writtenOver, builtIndex}
+use Rattle.indexed.specs.Entries.{earlyRefusal}
+use Rattle.indexed.specs.Same.{input-28, output-28, input-early, early-granted}
 use Rattle.indexed.specs.Promises.{InputIndexedPromise, OutputIndexedPromise, input-alike, output-alike}
 use Rattle.reasons.specs.Reasons.{Explained}
 use Rattle.reasons.specs.Entry.{Reasons, WhyAnswers, refuses, explains, answers-up-to}
@@ -42,11 +46,14 @@ use Rattle.groovepawn.specs.Words.{isState, isUp}
 use Rattle.groovepawn.specs.Calls.{PrepareCall, InputCall, OutputCall, RunCall, TicksCall}
 use Rattle.groovepawn.specs.Fields.{answerIn, summaryIn, prepare-fields, ticks-fields}
 use Rattle.groovepawn.specs.Stays.{output-stays, run-stays}
-use Rattle.groovepawn.specs.Indexed.{IndexCall, InputIndexedCall, OutputIndexedCall}
-use Rattle.groovepawn.specs.IndexedLaws.{input-call-same, output-call-same}
+use Rattle.groovepawn.specs.Indexed.{oddIndexed, IndexCall, InputIndexedCall, OutputIndexedCall}
+use Rattle.groovepawn.specs.IndexedLaws.{input-call-same, output-call-same, input-indexed-fields, output-indexed-fields}
 use Rattle.groovepawn.specs.Why.{WhyCall}
 use Rattle.groovepawn.specs.Waves.{WaveWriteCall, WaveReadCall}
 use Rattle.tender.specs.Calls.{writtenIn, takenIn, word-refused, written-given, taken-given, c-prepare, c-wave-write, c-wave-read}
+
+refused-same : {n m : ℕ} → _≡_ {A = Answer ℕ} (refused n) (refused m) → n ≡ m
+refused-same e = cc
 
 -- Prepare.
 module _ {reading : ℕ} {file before marks : List ℕ} {v : ℕ} (h : PrepareCall reading file before v marks) where
@@ -117,6 +124,56 @@ module _ {file before after : List ℕ} (built : IndexCall file before 0 after) 
       OutputCall reading file marks state x y r next
   c-output-indexed {reading} {marks} {state} {x = x} {y} h =
       let k = output-call-same reading file (take 128 after) marks state (c-index built) x y in record { said = h .said ∙ k .0; next = h .next ∙ k .1 }
+
+-- "Any other index is refused": 28 exactly if the check passes and the numbers are not the file's index; of the code,
+module _ {reading : ℕ} {file index marks : List ℕ} {s : State} {x : ℕ} where
+  pub code-input-28 :
+      {r : HalfAnswer} → InputIndexedPromise reading file index marks s x r →
+      (r ≡ Half.Refused 28) ↔ ((refusalUnder reading file ≡ 0) × (¬ (index ≡ indexOf file)))
+  code-input-28 {r} h =
+      let k = input-28 reading file index marks s x in
+      (λ e. k .0 (sym (h .said) ∙ ap answerSaid e), λ e. answer-one r (Half.Refused 28) (h .said ∙ k .1 e))
+
+  pub code-output-28 :
+      {y : ℕ} {r : Output} → OutputIndexedPromise reading file index marks s x y r →
+      (r .answer ≡ Half.Refused 28) ↔ ((refusalUnder reading file ≡ 0) × (¬ (index ≡ indexOf file)))
+  code-output-28 {y} {r} h =
+      let k = output-28 reading file index marks s x y in
+      let said = ap (λ (a : OutputAnswer). a .answer) (h .said) in
+      (λ e. k .0 (sym said ∙ ap answerSaid e), λ e. answer-one (r .answer) (Half.Refused 28) (said ∙ k .1 e))
+
+-- and of the functions in C, whatever numbers stand for the state.
+module _ (reading : ℕ) (file index marks state : List ℕ) where
+  abbrev Wrong : Type 0
+  Wrong = (refusalUnder reading file ≡ 0) × (¬ (index ≡ indexOf file))
+
+  odd-28 : (oddIndexed reading file index marks ≡ 28) ↔ Wrong
+  unfolding oddIndexed
+  odd-28 = go (earlyRefusal reading file index marks) refl
+    where
+      go : (n : ℕ) → earlyRefusal reading file index marks ≡ n → ((n orElse 16) ≡ 28) ↔ Wrong
+      go zero e = (λ z. absurd (omega arith), λ k. absurd (k .1 (early-granted reading file index marks e .0)))
+      go (suc n) e =
+          let k = input-28 reading file index marks (stateIn state) 0 in
+          let early = input-early reading file index marks (stateIn state) 0 (sym e) (λ z. omega arith) in
+          (λ z. k .0 (early ∙ ap refused z), λ w. refused-same (sym early ∙ k .1 w))
+
+  by-state : (t : Bool) {a : Answer ℕ} (r : ℕ) → answerIn r ≡ cond t a (refused (oddIndexed reading file index marks)) →
+      ((a ≡ refused 28) ↔ Wrong) → (r % 256 ≡ 28) ↔ Wrong
+  by-state true r e k = let w = word-refused r 27 in (λ z. k .0 (sym e ∙ w .1 z), λ z. w .0 (e ∙ k .1 z))
+  by-state false r e k =
+      let w = word-refused r 27 in
+      (λ z. odd-28 .0 (refused-same (sym e ∙ w .1 z)), λ z. w .0 (e ∙ ap refused (odd-28 .1 z)))
+
+  pub c-input-28 : {x r : ℕ} → InputIndexedCall reading file index marks state x r → (r % 256 ≡ 28) ↔ Wrong
+  c-input-28 {x} {r} h =
+      by-state (isState state) r (ap answerIn (h .said) ∙ input-indexed-fields reading file index marks state x)
+      (input-28 reading file index marks (stateIn state) x)
+
+  pub c-output-28 : {x y r : ℕ} {after : List ℕ} → OutputIndexedCall reading file index marks state x y r after → (r % 256 ≡ 28) ↔ Wrong
+  c-output-28 {x} {y} {r} h =
+      by-state (isState state) r (ap answerIn (h .said) ∙ output-indexed-fields reading file index marks state x y)
+      (output-28 reading file index marks (stateIn state) x y)
 
 -- 2/13: where groovepawn_why refuses nothing, its word holds a reason for each half that is true, and given exactly if the half was edited.
 pub c-why :

@@ -5,6 +5,7 @@ use mathlib.Core.Bool.{Bool, true, false, cond}
 use mathlib.Core.List.{List}
 use Prim.Native.Nat.{ℕ, _%_}
 use native.Mathlib.Omega.{arith}
+use lib.ListN.{length}
 use borrow.Author.Tests.{eqb-true}
 use Rattle.streams.specs.Answer.{Answer, refused, gives, _orElse_}
 use Rattle.policy.specs.declared.Checked.{Checked}
@@ -27,6 +28,7 @@ use Rattle.indexed.specs.Promises.{InputIndexedPromise, OutputIndexedPromise, i
 use Rattle.reasons.specs.Entry.{WhyAnswers, refuses, answers-one}
 use Rattle.reasons.specs.Promise.{WhyPromise, why-one}
 use Rattle.reasons.specs.Word.{whyWord}
+use Rattle.reasons.specs.Runs.{Room, shortestOf, roomRefusal, earlyRefusal as earlyRunRefusal, whyRunRefusal, WhyRunPromise, refuses as run-refuses, run-answers-one, why-run-one}
 use Rattle.reasons.specs.declared.entry.WhyAnswer.{WhyAnswer}
 use Rattle.reasons.specs.declared.entry.WhyAnswer.the-variants as WhyAnswer
 use Rattle.bays.specs.Five.{stateWords, stateIn, words-back}
@@ -46,7 +48,7 @@ use Rattle.groovepawn.specs.Indexed.{InputIndexedCall, OutputIndexedCall, input
 use Rattle.groovepawn.specs.IndexedLaws.{output-indexed-stays}
 use Rattle.groovepawn.specs.Bays.{BayInputCall, BayOutputCall}
 use Rattle.groovepawn.specs.Meter.{MeterInputCall, MeterOutputCall}
-use Rattle.groovepawn.specs.Why.{WhyCall}
+use Rattle.groovepawn.specs.Why.{WhyCall, oddWhyRun, WhyRunCall, why-run-stays}
 use Rattle.groovepawn.specs.Clean.{CleanCall, lengthsWord, cleanWord}
 use Rattle.tender.specs.Demand1Shown.{under-22, first-22, check-22, prepare-22, fast-22, input-22, output-22, run-22, why-22, input-indexed-22, output-indexed-22, bay-input-22, bay-output-22, meter-input-22, meter-output-22, clean-22}
 
@@ -70,6 +72,9 @@ pub record Entries22 (reading : ℕ) : Type 0 where
       {file index marks : List ℕ} {s : State} {x y : ℕ} {r : Output} → OutputIndexedPromise reading file index marks s x y r →
       r ≡ record { answer = Half.Refused 22; state = s }
   pub why : {file marks : List ℕ} {s : State} {x y : ℕ} {r : WhyAnswer} → WhyPromise reading file marks s x y r → r ≡ WhyAnswer.Refused 22
+  pub why-run :
+      {file marks events before after : List ℕ} {s : State} {room left : Room} {r : Ran} → WhyRunPromise reading file marks s events before room r after left →
+      (r ≡ record { refusal = 22; count = 0; state = s }) × (after ≡ before) × (left ≡ room)
   pub bay-input :
       {file marks states : List ℕ} {bay x : ℕ} {r : HalfAnswer} → BayInputPromise reading file marks states bay x r → r ≡ Half.Refused 22
   pub bay-output :
@@ -100,6 +105,9 @@ pub record Calls22 (reading : ℕ) : Type 0 where
   pub output-indexed :
       {file index marks state after : List ℕ} {x y r : ℕ} → OutputIndexedCall reading file index marks state x y r after → (r ≡ 22) × (after ≡ state)
   pub why : {file marks state : List ℕ} {x y r : ℕ} → WhyCall reading file marks state x y r → r ≡ 22
+  pub why-run :
+      {file marks state events before after written : List ℕ} {room left : Room} {r : ℕ} →
+      WhyRunCall reading file marks state events before room r after written left → (r ≡ 22) × (after ≡ state) × (written ≡ before) × (left ≡ room)
   pub bay-input : {file marks states : List ℕ} {bay x r : ℕ} → BayInputCall reading file marks states bay x r → r ≡ 22
   pub bay-output :
       {file marks states after : List ℕ} {bay x y r : ℕ} → BayOutputCall reading file marks states bay x y r after → (r ≡ 22) × (after ≡ states)
@@ -114,6 +122,18 @@ pub record Calls22 (reading : ℕ) : Type 0 where
 module _ (reading : ℕ) (not-one : ¬ (reading ≡ 1)) (not-two : ¬ (reading ≡ 2)) where
   lent-22 : (file before : List ℕ) (work : ℕ) → ¬ (lentRefusal reading file before work ≡ 0)
   lent-22 file before work e = omega (arith, first-refusals reading file before work 21 (first-22 reading not-one not-two file before) .0)
+
+  room-22 : (file marks : List ℕ) (work events words : ℕ) → roomRefusal reading file marks work events words ≡ 22
+  unfolding roomRefusal
+  room-22 file marks work events words = rw (first-refusals reading file marks work 21 (first-22 reading not-one not-two file marks) .0)
+
+  early-22 : (file marks : List ℕ) (s : State) (events words : List ℕ) (work : ℕ) → earlyRunRefusal reading file marks s events words work ≡ 22
+  unfolding earlyRunRefusal
+  early-22 file marks s events words work = rw (room-22 file marks work (length events) (length words))
+
+  why-run-22 : (file marks : List ℕ) (s : State) (events words : List ℕ) (work : ℕ) → whyRunRefusal reading file marks s events words work ≡ 22
+  unfolding whyRunRefusal
+  why-run-22 file marks s events words work = rw (early-22 file marks s events words work)
 
   pub entries-22 : Entries22 reading
   entries-22 =
@@ -136,6 +156,9 @@ module _ (reading : ℕ) (not-one : ¬ (reading ≡ 1)) (not-two : ¬ (reading �
             output-indexed-one h (record { said = sym (output-indexed-22 reading not-one not-two file marks s index x y) });
         why = λ {file = file} {marks = marks} {s = s} {x = x} {y = y} h.
             why-one h (record { answers = refuses (why-22 reading not-one not-two file marks s x y) });
+        why-run = λ {file = file} {marks = marks} {events = events} {before = before} {s = s} {room = room} h.
+            let k = why-run-one h (record { answers = run-refuses (why-run-22 file marks s events before (shortestOf room)); scratch = λ n. refl }) in
+            (k .0, k .1, h .scratch (λ e. omega (arith, early-22 file marks s events before (shortestOf room))));
         bay-input = λ {file = file} {marks = marks} {states = states} {bay = bay} {x = x} h.
             bay-input-one h (record { said = sym (bay-input-22 reading not-one not-two file marks states bay x) });
         bay-output = λ {file = file} {marks = marks} {states = states} {bay = bay} {x = x} {y = y} h.
@@ -199,6 +222,25 @@ module _ (reading : ℕ) (not-one : ¬ (reading ≡ 1)) (not-two : ¬ (reading �
           a .3 ∙ ap whyWord (answers-one reading file marks s x y (a .1) (refuses (why-22 reading not-one not-two file marks s x y)))
       go false e = h .odd e ∙ odd-22 file marks true
 
+  odd-why-run-22 : (file marks : List ℕ) (work events words : ℕ) → oddWhyRun reading file marks work events words ≡ 22
+  unfolding oddWhyRun
+  odd-why-run-22 file marks work events words = rw (room-22 file marks work events words)
+
+  module _ {file marks state events before after written : List ℕ} {room left : Room} {r : ℕ} (h : WhyRunCall reading file marks state events before room r after written left) where
+    why-run-word-22 : r ≡ 22
+    why-run-word-22 = go (isState state) refl
+      where
+        go : (t : Bool) → isState state ≡ t → r ≡ 22
+        go true e =
+            let a = h .said e in
+            let s = stateIn state in
+            let w = shortestOf room in
+            a .2 .said ∙ ap ranWord (run-answers-one reading file marks s events before w (a .1) (run-refuses (why-run-22 file marks s events before w)))
+        go false e = h .odd e .0 ∙ odd-why-run-22 file marks (shortestOf room) (length events) (length before)
+
+    why-run-left-22 : left ≡ room
+    why-run-left-22 = h .scratch (λ t e. omega (arith, early-22 file marks (stateIn state) events before (shortestOf room)))
+
   pub calls-22 : Calls22 reading
   unfolding prepareWord cleanWord
   calls-22 =
@@ -221,6 +263,10 @@ module _ (reading : ℕ) (not-one : ¬ (reading ≡ 1)) (not-two : ¬ (reading �
             let w = output-indexed-word-22 file index marks state x y in
             (h .said ∙ w, h .next ∙ output-indexed-stays reading file index marks state x y (λ e. omega (arith, w)));
         why = why-word-22;
+        why-run = λ {r = r} h.
+            let w = why-run-word-22 h in
+            let k = why-run-stays h (λ e. omega (arith, w)) in
+            (w, k .0, k .1, why-run-left-22 h);
         bay-input = λ {file = file} {marks = marks} {states = states} {bay = bay} {x = x} h.
             h .said ∙ ap answerWord (bay-input-22 reading not-one not-two file marks states bay x);
         bay-output = λ {file = file} {marks = marks} {states = states} {bay = bay} {x = x} {y = y} h.
