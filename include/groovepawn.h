@@ -47,8 +47,8 @@
  * groovepawn_input and groovepawn_run never give 17.
  *
  * Stack. Each function says what it was seen to use, in the archive as it is compiled for x86-64 (tools/stack.c); these are readings and no promise.
- * It is less than 2 KiB for each but groovepawn_clean (67,074 bytes) and groovepawn_why (1,247,352): these are tools and no part of a station's
- * loop. No heap and no global data.
+ * It is less than 2.5 KiB for each but groovepawn_clean (67,074 bytes), groovepawn_why (1,247,872) and groovepawn_why_run (3,344): these are tools
+ * and no part of a station's loop. No heap and no global data.
  */
 #ifndef GROOVEPAWN_H
 #define GROOVEPAWN_H
@@ -165,7 +165,7 @@ extern "C" {
 
 /*
  * Checks the policy alone, and says how many states it has: so many marks are enough for it, under either reading.
- * Refusals in this order: 1 to 9, as they come in the file. Stack: 248 bytes.
+ * Refusals in this order: 1 to 9, as they come in the file. Stack: 280 bytes.
  * Returns refusal | states << 8. Nothing is written.
  */
 GROOVEPAWN_LOOK_AT_ANSWER
@@ -261,7 +261,7 @@ uint32_t groovepawn_index(const uint8_t *file, size_t file_len, uint16_t *index,
  * The halves of a tick with an index, so that the rules of the location need not be looked for: the same answers as groovepawn_input and
  * groovepawn_output give for the same arguments. An index that is not that of the file is refused by 28 and never followed; that each call compares
  * it costs more than it saves: see docs/C-INTERFACE.md before you choose them.
- * Refusals in this order: 22, 1 to 9, 28, 10, 16, 15, 17. Stack: 1,184 and 1,216 bytes.
+ * Refusals in this order: 22, 1 to 9, 28, 10, 16, 15, 17. Stack: 1,184 and 1,200 bytes.
  * Return refusal | x' << 8 and refusal | y' << 8. The first writes nothing; with a refusal of the second the state stays as given.
  */
 GROOVEPAWN_LOOK_AT_ANSWER
@@ -319,7 +319,7 @@ uint32_t groovepawn_meter_output(uint8_t reading, const uint8_t *file, size_t fi
 /*
  * The second engine: what groovepawn_prepare answers and writes, for every policy and both readings, and on large tables faster. It works in five
  * slices that the caller lends, each with an entry for each state or more. They may hold anything, and what they hold afterwards is not said.
- * Refusals in this order: 22, 1 to 9, 10, 23 (a work slice has fewer entries than there are states), 11. Stack: 1,992 bytes.
+ * Refusals in this order: 22, 1 to 9, 10, 23 (a work slice has fewer entries than there are states), 11. Stack: 2,368 bytes.
  * Returns what groovepawn_prepare returns. With 22, 1 to 10 and 23 neither the marks nor the work slices are written; 11 leaves the marks as success
  * does.
  */
@@ -361,7 +361,7 @@ uint64_t groovepawn_clean(uint8_t reading, const uint8_t *file, size_t file_len,
  * number, if some output is no violation; else the reason for the output 0. Each number is exact: some permitted stream has it, and none has more.
  * A tool, and no part of a station's loop: it prepares the policy anew and goes over all states.
  * Refusals in this order: 22, 1 to 9, 10, 16, 20 (a byte for a state is not the mark of groovepawn_prepare under this reading), 15. 17 never comes.
- * Stack: 1,247,352 bytes, for a small policy too.
+ * Stack: 1,247,872 bytes, for a small policy too.
  * Returns refusal | input's kind << 8 | its number << 16 | output's kind << 32 | its number << 40.
  */
 GROOVEPAWN_LOOK_AT_ANSWER
@@ -376,7 +376,7 @@ uint64_t groovepawn_why(uint8_t reading, const uint8_t *file, size_t file_len, c
  * They may hold anything, and what they hold afterwards is not said.
  * A tool, and no part of a station's loop: it prepares the policy anew and goes over all states.
  * Refusals in this order: 22, 1 to 9, 10, 23 (a work slice has fewer entries than there are states), 14 (reasons has fewer than there are events),
- * 16, 20, 15. 17 never comes. Stack: not read yet.
+ * 16, 20, 15. 17 never comes. Stack: 3,344 bytes.
  * Returns refusal | events << 8, the number of all events; with a refusal it is 0, and state and reasons stay as given. The work slices are not
  * written with 22, 1 to 10, 23, 14 and 16. Entries past the events stay.
  */

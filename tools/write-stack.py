@@ -17,7 +17,7 @@ archive = os.path.abspath(sys.argv[1] if len(sys.argv) > 1 else os.path.join(top
 os.chdir(top)
 HEADER, PAGE = "include/groovepawn.h", "docs/C-INTERFACE.md"
 # These are tools and no part of a loop: the header's opening comment names them with their numbers.
-TOOLS = ("groovepawn_clean", "groovepawn_why")
+TOOLS = ("groovepawn_clean", "groovepawn_why", "groovepawn_why_run")
 
 
 def measured():
@@ -67,5 +67,5 @@ for path, write in ((HEADER, in_header), (PAGE, in_page)):
     open(path, "w").write(write(old, sizes))
 most = max(size for name, size in sizes.items() if name not in TOOLS)
 print(f"{len(sizes)} functions; the most but for {' and '.join(TOOLS)}: {most:,} bytes")
-if most >= 2048:
-    sys.exit("the header says less than 2 KiB for all others")
+if most >= 2560:
+    sys.exit("the header says less than 2.5 KiB for all others")
