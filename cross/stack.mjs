@@ -56,6 +56,8 @@ function* calls(file, reading) {
   yield ['join', file, any, new Uint8Array(FILE)];
   yield ['clean', reading, file, new Uint8Array(FILE), new Uint8Array(957)];
   yield ['why', reading, file, marks, state(), 0, 0];
+  const tables = [new Uint32Array(STATES), new Uint32Array(STATES), new Uint8Array(STATES)];
+  yield ['why_run', reading, file, marks, state(), quiet, new BigUint64Array(EVENTS), ...tables, ...work];
   yield ['ticks', 12345, 100, 1];
   const written = yield ['wave_write', file, restless, text];
   yield ['wave_read', file, text.subarray(0, Number(written >> 8n)), new Uint8Array(EVENTS)];
