@@ -116,8 +116,13 @@ def file_of(text):
 if __name__ == "__main__":
     import sys
 
+    if len(sys.argv) > 1:
+        sys.exit("usage: policy_text.py < TEXT > HEX")
     try:
-        for part in draft_of(sys.stdin.read()).sections():
+        draft = draft_of(sys.stdin.read())
+        if not draft.locations:
+            raise ValueError("there is no location")
+        for part in draft.sections():
             print(" ".join(f"{byte:02X}" for byte in part))
     except ValueError as problem:
         sys.exit(f"policy_text: {problem}")
