@@ -1,4 +1,4 @@
-/* V opens only after a credit, and for at most 5 ticks (reading 1); what is open must be closed again. Inputs C (credit) and P (pulse), output V. */
+/* V opens only after a credit, and stays open at most 5 ticks after it (reading 1); what is open must be closed again. Inputs C (credit) and P (pulse), output V. */
 #ifndef POLICY_H
 #define POLICY_H
 
