@@ -18,7 +18,8 @@
  *   state   five numbers: the location, then the four clock values, unused ones 0. The start state is { 0, 0, 0, 0, 0 }
  *   x, y    an input, an output: bit 0 is the first signal of its section of the file
  *   event   one byte: input x in the low four bits, output y in the high four
- *   text    a wave: a Value Change Dump (IEEE 1364) of a stream. 508,119 bytes are always enough
+ *   text    a wave: a Value Change Dump (IEEE 1364) of a stream. 508,119 bytes are always enough. Of a function groovepawn_text_..: a policy as text
+ *           (docs/POLICY-TEXT.md), and 39,420 bytes are always enough for one that is written
  *   states  a list of bays: five numbers for each of 1 to 8 bays, one bay after the other
  *   station six numbers of 16 bits or more: a state, then the meter's register as last accepted; what stands past them stays
  *   totals  two numbers of 32 bits or more: the pulses billed, the pulses not billed; what stands past them stays
@@ -43,12 +44,15 @@
  *
  * Where several hold, the first in this order is given: 22, 1 to 9 as they come in the file, 26 or 28, 10, 23 or 24, 11, 14, 16, 20, 15, 17, 27. A join
  * asks 1 to 9 of its first file, then of its second, then 12, 13, 14. A conversion asks 18, then 19. After 1 to 9 the writer of waves asks 29, 15,
- * 14, their reader 21, 14. Each function's own order stands with it. With the marks of groovepawn_prepare under the same reading and a live state,
- * groovepawn_input and groovepawn_run never give 17.
+ * 14, their reader 21, 14. The text of a policy is read line by line, and the first line that breaks a rule gives 4, 7 or one of 30 to 34; then come
+ * 2, 9, and at last 14 or 35. Each function's own order stands with it. With the marks of groovepawn_prepare under the same reading and a live
+ * state, groovepawn_input and groovepawn_run never give 17.
  *
  * Stack. Each function says what it was seen to use, in the archive as it is compiled for x86-64 (tools/stack.c); these are readings and no promise.
- * It is less than 2.5 KiB for each but groovepawn_clean (67,074 bytes), groovepawn_why (1,247,872) and groovepawn_why_run (3,344): these are tools
- * and no part of a station's loop. No heap and no global data.
+ * It is less than 2.5 KiB for each but these, which are tools and no part of a station's loop: groovepawn_clean (67,074 bytes), groovepawn_why
+ * (1,247,872), groovepawn_why_run (3,344), groovepawn_text_read (16,424), groovepawn_text_write (57,784), groovepawn_text_line_of_rule
+ * (15,192), groovepawn_text_name_of_signal (15,272), groovepawn_text_name_of_clock (15,272), groovepawn_text_name_of_location (15,272). No heap and
+ * no global data.
  */
 #ifndef GROOVEPAWN_H
 #define GROOVEPAWN_H
@@ -58,7 +62,7 @@
 
 /* The version of what this file declares. The first number rises when something goes or means something else, the second when something is added. */
 #define GROOVEPAWN_VERSION_MAJOR 1
-#define GROOVEPAWN_VERSION_MINOR 1
+#define GROOVEPAWN_VERSION_MINOR 2
 #define GROOVEPAWN_VERSION_PATCH 0
 #define GROOVEPAWN_VERSION (GROOVEPAWN_VERSION_MAJOR * 10000 + GROOVEPAWN_VERSION_MINOR * 100 + GROOVEPAWN_VERSION_PATCH)
 
@@ -88,6 +92,8 @@
 #define GROOVEPAWN_MOST_EVENTS_OF_A_WAVE 16384
 #define GROOVEPAWN_MOST_TEXT_BYTES 508119
 #define GROOVEPAWN_MOST_STRUCK_BYTES 957
+#define GROOVEPAWN_MOST_POLICY_TEXT_BYTES 39420
+#define GROOVEPAWN_MOST_NAME_BYTES 16
 
 /* The refusals. */
 enum groovepawn_refusal {
@@ -121,7 +127,13 @@ enum groovepawn_refusal {
     GROOVEPAWN_REFUSED_NO_METER_SIGNALS = 26, /* the policy has no input P or no output D */
     GROOVEPAWN_REFUSED_TOTAL_FULL = 27,       /* a total would pass 4,294,967,295 */
     GROOVEPAWN_REFUSED_INDEX = 28,            /* the index is not that of the file, or not 128 numbers */
-    GROOVEPAWN_REFUSED_TOO_MANY_EVENTS = 29   /* a stream to be written as a wave has over 16,384 events */
+    GROOVEPAWN_REFUSED_TOO_MANY_EVENTS = 29,  /* a stream to be written as a wave has over 16,384 events */
+    GROOVEPAWN_REFUSED_LINE = 30,             /* a line or a word of a policy's text is not of the form, or comes in the wrong place */
+    GROOVEPAWN_REFUSED_NAME = 31,             /* a name or letter is taken, unknown, or said twice in one rule */
+    GROOVEPAWN_REFUSED_NUMBER = 32,           /* a number is above 65,535 */
+    GROOVEPAWN_REFUSED_NO_ROOM = 33,          /* there are more of something than a file has room for */
+    GROOVEPAWN_REFUSED_AT_BEFORE = 34,        /* an `at` names a location that stands before the one named last */
+    GROOVEPAWN_REFUSED_NO_SUCH = 35           /* the text has no rule, signal, clock or location of this number */
 };
 
 /* The kinds of a reason of groovepawn_why. */
@@ -162,6 +174,12 @@ extern "C" {
 /* The two lengths of groovepawn_clean. */
 #define GROOVEPAWN_LENGTH(answer) (((answer) >> 8) & 0xffffff)
 #define GROOVEPAWN_LIST_LENGTH(answer) ((answer) >> 32)
+
+/* A line or the place of a name in a policy's text, and the length of a file or of a name. Lines are counted from 1,
+ * places from 0; both are held modulo 2 to the 32nd. */
+#define GROOVEPAWN_TEXT_LINE(answer) (((answer) >> 8) & 0xffffffffu)
+#define GROOVEPAWN_TEXT_PLACE(answer) (((answer) >> 8) & 0xffffffffu)
+#define GROOVEPAWN_TEXT_LENGTH(answer) ((answer) >> 40)
 
 /*
  * Checks the policy alone, and says how many states it has: so many marks are enough for it, under either reading.
@@ -386,6 +404,56 @@ uint64_t groovepawn_why_run(uint8_t reading, const uint8_t *file, size_t file_le
                             size_t ticks_len, uint32_t *rests, size_t rests_len, uint8_t *prepared, size_t prepared_len, uint16_t *work_1,
                             size_t work_1_len, uint16_t *work_2, size_t work_2_len, uint16_t *work_3, size_t work_3_len, uint16_t *work_4,
                             size_t work_4_len, uint16_t *work_5, size_t work_5_len);
+
+/*
+ * The file of a policy that is written as text (docs/POLICY-TEXT.md). A text has no reading: its file is read under either.
+ * Refusals: the first line that breaks a rule gives 4, 7 or one of 30 to 34; then, with line 0, in this order: 2 (no location), 9, 14 (the slice for
+ * the file is too short). A tool, and no part of a station's loop. Stack: 16,424 bytes.
+ * Returns refusal | line << 8 | length << 40: the line of the refusal, counted from 1, or how many bytes of file the policy takes; the other bytes
+ * stay. 5,974 bytes are always enough. With a refusal the length is 0, and file stays as given.
+ */
+GROOVEPAWN_LOOK_AT_ANSWER
+uint64_t groovepawn_text_read(const uint8_t *text, size_t text_len, uint8_t *file, size_t file_len);
+
+/*
+ * The text of a policy file, with letters for the signals, t0, t1, .. for the clocks and q0, q1, .. for the locations. groovepawn_text_read gives the
+ * same file back.
+ * Refusals in this order: 1 to 9, 14 (the slice for the text is too short). A tool, and no part of a station's loop. Stack: 57,784 bytes.
+ * Returns refusal | length << 8: how many bytes the text takes; the other bytes stay. There is no zero byte at its end. 39,420 bytes are always
+ * enough. With a refusal text stays as given.
+ */
+GROOVEPAWN_LOOK_AT_ANSWER
+uint64_t groovepawn_text_write(const uint8_t *file, size_t file_len, uint8_t *text, size_t text_len);
+
+/*
+ * The line of a rule, counted from 0 as in the file, so that a reason of groovepawn_why or an entry of groovepawn_clean leads back to its line.
+ * Refusals: as groovepawn_text_read, but for 14; then, with line 0, 35 (the text has no such rule). A tool, and no part of a station's loop.
+ * Stack: 15,192 bytes.
+ * Returns refusal | line << 8: the line of the refusal or of the rule, counted from 1. Nothing is written.
+ */
+GROOVEPAWN_LOOK_AT_ANSWER
+uint64_t groovepawn_text_line_of_rule(const uint8_t *text, size_t text_len, uint32_t rule);
+
+/*
+ * Where a text declares the name of a signal, the inputs first and then the outputs, counted from 0 as in the file.
+ * Refusals: as groovepawn_text_line_of_rule, 35 where the text has no such signal. A tool, and no part of a station's loop. Stack: 15,272 bytes.
+ * Returns refusal | place << 8 | length << 40: the line of the refusal, with the length 0; or the byte of the text at which the name begins, counted
+ * from 0, and how many bytes it has, at most 16. A signal that has its letter alone has no name: both are then 0. Nothing is written.
+ */
+GROOVEPAWN_LOOK_AT_ANSWER
+uint64_t groovepawn_text_name_of_signal(const uint8_t *text, size_t text_len, uint32_t signal);
+
+/*
+ * The same for a clock, which always has a name. Stack: 15,272 bytes.
+ */
+GROOVEPAWN_LOOK_AT_ANSWER
+uint64_t groovepawn_text_name_of_clock(const uint8_t *text, size_t text_len, uint32_t clock);
+
+/*
+ * The same for a location, which always has a name. Stack: 15,272 bytes.
+ */
+GROOVEPAWN_LOOK_AT_ANSWER
+uint64_t groovepawn_text_name_of_location(const uint8_t *text, size_t text_len, uint32_t location);
 
 #ifdef __cplusplus
 }

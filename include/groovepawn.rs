@@ -7,7 +7,7 @@
 
 // The numbers of `groovepawn.h`, by its names. A refusal is the low eight bits of an answer.
 pub const GROOVEPAWN_VERSION_MAJOR: u32 = 1;
-pub const GROOVEPAWN_VERSION_MINOR: u32 = 1;
+pub const GROOVEPAWN_VERSION_MINOR: u32 = 2;
 pub const GROOVEPAWN_VERSION_PATCH: u32 = 0;
 
 pub const GROOVEPAWN_READING_AT_START: u8 = 1;
@@ -23,6 +23,8 @@ pub const GROOVEPAWN_MOST_BAYS: usize = 8;
 pub const GROOVEPAWN_MOST_EVENTS_OF_A_WAVE: usize = 16_384;
 pub const GROOVEPAWN_MOST_TEXT_BYTES: usize = 508_119;
 pub const GROOVEPAWN_MOST_STRUCK_BYTES: usize = 957;
+pub const GROOVEPAWN_MOST_POLICY_TEXT_BYTES: usize = 39_420;
+pub const GROOVEPAWN_MOST_NAME_BYTES: usize = 16;
 
 pub const GROOVEPAWN_NOT_REFUSED: u8 = 0;
 pub const GROOVEPAWN_REFUSED_CUT_SHORT: u8 = 1;
@@ -54,6 +56,12 @@ pub const GROOVEPAWN_REFUSED_NO_METER_SIGNALS: u8 = 26;
 pub const GROOVEPAWN_REFUSED_TOTAL_FULL: u8 = 27;
 pub const GROOVEPAWN_REFUSED_INDEX: u8 = 28;
 pub const GROOVEPAWN_REFUSED_TOO_MANY_EVENTS: u8 = 29;
+pub const GROOVEPAWN_REFUSED_LINE: u8 = 30;
+pub const GROOVEPAWN_REFUSED_NAME: u8 = 31;
+pub const GROOVEPAWN_REFUSED_NUMBER: u8 = 32;
+pub const GROOVEPAWN_REFUSED_NO_ROOM: u8 = 33;
+pub const GROOVEPAWN_REFUSED_AT_BEFORE: u8 = 34;
+pub const GROOVEPAWN_REFUSED_NO_SUCH: u8 = 35;
 
 pub const GROOVEPAWN_NOT_EDITED: u8 = 0;
 pub const GROOVEPAWN_RULE_FORBIDS: u8 = 1;
@@ -307,4 +315,26 @@ extern "C" {
         work_5: *mut u16,
         work_5_len: usize,
     ) -> u64;
+
+    pub fn groovepawn_text_read(
+        text: *const u8,
+        text_len: usize,
+        file: *mut u8,
+        file_len: usize,
+    ) -> u64;
+
+    pub fn groovepawn_text_write(
+        file: *const u8,
+        file_len: usize,
+        text: *mut u8,
+        text_len: usize,
+    ) -> u64;
+
+    pub fn groovepawn_text_line_of_rule(text: *const u8, text_len: usize, rule: u32) -> u64;
+
+    pub fn groovepawn_text_name_of_signal(text: *const u8, text_len: usize, signal: u32) -> u64;
+
+    pub fn groovepawn_text_name_of_clock(text: *const u8, text_len: usize, clock: u32) -> u64;
+
+    pub fn groovepawn_text_name_of_location(text: *const u8, text_len: usize, location: u32) -> u64;
 }

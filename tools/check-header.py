@@ -114,8 +114,8 @@ def check_constants():
         if mine.get(name) != other.get(name):
             faults.append(f"{name} is {mine.get(name)} in groovepawn.h and {other.get(name)} in groovepawn.rs")
     refusals = sorted(value for name, value in mine.items() if "REFUSED" in name)
-    if refusals != list(range(30)):
-        faults.append(f"the refusals are not 0 to 29, each once: {refusals}")
+    if refusals != list(range(36)):
+        faults.append(f"the refusals are not 0 to 35, each once: {refusals}")
     print(f"{len(mine)} constants")
 
 

@@ -3,7 +3,9 @@
  * painted are counted, less those of a call that does nothing.
  *
  *     rt staticlib groovepawn
- *     cc -O2 -Iinclude tools/stack.c target/staticlib/libgroovepawn.a -o stack -pthread && ./stack
+ *     cc -O2 -Iinclude tools/stack.c target/staticlib/libgroovepawn.a -o stack -pthread -Wl,-z,now && ./stack
+ *
+ * Symbols are bound at the start: else the first call of memcpy would be charged with the stack of the linker that looks for it.
  *
  * On a board without an operating system the stack is the board's own, between two places that its linker script names (cross/bare).
  */
@@ -25,6 +27,8 @@ static _Alignas(4096) uint8_t stack[STACK];
 static uint8_t joined[GROOVEPAWN_MOST_FILE_BYTES], cleaned[GROOVEPAWN_MOST_FILE_BYTES];
 static uint8_t struck[GROOVEPAWN_MOST_STRUCK_BYTES], marks[STATES], quiet[EVENTS], restless[EVENTS], events[EVENTS], released[EVENTS], text[TEXT];
 static size_t text_length;
+static uint8_t policy_text[GROOVEPAWN_MOST_POLICY_TEXT_BYTES];
+static size_t policy_text_length;
 enum { NUMBERS = GROOVEPAWN_STATE_LEN, INDEX = GROOVEPAWN_INDEX_LEN, BAYS = GROOVEPAWN_MOST_BAYS };
 enum { STATION = GROOVEPAWN_STATION_LEN, TOTALS = GROOVEPAWN_TOTALS_LEN };
 static uint16_t state[NUMBERS], index_of_file[INDEX], bays[BAYS * NUMBERS], station[STATION];
@@ -70,6 +74,14 @@ static void meter_new(void) { answer = groovepawn_meter_new(station, STATION, to
 static void meter_input(void) { answer = groovepawn_meter_input(reading, file, length, marks, STATES, station, STATION, 4, 0); }
 static void meter_output(void) { answer = groovepawn_meter_output(reading, file, length, marks, STATES, station, STATION, totals, TOTALS, 4, 15, 0); }
 
+/* The text is that of the policy: its last rule, signal, clock and location are asked for. */
+static void text_write(void) { policy_text_length = (answer = groovepawn_text_write(file, length, policy_text, sizeof policy_text)) >> 8; }
+static void text_read(void) { answer = groovepawn_text_read(policy_text, policy_text_length, joined, sizeof joined); }
+static void text_line_of_rule(void) { answer = groovepawn_text_line_of_rule(policy_text, policy_text_length, RULES - 1); }
+static void text_name_of_signal(void) { answer = groovepawn_text_name_of_signal(policy_text, policy_text_length, 7); }
+static void text_name_of_clock(void) { answer = groovepawn_text_name_of_clock(policy_text, policy_text_length, 3); }
+static void text_name_of_location(void) { answer = groovepawn_text_name_of_location(policy_text, policy_text_length, 1); }
+
 static const struct { const char *name; void (*call)(void); } calls[] = {
     {"groovepawn_check", check}, {"groovepawn_prepare", prepare}, {"groovepawn_prepare_fast", prepare_fast}, {"groovepawn_index", build},
     {"groovepawn_input", input}, {"groovepawn_output", output}, {"groovepawn_run", run},
@@ -79,6 +91,9 @@ static const struct { const char *name; void (*call)(void); } calls[] = {
     {"groovepawn_join", join}, {"groovepawn_clean", clean}, {"groovepawn_why", why}, {"groovepawn_why_run", why_run},
     {"groovepawn_ticks", ticks},
     {"groovepawn_wave_write", wave_write}, {"groovepawn_wave_read", wave_read},
+    {"groovepawn_text_write", text_write}, {"groovepawn_text_read", text_read}, {"groovepawn_text_line_of_rule", text_line_of_rule},
+    {"groovepawn_text_name_of_signal", text_name_of_signal}, {"groovepawn_text_name_of_clock", text_name_of_clock},
+    {"groovepawn_text_name_of_location", text_name_of_location},
 };
 enum { CALLS = sizeof calls / sizeof *calls };
 
@@ -134,6 +149,6 @@ int main(void) {
             }
         }
     }
-    for (int i = 0; i < CALLS; i++) printf("%-28s %6lu bytes\n", calls[i].name, (unsigned long)most[i]);
+    for (int i = 0; i < CALLS; i++) printf("%-32s %6lu bytes\n", calls[i].name, (unsigned long)most[i]);
     return 0;
 }

@@ -17,13 +17,17 @@ archive = os.path.abspath(sys.argv[1] if len(sys.argv) > 1 else os.path.join(top
 os.chdir(top)
 HEADER, PAGE = "include/groovepawn.h", "docs/C-INTERFACE.md"
 # These are tools and no part of a loop: the header's opening comment names them with their numbers.
-TOOLS = ("groovepawn_clean", "groovepawn_why", "groovepawn_why_run")
+TOOLS = (
+    "groovepawn_clean", "groovepawn_why", "groovepawn_why_run", "groovepawn_text_read", "groovepawn_text_write", "groovepawn_text_line_of_rule",
+    "groovepawn_text_name_of_signal", "groovepawn_text_name_of_clock", "groovepawn_text_name_of_location",
+)
 
 
 def measured():
     with tempfile.TemporaryDirectory() as folder:
         program = os.path.join(folder, "stack")
-        subprocess.run(["cc", "-O2", "-Iinclude", "tools/stack.c", archive, "-o", program, "-pthread"], check=True)
+        command = ["cc", "-O2", "-Iinclude", "tools/stack.c", archive, "-o", program, "-pthread", "-Wl,-z,now"]
+        subprocess.run(command, check=True)
         said = subprocess.run([program], check=True, capture_output=True, text=True).stdout
     if "refused" in said:
         sys.exit(said)
@@ -47,7 +51,7 @@ def in_header(text, sizes):
 
     text = re.sub(r"/\*((?:(?!\*/).)*)\*/\n((?:GROOVEPAWN_LOOK_AT_ANSWER\n[^;]*;\n)+)", written, text, flags=re.S)
     for tool in TOOLS:
-        text = re.sub(r"(?<=%s \()[\d,]+" % tool, f"{sizes[tool]:,}", text, count=1)
+        text = re.sub(r"(%s(?: |\n \* )\()[\d,]+" % tool, lambda m: f"{m[1]}{sizes[tool]:,}", text, count=1)
     return text
 
 

@@ -5,6 +5,7 @@ pub mod Stays
 pub mod Fields
 pub mod Check
 pub mod Waves
+pub mod Text
 pub mod Indexed
 pub mod IndexedLaws
 pub mod Bays
