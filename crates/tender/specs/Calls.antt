@@ -4,7 +4,7 @@ use mathlib.Core.Path.{_≡_, refl, sym, ap, ap₂, subst, _∙_}
 use mathlib.Core.Bool.{Bool, true, false, cond}
 use mathlib.Core.List.{List}
 use mathlib.Core.Logic.{_↔_}
-use Prim.Native.Nat.{ℕ, zero, suc, _/_, _%_}
+use Prim.Native.Nat.{ℕ, zero, suc, _/_, _%_, _^_, _<_}
 use native.Mathlib.Omega.{arith}
 use lib.Dec.{eqb}
 use lib.ListN.{length}
@@ -35,6 +35,10 @@ use Rattle.cleaning.specs.Promise.{cleanSaid, CleanPromise}
 use Rattle.cleaning.specs.declared.Lengths.{Lengths}
 use Rattle.cleaning.specs.declared.Cleaned.{Cleaned}
 use Rattle.cleaning.specs.declared.Cleaned.the-variants as Cleaned
+use Rattle.compiling.specs.Promise.{ReadTextPromise}
+use Rattle.showing.specs.Promise.{WriteTextPromise}
+use Rattle.pointing.specs.RuleAt.{RuleAtPromise}
+use Rattle.pointing.specs.NameAt.{NameAtPromise}
 use Rattle.waves.specs.Entry.{Reads}
 use Rattle.waves.specs.Promise.{writtenSaid, takenSaid, WritePromise, TakePromise}
 use Rattle.waves.specs.declared.writer.Written.{Written}
@@ -50,6 +54,8 @@ use Rattle.groovepawn.specs.BaysLaws.{bay-input-fields, bay-output-fields}
 use Rattle.groovepawn.specs.Meter.{MeterNewCall, MeterInputCall, MeterOutputCall, meter-input-fields, meter-output-fields}
 use Rattle.groovepawn.specs.Clean.{CleanCall, lengthsIn, clean-fields}
 use Rattle.groovepawn.specs.Waves.{WaveWriteCall, WaveReadCall, wave-write-fields, wave-read-fields}
+use Rattle.groovepawn.specs.Text.{TextReadCall, TextWriteCall, TextRuleCall, TextNameCall, textReadOf, textRuleOf, textNameOf, whereOf, textReadIn, textRuleIn, textNameIn}
+use Rattle.groovepawn.specs.Text.{text-read-fields, text-write-numbers, text-rule-fields, text-name-fields}
 
 -- What a word says, as the answer of the entry below.
 abbrev asPrepared : Said.Answer Summary → Prepared
@@ -254,3 +260,20 @@ c-wave-write {file} {events} {before} {r = r} h =
 pub c-wave-read : {file text before after : List ℕ} {r : ℕ} → WaveReadCall file text before r after → TakePromise file text before (takenIn r) after
 c-wave-read {file} {text} {before} {after} {r} h =
     record { reads = subst (λ (a : Said.Answer ℕ). Reads file text before a after) (sym (taken-says (answerIn r))) (wave-read-fields h) }
+
+-- groovepawn_text_read, groovepawn_text_write, groovepawn_text_line_of_rule and the three for names, where the line or the place is below 2 ^ 32.
+pub c-text-read : {text before after : List ℕ} {r : ℕ} → textReadOf text before .line < 2 ^ 32 → TextReadCall text before r after → ReadTextPromise text before (textReadIn r) after
+c-text-read {text} {before} l h = record { says = ap textReadIn (h .said) ∙ text-read-fields text before l; writes = h .file }
+
+pub c-text-write :
+    {file before after : List ℕ} {r : ℕ} → TextWriteCall file before r after →
+    WriteTextPromise file before (record { refusal = r % 256; length = r / 256 }) after
+c-text-write {file} {before} h =
+    let k = text-write-numbers file before in
+    record { refuses = ap (λ (n : ℕ). n % 256) (h .said) ∙ k .0; long = ap (λ (n : ℕ). n / 256) (h .said) ∙ k .1; writes = h .text }
+
+pub c-text-rule : {text : List ℕ} {i r : ℕ} → textRuleOf text i .line < 2 ^ 32 → TextRuleCall text i r → RuleAtPromise text i (textRuleIn r)
+c-text-rule {text} {i} l h = ap textRuleIn (h .said) ∙ text-rule-fields text i l
+
+pub c-text-name : {kind : ℕ} {text : List ℕ} {i r : ℕ} → whereOf (textNameOf kind text i) < 2 ^ 32 → TextNameCall kind text i r → NameAtPromise kind text i (textNameIn r)
+c-text-name {kind} {text} {i} l h = ap textNameIn (h .said) ∙ text-name-fields kind text i l

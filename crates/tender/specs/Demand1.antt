@@ -90,6 +90,17 @@ pub use Rattle.groovepawn.specs.Check.{CheckCall, check-one as c-check-one}
 pub use Rattle.groovepawn.specs.Clean.{CleanCall, clean-one as c-clean-one}
 -- groovepawn_wave_write, _wave_read:
 pub use Rattle.groovepawn.specs.Waves.{WaveWriteCall, WaveReadCall, wave-write-one, wave-read-one}
+-- groovepawn_text_read, _text_write, _text_line_of_rule, _text_name_of_signal, _text_name_of_clock, _text_name_of_location:
+pub use Rattle.groovepawn.specs.Text.{
+  TextReadCall,
+  TextWriteCall,
+  TextRuleCall,
+  TextNameCall,
+  text-read-one as c-text-read-one,
+  text-write-one as c-text-write-one,
+  text-rule-one as c-text-rule-one,
+  text-name-one as c-text-name-one,
+}
 -- The program `enforce`: `console::respond` writes the text `printed input`, and returns how many bytes it is.
 pub use Rattle.console.specs.Printed.{printed}
 pub use Rattle.console.specs.Reply.{Replied, replied-one}
