@@ -1,5 +1,5 @@
-pub mod Trail
-pub mod Pieces
+pub mod Declarations
 pub mod Pieced
+pub mod Lines
 pub mod Entry
 pub mod Promise

@@ -1,28 +1,29 @@
 -- The writer's text is its pieces one after another.
-use mathlib.Core.Path.{_≡_, refl, ap, ap₂, sym, subst, _∙_}
+use mathlib.Core.Path.{_≡_, refl, ap, ap₂, sym, _∙_}
 use mathlib.Core.Bool.{Bool, true, false, cond, _||_}
-use mathlib.Core.List.{List, [], _∷_, _++_, append-assoc, append-nil}
-use mathlib.Core.Option.{Option, none, some}
-use Prim.Native.Nat.{ℕ, zero, suc, _+_, _^_, _≤_, _<_}
+use mathlib.Core.List.{List, [], _∷_, _++_, append-assoc}
+use mathlib.Core.Option.{none, some}
+use Prim.Native.Nat.{ℕ, suc, _+_, _^_, _<_}
 use native.Mathlib.Omega.{arith}
 use lib.Dec.{eqb}
 use lib.ListN.{length, length-append, replicate}
 use borrow.Author.Tests.{ne-eqb}
 use Rattle.policy.specs.Rules.{Rule, Policy}
-use Rattle.policy.specs.File.{part, pairsFrom, rulesFrom, inputCount, outputsAt, outputCount, clocksAt, clockCount, locationsAt, locationCount, rulesStart, ruleCount, ruleSection, inputTags, outputTags, locationBytes, policyOf}
+use Rattle.policy.specs.File.{part, pairsFrom, rulesFrom, inputCount, outputsAt, outputCount, clocksAt, clockCount, locationsAt, locationCount, rulesStart, ruleCount, inputTags, outputTags, locationBytes, policyOf}
 use Rattle.policy.specs.Check.{refusalOf}
 use Rattle.policy.specs.Sound.{WellFormed, Each, each-none, each-more, each-weak}
-use Rattle.policy.specs.Checked.{Ruled, well-ruled, checked-file}
+use Rattle.policy.specs.Checked.{well-ruled, checked-file}
 use Rattle.policy.specs.Frame.{pairs-length}
 use Rattle.policy.specs.Parts.{rules-part}
 use Rattle.texts.specs.Text.{ascii, decimal}
 use Rattle.wording.specs.Words.{Word, Line, spacedOut, laid}
 use Rattle.wording.specs.Names.{same, is, isPlain, nameOf}
 use Rattle.wording.specs.RuleBack.{Starts, starts-none, starts-plain, starts-conditions}
-use Rattle.wording.specs.Writer.{clockName, placeName, clockLines, leftWords, locationLines, signalLines, signalWords, boundWords, orAny, targetWord, resetNames, afterReset, isAt, atLines}
+use Rattle.wording.specs.Writer.{clockName, placeName, clockLines, leftWords, locationLines, signalLines, signalWords, boundWords, orAny, targetWord, resetNames, afterReset, atLines}
 use Rattle.wording.specs.Writer.{conditionWords, ruleWords, ruleLines, policyLines, margin, textOf, textOfFile}
-use Rattle.showing.specs.Trail.{trailing, trailing-both, spaced-trailing}
-use Rattle.showing.specs.Pieces.{leading, spaced-leading, tagText, clockPiece, clockText, leftPiece, placeText, targetPiece, clearPiece, clear-piece, conditionText, anyPiece, any-other, conditionPiece, endPiece, rulePiece, atPiece, ruleText}
+use Rattle.rule_text.specs.Trail.{trailing, trailing-both, spaced-trailing}
+use Rattle.rule_text.specs.Pieces.{leading, spaced-leading, targetPiece, clearPiece, clear-piece, conditionText, anyPiece, any-other, conditionPiece, rulePiece, atPiece, ruleText}
+use Rattle.showing.specs.Declarations.{tagText, clockPiece, clockText, leftPiece, placeText}
 
 laid-none : laid margin [] ≡ []
 unfolding laid
@@ -149,7 +150,7 @@ abbrev pub linesText : (inputs outputs ceilings left : List ℕ) (clocks : ℕ) 
 linesText inputs outputs ceilings left clocks rules =
     tagText (ascii "input") inputs ++ tagText (ascii "output") outputs ++ clockText 0 ceilings ++ placeText 0 left ++ ruleText inputs outputs clocks 255 rules
 
-five : (a b c d e : List ℕ) → a ++ (b ++ (c ++ (d ++ e))) ≡ a ++ b ++ c ++ d ++ e
+pub five : (a b c d e : List ℕ) → a ++ (b ++ (c ++ (d ++ e))) ≡ a ++ b ++ c ++ d ++ e
 five a b c d e = simp append-assoc
 
 input-lines : (ts : List ℕ) → laid margin (signalLines (ascii "input") ts) ≡ tagText (ascii "input") ts

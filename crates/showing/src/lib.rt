@@ -1,8 +1,6 @@
 // A policy file shown as text.
 mod declared;
-mod limits;
-mod rule;
-pub mod signals;
+mod lines;
 mod writer;
 
 pub use writer::Written;

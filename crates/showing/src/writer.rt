@@ -1,22 +1,17 @@
-// The writer: the check of the file, its text, and then whether there is room for it.
-use crate::declared::put_clocks;
-use crate::declared::put_places;
-use crate::declared::put_tags;
-use crate::rule::put_rules;
+// The writer: the check of the file, how long its text is, and then the text.
+use crate::lines::LINE;
+use crate::lines::line_count;
+use crate::lines::put_line;
+use policy::Layout;
 use policy::check;
 use texts::put_bytes;
 ghost use mathlib.Core.Path.{_≡_};
-ghost use Prim.Native.Nat.{_+_, _*_, _^_, _≤_, _<_};
+ghost use Prim.Native.Nat.{_≤_};
 ghost use lib.ListN.{length};
-ghost use Rattle.policy.specs.File.{pairsFrom, ruleSize, rulesFrom, inputCount, outputCount, clockCount, locationCount, ruleCount};
-ghost use Rattle.policy.specs.Check.{refusalOf};
 ghost use Rattle.texts.specs.Wrote.{Wrote};
 ghost use Rattle.wording.specs.Writer.{textOfFile};
-ghost use Rattle.showing.specs.Pieced.{linesText};
+ghost use Rattle.showing.specs.Lines.{LaidOut};
 ghost use Rattle.showing.specs.Promise.{WriteTextPromise};
-
-// No text that the writer writes is longer.
-const LONGEST: usize = 57300;
 
 // A refusal, or 0 and the length written.
 pub struct Written {
@@ -24,65 +19,40 @@ pub struct Written {
     pub length: usize,
 }
 
-// The ceilings stand in the file from `ceilings` on, and the rules from `from` on.
-fn put_lines(
-    text: &mut [u8],
-    inputs: &[u8],
-    outputs: &[u8],
-    left: &[u8],
-    file: &[u8],
-    ceilings: usize,
-    clocks: usize,
-    from: usize,
-    count: usize,
-) -> usize
-    requires { ⌜ (length (now inputs) ≤ 4) × (length (now outputs) ≤ 4) × (length (now left) ≤ 64) × (clocks ≤ 4) × (count ≤ 256) ⌝ }
-    requires { ⌜ (ceilings + 2 * clocks ≤ length (now file)) × (from < 2 ^ 16) × (from + count * ruleSize clocks ≤ length (now file)) × (57300 ≤ length (now text)) ⌝ }
-    ensures { λ r. ⌜ Wrote (now (text .entry)) 0 (linesText (now (inputs .entry)) (now (outputs .entry)) (pairsFrom (now (file .entry)) ceilings clocks) (now (left .entry)) clocks (rulesFrom clocks (now (file .entry)) from count)) r (now (text .exit)) ⌝ }
+// Each line is made in `line`, and only its length is kept.
+fn text_length(file: &[u8], layout: Layout, line: &mut [u8]) -> usize
+    requires { ⌜ LaidOut (now file) layout × (216 ≤ length (now line)) ⌝ }
+    ensures { λ r. ⌜ r ≡ length (textOfFile (now (file .entry))) ⌝ }
 {
-    let a = put_tags(text, 0, b"input", inputs);
-    let b = put_tags(text, a, b"output", outputs);
-    let c = put_clocks(text, b, file, ceilings, clocks);
-    let d = put_places(text, c, left);
-    put_rules(text, d, inputs, outputs, file, from, count, clocks)
+    let lines = line_count(layout);
+    let mut total = 0;
+    let mut i = 0;
+    while i < lines {
+        total += put_line(line, 0, file, layout, i);
+        i += 1;
+    }
+    total
 }
 
-// The file passes its check and has these counts.
-fn put_file(
-    text: &mut [u8],
-    file: &[u8],
-    inputs: usize,
-    outputs: usize,
-    clocks: usize,
-    locations: usize,
-    rules: usize,
-) -> usize
-    requires { ⌜ (refusalOf (now file) ≡ 0) × (57300 ≤ length (now text)) ⌝ }
-    requires { ⌜ (inputs ≡ inputCount (now file)) × (outputs ≡ outputCount (now file)) × (clocks ≡ clockCount (now file)) × (locations ≡ locationCount (now file)) × (rules ≡ ruleCount (now file)) ⌝ }
-    ensures { λ r. ⌜ Wrote (now (text .entry)) 0 (textOfFile (now (file .entry))) r (now (text .exit)) ⌝ }
+// Each line is made in `line`, where the longest has room, and then copied.
+fn put_text(out: &mut [u8], file: &[u8], layout: Layout, line: &mut [u8]) -> usize
+    requires { ⌜ LaidOut (now file) layout × (216 ≤ length (now line)) × (length (textOfFile (now file)) ≤ length (now out)) ⌝ }
+    ensures { λ r. ⌜ Wrote (now (out .entry)) 0 (textOfFile (now (file .entry))) r (now (out .exit)) ⌝ }
 {
-    let inputs_end = 1 + inputs;
-    let outputs_start = inputs_end + 1;
-    let outputs_end = outputs_start + outputs;
-    let ceilings = outputs_end + 1;
-    let left_start = ceilings + 2 * clocks + 1;
-    let left_end = left_start + locations;
-    put_lines(
-        text,
-        &file[1..inputs_end],
-        &file[outputs_start..outputs_end],
-        &file[left_start..left_end],
-        file,
-        ceilings,
-        clocks,
-        left_end + 2,
-        rules,
-    )
+    let lines = line_count(layout);
+    let mut next = 0;
+    let mut i = 0;
+    while i < lines {
+        let end = put_line(line, 0, file, layout, i);
+        next = put_bytes(out, next, &line[..end]);
+        i += 1;
+    }
+    next
 }
 
-// The text is worked out in the scratch `text`, so that nothing is written where there is no room.
-fn write_by(file: &[u8], out: &mut [u8], text: &mut [u8]) -> Written
-    requires { ⌜ 57300 ≤ length (now text) ⌝ }
+// With the scratch `line` for one line at a time.
+fn write_by(file: &[u8], out: &mut [u8], line: &mut [u8]) -> Written
+    requires { ⌜ 216 ≤ length (now line) ⌝ }
     ensures { λ r. ⌜ WriteTextPromise (now (file .entry)) (now (out .entry)) r (now (out .exit)) ⌝ }
 {
     let checked = check(file);
@@ -91,16 +61,7 @@ fn write_by(file: &[u8], out: &mut [u8], text: &mut [u8]) -> Written
         return Written { refusal, length: 0 };
     }
     let layout = checked.layout;
-    let length = put_file(
-        text,
-        file,
-        layout.inputs,
-        layout.outputs,
-        layout.clocks,
-        layout.locations,
-        layout.rules,
-    );
-    if out.len() < length {
+    if out.len() < text_length(file, layout, line) {
         return Written {
             refusal: 14,
             length: 0,
@@ -108,14 +69,14 @@ fn write_by(file: &[u8], out: &mut [u8], text: &mut [u8]) -> Written
     }
     Written {
         refusal: 0,
-        length: put_bytes(out, 0, &text[..length]),
+        length: put_text(out, file, layout, line),
     }
 }
 
-// Writes the text of the file.
+// Writes the text of the file. Nothing is written before the room is known.
 pub fn write(file: &[u8], out: &mut [u8]) -> Written
     ensures { λ r. ⌜ WriteTextPromise (now (file .entry)) (now (out .entry)) r (now (out .exit)) ⌝ }
 {
-    let mut text = [0u8; LONGEST];
-    write_by(file, out, &mut text)
+    let mut line = [0u8; LINE];
+    write_by(file, out, &mut line)
 }
