@@ -1,0 +1,167 @@
+// The automaton: a card for each location with its rules in order, and arrows to where they lead. Arrows down go along the right side, arrows up
+// along the left, each in a lane of its own, so that none crosses a word.
+import { escaped } from './editor.js';
+import { amount, conditions, resets } from './sentences.js';
+
+const ROW = 22;
+const HEAD = 34;
+const FOOT = 8;
+const GAP = 26;
+const LANE = 9;
+const SIDE = 16;
+const LETTER = 7.3;
+const NARROWEST = 190;
+const WIDE = 430;
+
+/** What is to be told of a location beside its name. */
+function chipsOf(place) {
+  const chips = [];
+  if (place.start) chips.push(['start', 'start']);
+  if (place.mustBeLeft) chips.push(['left', 'must be left']);
+  if (place.neverEntered) chips.push(['never', 'never entered']);
+  else if (place.live === 0) chips.push(['future', 'no future']);
+  else if (place.live < place.states) chips.push(['some', `${amount(place.live)} of ${amount(place.states)} live`]);
+  return chips;
+}
+
+const textWidth = (text) => text.length * LETTER;
+const chipsWidth = (chips) => chips.reduce((width, [, words]) => width + textWidth(words) * 0.86 + 18, 0);
+
+/** The row of a rule: its words, where it leads, and what it is told apart by. */
+function rowOf(named, rule, unused) {
+  const own = rule.target === rule.source;
+  const to = rule.target === null ? 'violation' : own ? 'stays' : named.locations[rule.target];
+  return {
+    rule,
+    words: conditions(named, rule),
+    to,
+    resets: resets(named, rule),
+    kind: rule.target === null ? 'bad' : own ? 'own' : 'way',
+    unused,
+  };
+}
+
+/** The cards from top to bottom, with the rows of their rules. */
+function cardsOf(named, told, room) {
+  const struck = new Set(told.struck.filter(({ kind }) => kind !== 1).map(({ number }) => number));
+  const never = new Set(told.struck.filter(({ kind }) => kind === 1).map(({ number }) => number));
+  let y = GAP;
+  const cards = named.locations.map((name, location) => {
+    const rows = named.parts.rules.filter(({ source }) => source === location).map((rule) => rowOf(named, rule, struck.has(rule.number)));
+    const place = {
+      start: location === 0,
+      mustBeLeft: named.parts.mustBeLeft[location],
+      neverEntered: never.has(location),
+      live: told.live[location],
+      states: told.statesEach,
+    };
+    const height = HEAD + Math.max(1, rows.length) * ROW + FOOT;
+    const card = { location, name, rows, place, chips: chipsOf(place), y, height };
+    y += height + GAP;
+    return card;
+  });
+  const widest = Math.max(...cards.flatMap((card) => [
+    textWidth(card.name) + chipsWidth(card.chips) + 90,
+    ...card.rows.map((row) => textWidth(`${row.words} → ${row.to} ${row.resets}`) + 60),
+  ]));
+  return { cards, width: Math.max(NARROWEST, Math.min(Math.max(widest, WIDE), room)), height: y };
+}
+
+/** Arrows between cards, each in the first lane that is free along its way. */
+function arrowsOf(cards) {
+  const lanes = { right: [], left: [] };
+  const arrows = cards.flatMap((card) => card.rows.map((row, i) => ({ card, row, i }))).filter(({ row }) => row.kind === 'way');
+  const spans = arrows.map(({ card, row, i }) => {
+    const target = cards[row.rule.target];
+    const side = row.rule.target > card.location ? 'right' : 'left';
+    const from = card.y + HEAD + i * ROW + ROW / 2;
+    const to = target.y + HEAD / 2;
+    return { row, card, side, from, to, low: Math.min(from, to), high: Math.max(from, to) };
+  });
+  spans.sort((a, b) => a.high - a.low - (b.high - b.low));
+  for (const span of spans) {
+    const taken = lanes[span.side];
+    // Arrows to the same card share a lane: their heads would lie on each other anyway.
+    let lane = taken.findIndex((spansHere) => spansHere.every((other) => other.to === span.to || other.high < span.low - 4 || other.low > span.high + 4));
+    if (lane < 0) lane = taken.push([]) - 1;
+    taken[lane].push(span);
+    span.lane = lane;
+  }
+  return { spans, right: lanes.right.length, left: lanes.left.length };
+}
+
+function arrow(span, left, width, lit) {
+  const edge = span.side === 'right' ? left + width : left;
+  const away = span.side === 'right' ? 1 : -1;
+  const lane = edge + away * (14 + span.lane * LANE);
+  const bend = 6;
+  const down = span.to > span.from ? 1 : -1;
+  const path = `M${edge} ${span.from} H${lane - away * bend} Q${lane} ${span.from} ${lane} ${span.from + down * bend} V${span.to - down * bend} Q${lane} ${span.to} ${lane - away * bend} ${span.to} H${edge + away * 2}`;
+  const kind = `arrow${span.row.unused ? ' unused' : ''}${lit ? ' lit' : ''}`;
+  return `<path class="${kind}" d="${path}" marker-end="url(#${lit ? 'head-lit' : span.row.unused ? 'head-unused' : 'head'})"/>`;
+}
+
+function chipShapes(card, right) {
+  let x = right - 8;
+  return [...card.chips].reverse().map(([kind, words]) => {
+    const width = textWidth(words) * 0.86 + 12;
+    x -= width + 4;
+    return `<g class="chip ${kind}"><rect x="${x}" y="${card.y + 8}" width="${width}" height="18" rx="9"/><text x="${x + width / 2}" y="${card.y + 20.5}">${escaped(words)}</text></g>`;
+  }).join('');
+}
+
+/** A text cut to a width; all of it stands in the title. */
+function cut(text, width) {
+  const letters = Math.floor(width / LETTER);
+  return text.length <= letters ? text : `${text.slice(0, Math.max(1, letters - 1))}…`;
+}
+
+function rowShape(card, row, i, left, width, litRule) {
+  const y = card.y + HEAD + i * ROW;
+  const lit = row.rule.number === litRule;
+  const sign = { bad: '✕', own: '↺', way: '→' }[row.kind];
+  const tail = `${sign} ${row.to}${row.resets ? `, ${row.resets}` : ''}`;
+  const room = width - 24;
+  const tailWidth = Math.min(textWidth(tail), room * 0.6);
+  return `<g class="row ${row.kind}${row.unused ? ' unused' : ''}${lit ? ' lit' : ''}"><title>rule ${row.rule.number}: ${escaped(`${row.words} -> ${row.rule.target === null ? 'violation' : row.kind === 'own' ? card.name : row.to} ${row.resets}`)}${row.unused ? ' (decides no event)' : ''}</title>
+    <rect x="${left + 1}" y="${y}" width="${width - 2}" height="${ROW}"/><text x="${left + 12}" y="${y + 15}">${escaped(cut(row.words, room - tailWidth - 6))}</text><text class="to" x="${left + width - 12}" y="${y + 15}">${escaped(cut(tail, tailWidth + 4))}</text></g>`;
+}
+
+function cardShape(card, left, width, now) {
+  const here = now?.location === card.location;
+  const kinds = ['card'];
+  if (here) kinds.push('here');
+  if (card.place.neverEntered) kinds.push('never');
+  else if (card.place.live === 0) kinds.push('future');
+  const box = (inset, name) => `<rect class="${name}" x="${left + inset}" y="${card.y + inset}" width="${width - 2 * inset}" height="${card.height - 2 * inset}" rx="${10 - inset}"/>`;
+  const chips = chipsWidth(card.chips);
+  const empty = card.rows.length ? '' : `<text class="none" x="${left + 12}" y="${card.y + HEAD + 15}">no rule: every event is a violation</text>`;
+  return `<g class="${kinds.join(' ')}">${box(0, 'box')}${card.place.mustBeLeft ? box(3.5, 'inner') : ''}
+    <text class="name" x="${left + 12}" y="${card.y + 23}">${here ? '● ' : ''}${escaped(cut(card.name, width - chips - 36))}<title>${escaped(card.name)}</title></text>${chipShapes(card, left + width)}
+    ${card.rows.map((row, i) => rowShape(card, row, i, left, width, now?.rule)).join('')}${empty}</g>`;
+}
+
+const HEADS = ['head', 'head-lit', 'head-unused'].map((id) => `<marker id="${id}" viewBox="0 0 8 8" refX="7" refY="4" markerWidth="8" markerHeight="8" orient="auto-start-reverse"><path d="M0 0.5 L8 4 L0 7.5 z"/></marker>`).join('');
+
+/** What a screen reader is told of the drawing. */
+function spoken(named, cards, now) {
+  const here = now ? ` The present location is ${named.locations[now.location]}.` : '';
+  return `${cards.length} ${cards.length === 1 ? 'location' : 'locations'}, ${named.parts.rules.length} rules.${here}`;
+}
+
+/**
+ * The drawing as SVG. `told` has the live states of each location and what cleaning strikes out; `now` the present location, and the rule that is lit.
+ */
+export function drawing(named, told, now, room) {
+  const guess = cardsOf(named, told, Infinity);
+  const { spans, right, left: leftLanes } = arrowsOf(guess.cards);
+  const left = SIDE + 8 + leftLanes * LANE + (leftLanes ? 10 : 0);
+  const beside = SIDE + (right ? 12 + right * LANE : 0);
+  const { cards, width, height } = cardsOf(named, told, Math.max(NARROWEST, room - left - beside));
+  const full = Math.max(left + width + beside, Math.min(room, 320));
+  const begin = `<circle class="begin" cx="${left + 24}" cy="5" r="4.5"/><path class="arrow" d="M${left + 24} 6 V${cards[0].y - 2}" marker-end="url(#head)"/>`;
+  return `<svg role="img" aria-label="${escaped(spoken(named, cards, now))}" width="${full}" height="${height}" viewBox="0 0 ${full} ${height}"><defs>${HEADS}</defs>
+    ${begin}${spans.map((span) => arrow(span, left, width, span.row.rule.number === now?.rule)).join('')}${cards.map((card) => cardShape(card, left, width, now)).join('')}</svg>`;
+}
+
+export const drawingStatesEach = (parts) => parts.ceilings.reduce((product, ceiling) => product * (ceiling + 1), 1);

@@ -1,0 +1,6 @@
+// The same program is the page's and the worker's: a worker has no document.
+import { openPage } from './page.js';
+import { serve } from './workshop.js';
+
+if (typeof document === 'undefined') serve(self);
+else openPage();

@@ -1,0 +1,55 @@
+// What signals, clocks and locations are called: by the names of a clause's text, or of several texts put together.
+import { lineOfRule, nameOf } from './calls.js';
+import { fileParts } from './file.js';
+
+/** Asks once for each number. */
+function remembered(ask) {
+  const answers = new Map();
+  return (number) => {
+    if (!answers.has(number)) answers.set(number, ask(number));
+    return answers.get(number);
+  };
+}
+
+/** A clause that was read: its file in parts, its names, and the line of each rule, all found by the library. */
+export function namedClause(library, text, file) {
+  const parts = fileParts(file);
+  const names = (kind, items) => items.map((_, i) => nameOf(library, text, kind, i));
+  const signalNames = names('signal', parts.signals);
+  return {
+    file,
+    parts,
+    signals: parts.signals.map((signal, i) => ({ ...signal, name: signalNames[i] || signal.tag })),
+    clocks: names('clock', parts.ceilings),
+    locations: names('location', parts.mustBeLeft),
+    lineOf: remembered((rule) => lineOfRule(library, text, rule)),
+  };
+}
+
+/** The name of a signal: that of the first clause that has one for its letter. */
+function nameOfSignal(clauses, signal) {
+  const named = clauses.map((clause) => clause.signals.find(({ tag }) => tag === signal.tag)?.name);
+  return named.find((name) => name && name !== signal.tag) ?? signal.tag;
+}
+
+/** Clocks of several clauses: a name that is there twice says its clause. */
+function clockNames(clauses) {
+  const all = clauses.flatMap((clause, number) => clause.clocks.map((name) => ({ name, number })));
+  return all.map(({ name, number }) => (all.filter((other) => other.name === name).length > 1 ? `${name}(${number + 1})` : name));
+}
+
+/** Clauses that were joined: `places` has for each location of the file the locations of the clauses that it stands for. */
+export function namedJoin(clauses, file, places) {
+  const parts = fileParts(file);
+  return {
+    file,
+    parts,
+    signals: parts.signals.map((signal) => ({ ...signal, name: nameOfSignal(clauses, signal) })),
+    clocks: clockNames(clauses),
+    locations: places.map((place) => place.map((location, i) => clauses[i].locations[location]).join(' · ')),
+    lineOf: () => 0,
+  };
+}
+
+/** The names of the signals that are on in an event. */
+export const namesOn = (named, event) => named.signals.filter(({ bit }) => event & bit).map(({ name }) => name);

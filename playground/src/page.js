@@ -1,0 +1,685 @@
+// The page: what was typed and switched goes to the library, and its answers to their places.
+import { MOST_WAVE_EVENTS, STATE_NUMBERS, check, readText, readWave, reasonsOf, writeText, writeWave } from './calls.js';
+import { drawing, drawingStatesEach } from './drawing.js';
+import { Editor, escaped } from './editor.js';
+import { eventsText, readEvents, withTicks, withoutLastTick } from './events.js';
+import { Keeper, addressOf, deskFrom, deskOfAddress, emptyDesk, kindOfFile, save } from './keeping.js';
+import { Library } from './library.js';
+import { namedClause, namedJoin } from './naming.js';
+import { refusalSentence, refusalWords } from './refusals.js';
+import { SAMPLES } from './samples.js';
+import { amount, plural, reasonsInWords, verdictWords } from './sentences.js';
+import { TickTable, eventShown, objectionSentences, reasonSentences, signalsShown, stateShown } from './table.js';
+import { ticksThatFit, waves } from './waves.js';
+import { Workshop } from './workshop.js';
+
+const byId = (id) => document.getElementById(id);
+const encoder = new TextEncoder();
+const HOPELESS = 11;
+const ADDRESS_REST = 400;
+const READING = { 1: 0, 2: 1 };
+
+/** The library's bytes stand in the page, packed. */
+async function wasmOf(packed) {
+  const bytes = Uint8Array.from(atob(packed), (letter) => letter.charCodeAt(0));
+  return new Response(new Blob([bytes]).stream().pipeThrough(new DecompressionStream('deflate-raw'))).arrayBuffer();
+}
+
+const titleOf = (text, number) => /^\s*#\s*(.{1,28}?)(?:[:.(,]|$)/m.exec(text)?.[1].trim() || `Clause ${number + 1}`;
+
+class Page {
+  constructor(library, workshop) {
+    Object.assign(this, { library, workshop });
+    this.keeper = new Keeper();
+    this.desk = emptyDesk();
+    this.texts = new Map();
+    this.switches = 0;
+    this.chosen = null;
+    this.drawn = 'all';
+    this.from = null;
+    this.turn = 0;
+    this.text = new Editor(byId('text'), { label: 'The policy as text', lowest: 14, changed: (text) => this.typed(text) });
+    this.eventsText = new Editor(byId('events'), { label: 'Events, a line for each tick', lowest: 6, changed: (text) => this.eventsTyped(text) });
+    this.table = new TickTable(byId('table'), (tick) => this.choose(tick));
+    this.listen();
+  }
+
+  // What a person does.
+
+  listen() {
+    const on = (id, what, does) => byId(id).addEventListener(what, does);
+    byId('sample').innerHTML = this.sampleOptions();
+    on('sample', 'change', (event) => this.takeSample(Number(event.target.value)));
+    on('open', 'click', () => byId('file').click());
+    on('file', 'change', (event) => this.openFile(event.target.files[0]));
+    on('save-text', 'click', () => this.saveText());
+    on('save-file', 'click', () => this.saveFile());
+    on('save-wave', 'click', () => this.saveWave());
+    on('link', 'click', () => this.copyLink());
+    on('back', 'click', () => this.bringBack());
+    on('tick', 'click', () => this.tick(1));
+    on('ticks', 'click', () => this.tick(this.count));
+    on('undo', 'click', () => this.setEvents(withoutLastTick(this.desk.events)));
+    on('restart', 'click', () => this.restart());
+    on('clauses', 'click', (event) => this.clauseClicked(event.target.closest('button')));
+    on('clauses', 'change', (event) => this.change({ cleaning: event.target.checked }));
+    on('drawn', 'click', (event) => this.draw(event.target.closest('button')?.dataset.drawn));
+    on('whole-shown', 'click', (event) => event.target.closest('button') && this.takeWhole());
+    on('whole', 'toggle', () => this.showWhole());
+    on('from', 'input', (event) => this.showWaves(Number(event.target.value) - 1));
+    on('try-part', 'change', (event) => event.target.name === 'reading' && this.change({ reading: event.target.value }));
+    on('try-part', 'keydown', (event) => this.keyed(event));
+    for (const id of ['inputs', 'outputs']) on(id, 'click', (event) => this.flip(event.target.closest('button')?.dataset.bit));
+    addEventListener('hashchange', () => this.followAddress());
+    let width = innerWidth;
+    addEventListener('resize', () => {
+      if (innerWidth !== width) this.showTried();
+      width = innerWidth;
+    });
+  }
+
+  sampleOptions() {
+    const groups = [...new Set(SAMPLES.map(({ group }) => group))];
+    const options = (group) => SAMPLES.map((sample, i) => (sample.group === group ? `<option value="${i}">${escaped(sample.name)}</option>` : '')).join('');
+    return `<option value="" disabled selected>Choose one</option>${groups.map((group) => `<optgroup label="${group}">${options(group)}</optgroup>`).join('')}`;
+  }
+
+  typed(text) {
+    this.desk.clauses[this.desk.open] = text;
+    this.changed();
+  }
+
+  eventsTyped(text) {
+    this.desk.events = text;
+    this.chosen = null;
+    this.keep();
+    this.showClausesRead();
+    this.play();
+  }
+
+  setEvents(text) {
+    this.eventsText.text = text;
+    this.eventsTyped(text);
+  }
+
+  get count() {
+    return Math.min(100000, Math.max(1, Math.floor(Number(byId('count').value)) || 1));
+  }
+
+  tick(times) {
+    if (!this.named || !this.tried) return;
+    const pulses = Number(byId('pulses')?.value) || 0;
+    this.setEvents(withTicks(this.desk.events, this.named.signals, this.switches, times, pulses));
+  }
+
+  restart() {
+    this.setEvents('');
+    this.say('The policy is at its start again.');
+  }
+
+  flip(bit) {
+    if (!bit) return;
+    this.switches ^= Number(bit);
+    this.showSwitches();
+    byId('try-part').querySelector(`[data-bit="${bit}"]`)?.focus();
+  }
+
+  /** A signal's letter flips its switch while one is at the switches. */
+  keyed(event) {
+    if (event.ctrlKey || event.metaKey || event.altKey || /^(TEXTAREA|INPUT|SELECT)$/.test(event.target.tagName)) return;
+    const signal = this.named?.signals.find(({ tag }) => tag === event.key.toUpperCase());
+    if (signal && event.key.length === 1) {
+      this.switches ^= signal.bit;
+      this.showSwitches(event.target.dataset?.bit);
+    }
+  }
+
+  change(changes) {
+    Object.assign(this.desk, changes);
+    this.changed();
+  }
+
+  clauseClicked(button) {
+    if (!button) return;
+    const { clauses } = this.desk;
+    if (button.dataset.clause) this.desk.open = Number(button.dataset.clause);
+    if (button.dataset.add) this.desk.open = clauses.push(this.newClause()) - 1;
+    if (button.dataset.remove) {
+      this.putAside();
+      clauses.splice(this.desk.open, 1);
+      this.desk.open = Math.max(0, this.desk.open - 1);
+    }
+    this.drawn = 'all';
+    this.showDesk();
+    this.changed();
+    byId('clauses').querySelector('[aria-pressed=true]')?.focus();
+  }
+
+  /** A new clause begins with the signals of the first: all clauses of a join have the same. */
+  newClause() {
+    const [first] = this.desk.clauses;
+    const lines = first.split('\n').filter((line) => /^\s*(input|output)\b/.test(line));
+    return `# One more clause\n${lines.map((line) => `${line}\n`).join('')}location all\n\nat all\n  any -> all\n`;
+  }
+
+  // Reading the text.
+
+  /** What the library says of a text. What was asked once is kept. */
+  read(text) {
+    if (!this.texts.has(text)) {
+      if (this.texts.size > 200) this.texts.clear();
+      const bytes = encoder.encode(text);
+      const read = readText(this.library, bytes);
+      this.texts.set(text, read.refusal ? read : { ...read, named: namedClause(this.library, bytes, read.file) });
+    }
+    return this.texts.get(text);
+  }
+
+  /** The desk was changed: everything is asked anew. */
+  changed() {
+    this.keep();
+    this.showClausesRead();
+    this.prepare();
+  }
+
+  showClausesRead() {
+    this.reads = this.desk.clauses.map((text) => this.read(text));
+    this.showClauses();
+    const { refusal, line } = this.reads[this.desk.open];
+    const words = refusal ? refusalSentence(refusal) : '';
+    this.text.mark(refusal && line ? { line, words } : null, 'wrong');
+    byId('wrong').textContent = refusal ? `${line ? `Line ${line}: ` : ''}${words}.` : '';
+  }
+
+  showClauses() {
+    const { clauses, open, cleaning } = this.desk;
+    const several = clauses.length > 1;
+    const tab = (text, i) => `<button type="button" data-clause="${i}" aria-pressed="${i === open}" class="${this.reads?.[i]?.refusal ? 'refused' : ''}">${i + 1}. ${escaped(titleOf(text, i))}${this.reads?.[i]?.refusal ? ' (refused)' : ''}</button>`;
+    const tools = `<button type="button" data-add="1">${several ? 'Add a clause' : 'Join a clause'}</button>${several ? '<button type="button" data-remove="1">Remove this one</button>' : ''}`;
+    const clean = several ? `<label><input type="checkbox" ${cleaning ? 'checked' : ''}> clean in between</label>` : '';
+    const html = `${several ? clauses.map(tab).join('') : ''}${tools}${clean}`;
+    if (byId('clauses').dataset.shown !== html) {
+      byId('clauses').innerHTML = html;
+      byId('clauses').dataset.shown = html;
+    }
+    this.text.label(several ? `Clause ${open + 1} of ${clauses.length}, as text` : 'The policy as text');
+  }
+
+  // Preparing, in the worker.
+
+  async prepare() {
+    const turn = ++this.turn;
+    const refused = this.reads.findIndex(({ refusal }) => refusal);
+    if (refused >= 0) {
+      this.policies = null;
+      this.workshop.stop();
+      this.showNotRead(refused);
+      return;
+    }
+    const files = this.reads.map(({ file }) => file);
+    this.workshop.stop();
+    this.working = files.map((file) => check(this.library, file).states);
+    const answers = await this.workshop.send('prepare', { files, cleaning: this.desk.cleaning });
+    if (turn !== this.turn) return;
+    this.policies = answers;
+    this.clauses = this.reads.map(({ named }) => named);
+    this.names = answers.map((answer) => (answer.refusal ? null : files.length === 1 ? this.clauses[0] : namedJoin(this.clauses, answer.file, answer.places)));
+    this.working = null;
+    this.showPrepared();
+    this.play();
+  }
+
+  /** Called when a question takes long enough to be noticed. */
+  noticed(ask) {
+    const states = Math.max(...(this.working ?? [0]));
+    const words = ask === 'prepare' ? `Preparing ${states > 1 ? plural(states, 'state') : 'the policy'} …` : ask === 'reasons' ? null : 'Working …';
+    if (words) byId('verdict').innerHTML = `<div class="verdict"><span class="lamp works"></span><span>${words} You can go on typing.</span></div>`;
+    this.wasNoticed = Boolean(words);
+  }
+
+  /** A text that gives no file: what was last drawn stays no longer. */
+  showNotRead(clause) {
+    const where = this.desk.clauses.length > 1 ? `Clause ${clause + 1} is not read yet.` : 'The text is not read yet.';
+    byId('verdict').innerHTML = clause === this.desk.open ? '' : `<div class="verdict"><span class="lamp none"></span><span>${where}</span></div>`;
+    this.named = null;
+    this.tried = null;
+    byId('drawing').innerHTML = '<p class="none">The automaton is drawn when the text is right.</p>';
+    byId('now').textContent = '';
+    for (const id of ['waves', 'table', 'last', 'inputs', 'outputs']) byId(id).innerHTML = '';
+    byId('last').innerHTML = '<p class="none">The policy can be tried when its text is right.</p>';
+    byId('window').hidden = true;
+    byId('meter').hidden = true;
+    this.showButtons();
+  }
+
+  /** The reading that is drawn, tried and saved; 1 where both are shown. */
+  get primary() {
+    return this.desk.reading === '2' ? 2 : 1;
+  }
+
+  get shownReadings() {
+    return this.desk.reading === 'both' ? [1, 2] : [this.primary];
+  }
+
+  get policy() {
+    return this.policies?.[READING[this.primary]];
+  }
+
+  showPrepared() {
+    this.named = this.names[READING[this.primary]];
+    byId('verdict').innerHTML = this.verdicts();
+    this.showWhole();
+    this.showDrawn();
+    this.showSwitches();
+  }
+
+  verdicts() {
+    const said = this.policies.map((policy) => this.verdictOf(policy));
+    if (said[0] === said[1]) return `<div>${said[0]}</div>`;
+    return said.map((html, i) => `<div>${html.replace('<span class="what">', `<span class="what"><b>Reading ${i + 1}.</b> `)}</div>`).join('');
+  }
+
+  verdictOf(policy) {
+    const line = (lamp, words) => `<div class="verdict"><span class="lamp ${lamp}"></span><span><span class="what">${words}</span></span></div>`;
+    if (policy.refusal) {
+      const over = policy.over.map(([count, most, what]) => `${amount(count)} ${what}, and ${amount(most)} is the most`).join('; ');
+      return line('none', `Clause ${policy.clause + 1} cannot be joined to those before it: ${escaped(refusalSentence(policy.refusal))}${over ? `: ${over}` : ''}.`);
+    }
+    const { summary } = policy;
+    const lamp = summary.refusal ? 'none' : summary.verdict ? 'some' : '';
+    const verdict = summary.refusal ? `Refused ${summary.refusal}.` : `Verdict ${summary.verdict}.`;
+    return line(lamp, `<b>${verdict}</b> ${escaped(verdictWords(summary))}${this.struckWords(policy)}`);
+  }
+
+  /** What no permitted stream enters or uses, with names and lines. */
+  struckWords({ struck }) {
+    const [named] = this.clauses;
+    if (this.clauses.length > 1 || struck.length === 0) return '';
+    const places = struck.filter(({ kind }) => kind === 1).map(({ number }) => named.locations[number]);
+    const rules = struck.filter(({ kind }) => kind === 3).map(({ number }) => named.lineOf(number));
+    const parts = [];
+    if (places.length) parts.push(`never entered: ${escaped(places.join(', '))}`);
+    if (rules.length) parts.push(`rules that decide no event: ${rules.length === 1 ? 'line' : 'lines'} ${rules.join(', ')}`);
+    return parts.length ? `<br><span class="soft">${parts.join('; ')}.</span>` : '';
+  }
+
+  /** The policy as one text, written by the library. */
+  showWhole() {
+    const { policy } = this;
+    byId('whole').hidden = !policy || Boolean(policy.refusal);
+    if (byId('whole').hidden || !byId('whole').open) return;
+    const { text } = writeText(this.library, policy.file);
+    const { parts } = this.named;
+    const counts = [plural(parts.mustBeLeft.length, 'location'), plural(parts.ceilings.length, 'clock'), plural(parts.rules.length, 'rule'), plural(policy.file.length, 'byte')];
+    const joined = this.clauses.length > 1 ? `${plural(this.clauses.length, 'clause')} joined${this.desk.cleaning ? `, and cleaned in between for reading ${this.primary}` : ''}: ` : '';
+    byId('whole-shown').innerHTML = `<p>${joined}${counts.join(', ')}.</p><pre tabindex="0" aria-label="The whole policy as text">${escaped(new TextDecoder().decode(text))}</pre><button type="button">Make this my text</button>`;
+  }
+
+  takeWhole() {
+    const { text } = writeText(this.library, this.policy.file);
+    this.take({ ...this.desk, clauses: [new TextDecoder().decode(text)], open: 0 }, 'This is the whole policy as one text. Names and comments are not in a file.');
+  }
+
+  // The drawing.
+
+  showDrawn() {
+    const several = this.clauses.length > 1;
+    const choice = (value, words) => `<button type="button" data-drawn="${value}" aria-pressed="${String(this.drawn) === String(value)}">${words}</button>`;
+    byId('drawn').innerHTML = several ? `${choice('all', 'All joined')}${this.clauses.map((_, i) => choice(i, `Clause ${i + 1}`)).join('')}` : '';
+    this.showDrawing();
+  }
+
+  draw(what) {
+    if (what === undefined) return;
+    this.drawn = what === 'all' ? 'all' : Number(what);
+    this.showDrawn();
+    byId('drawn').querySelector('[aria-pressed=true]').focus();
+  }
+
+  /** The names, the marks and the states of what is drawn: the whole policy, or one clause of it. */
+  get drawnPart() {
+    const { policy, drawn } = this;
+    const record = this.tried?.[READING[this.primary]];
+    if (drawn === 'all' || this.clauses.length === 1) {
+      if (!this.named) return null;
+      return { named: this.named, told: policy, states: record?.states };
+    }
+    const told = policy.refusal ? { live: this.clauses[drawn].locations.map(() => 1), struck: [] } : policy.clauses[drawn];
+    return { named: this.clauses[drawn], told, states: record?.clauseStates[drawn] };
+  }
+
+  showDrawing() {
+    const part = this.drawnPart;
+    if (!part) {
+      byId('drawing').innerHTML = '<p class="none">The clauses are not joined. Choose one of them to see it drawn.</p>';
+      byId('now').textContent = '';
+      return;
+    }
+    const { named, told, states } = part;
+    const tick = this.chosen ?? (this.record?.done ?? 0) - 1;
+    const now = states ? { location: tick < 0 ? 0 : states[tick * STATE_NUMBERS], rule: this.litRule } : null;
+    const statesEach = drawingStatesEach(named.parts);
+    byId('drawing').innerHTML = drawing(named, { ...told, live: told.live ?? [], statesEach }, now, byId('drawing').clientWidth || 600);
+    byId('now').innerHTML = now ? `${tick < 0 ? 'At the start' : `After tick ${amount(tick + 1)}`}: ${stateShown(named, tick < 0 ? new Uint16Array(STATE_NUMBERS) : states, Math.max(tick, 0))}` : '';
+  }
+
+  // Trying it.
+
+  get record() {
+    return this.tried?.[READING[this.primary]];
+  }
+
+  async play() {
+    const turn = ++this.turn;
+    if (!this.named || this.policy.summary.refusal === HOPELESS) {
+      this.tried = null;
+      this.showEventsRead(this.named ? readEvents(this.desk.events, this.named.signals) : null);
+      this.showTried();
+      return;
+    }
+    const events = readEvents(this.desk.events, this.named.signals);
+    this.showEventsRead(events);
+    const records = await this.workshop.send('run', { events: events.events, registers: events.registers, first: events.first });
+    if (turn !== this.turn) return;
+    this.tried = records;
+    this.registers = events.registers;
+    if (this.wasNoticed) byId('verdict').innerHTML = this.verdicts();
+    this.showTried();
+    const reasons = await this.workshop.send('reasons');
+    if (turn !== this.turn) return;
+    reasons.forEach((told, i) => told && Object.assign(records[i], { reasons: told.reasons, objections: told.objections }));
+    this.showTried();
+  }
+
+  showEventsRead(events) {
+    const wrong = events?.wrong ?? null;
+    this.eventsText.mark(wrong, 'events-wrong');
+    byId('events-wrong').textContent = wrong ? `Line ${wrong.line}: ${wrong.words}.` : '';
+  }
+
+  choose(tick) {
+    this.chosen = this.chosen === tick ? null : tick;
+    this.showTried();
+    byId('table').querySelector(`[data-tick="${tick}"]`)?.focus();
+  }
+
+  /** The rule that the reason of the chosen tick, or of the last, names. */
+  findLit() {
+    this.litRule = null;
+    const { record } = this;
+    const tick = this.chosen ?? (record?.done ?? 0) - 1;
+    if (record?.reasons && tick >= 0 && this.clauses.length === 1) {
+      const told = reasonsInWords(this.named, reasonsOf(record.reasons[tick]));
+      this.litRule = told.map(({ rule }) => rule).find((rule) => rule !== null) ?? null;
+    }
+    this.text.light(this.litRule === null ? [] : [this.named.lineOf(this.litRule)]);
+  }
+
+  showTried() {
+    if (!this.policies) return;
+    this.findLit();
+    this.showDrawing();
+    this.showSwitches();
+    this.showButtons();
+    const shown = this.shownReadings.map((reading) => ({ reading, record: this.tried?.[READING[reading]], named: this.names[READING[reading]] })).filter(({ record }) => record);
+    if (shown.length === 0) {
+      for (const id of ['waves', 'table']) byId(id).innerHTML = '<p class="none">There is nothing to try: the policy is refused.</p>';
+      byId('last').innerHTML = `<p class="none">${this.named ? 'A hopeless policy has nothing to release: no stream is permitted that goes on for ever.' : 'The clauses are not joined.'}</p>`;
+      byId('window').hidden = true;
+      byId('meter').hidden = true;
+      return;
+    }
+    this.shown = shown;
+    this.showWaves(this.from);
+    this.table.show({ records: shown.map(({ reading, record, named }) => ({ reading, named, ...record })), clauses: this.clauses, chosen: this.chosen });
+    this.showLast();
+    this.showMeter();
+  }
+
+  showButtons() {
+    const ready = Boolean(this.tried?.[READING[this.primary]]);
+    for (const id of ['tick', 'ticks']) byId(id).disabled = !ready;
+    byId('undo').disabled = byId('restart').disabled = this.desk.events === '';
+    byId('save-wave').disabled = !ready;
+    byId('save-file').disabled = !this.policy || Boolean(this.policy.refusal);
+  }
+
+  showSwitches(focus) {
+    if (!this.named) return;
+    const metered = Boolean(this.registers && this.tried);
+    const all = this.named.signals.reduce((bits, { bit }) => bits | bit, 0);
+    this.switches &= all;
+    for (const [id, input] of [['inputs', true], ['outputs', false]]) {
+      const signals = this.named.signals.filter((signal) => signal.input === input);
+      const html = signals.map(({ bit, name, tag }) => {
+        const byMeter = metered && input && tag === 'P';
+        return `<button type="button" class="switch" role="switch" data-bit="${bit}" aria-checked="${Boolean(this.switches & bit)}" ${byMeter ? 'disabled title="The meter sets it"' : ''}><i></i>${escaped(name)}${name === tag ? '' : ` <kbd>${tag}</kbd>`}</button>`;
+      }).join('');
+      byId(id).innerHTML = html || '<span class="none">none</span>';
+    }
+    if (focus) byId('try-part').querySelector(`[data-bit="${focus}"]`)?.focus();
+  }
+
+  /** What became of the last tick, or of the one chosen, in sentences. */
+  showLast() {
+    const [{ record }] = this.shown;
+    const tick = this.chosen ?? record.done - 1;
+    if (tick < 0) {
+      byId('last').innerHTML = '<p class="none">Set the switches as the field and the controller would, and press One tick.</p>';
+      return;
+    }
+    const lines = this.shown.map(({ reading, record: one, named }) => this.lastOf(reading, one, named, tick));
+    byId('last').innerHTML = `<p><b>Tick ${amount(tick + 1)}.</b> Read ${eventShown(this.named, record.read[tick])}.</p>${lines.join('')}`;
+  }
+
+  lastOf(reading, record, named, tick) {
+    const lead = this.shown.length > 1 ? `<b>Reading ${reading}.</b> ` : '';
+    if (tick >= record.done) return `<p>${lead}Refused ${record.refusal}: ${escaped(refusalWords(record.refusal))}.</p>`;
+    const [read, released] = [record.read[tick], record.released[tick]];
+    const refused = record.refusal && tick === record.done - 1 ? `<p class="wrong">The next tick is refused ${record.refusal}: ${escaped(refusalWords(record.refusal))}.</p>` : '';
+    if (read === released) return `<p>${lead}Released as read.</p>${refused}`;
+    const reasons = record.reasons ? reasonSentences(named, record.reasons[tick], read, released).join(' ') : 'Looking for the reason …';
+    const clauses = this.clauses.length > 1 && record.objections ? objectionSentences(this.clauses, record.objections.get(tick)) : [];
+    return `<p>${lead}Released ${signalsShown(named, read, released)}. ${escaped(reasons)}</p>${clauses.length ? `<ul>${clauses.map((words) => `<li>${escaped(words)}</li>`).join('')}</ul>` : ''}${refused}`;
+  }
+
+  showWaves(from) {
+    const [{ record }] = this.shown;
+    const { done } = record;
+    const fit = Math.min(done, ticksThatFit(byId('waves').clientWidth || 600));
+    const last = Math.max(0, done - fit);
+    let begin = from === null || from > last ? last : Math.max(0, from);
+    if (this.chosen !== null && (this.chosen < begin || this.chosen >= begin + fit)) begin = Math.min(last, Math.max(0, this.chosen - Math.floor(fit / 2)));
+    this.from = begin === last ? null : begin;
+    byId('window').hidden = last === 0;
+    byId('from').max = last + 1;
+    byId('from').value = begin + 1;
+    byId('from-said').textContent = `${amount(begin + 1)} to ${amount(begin + fit)} of ${amount(done)}`;
+    const both = this.shown.length > 1;
+    const traces = this.shown.map(({ reading, record: one }) => ({ label: both ? `reading ${reading}` : 'released', events: one.released.subarray(0, one.done) }));
+    byId('waves').innerHTML = done === 0 ? '<p class="none">No tick yet.</p>'
+      : this.named.signals.length === 0 ? '<p class="none">The policy has no signals.</p>' : waves(this.named, record.read, traces, begin, begin + fit, this.chosen);
+  }
+
+  /** The meter of a policy with an input P and an output D: shown where the events name its register, or could. */
+  showMeter() {
+    const [{ record }] = this.shown;
+    const tags = this.named.signals.map(({ tag, input }) => tag + input);
+    const has = tags.includes('Ptrue') && tags.includes('Dfalse');
+    byId('meter').hidden = !has && !this.registers;
+    if (byId('meter').hidden) return;
+    const pulses = byId('pulses')?.value ?? '0';
+    const tick = Math.min(this.chosen ?? record.done - 1, record.done - 1);
+    const totals = tick < 0 ? [0, 0] : record.totals.subarray(tick * 2, tick * 2 + 2);
+    const facts = this.registers && tick >= 0
+      ? [['Register', amount(this.registers[tick])], ['Billed', amount(totals[0])], ['Not billed', amount(totals[1])], ['All pulses', amount(totals[0] + totals[1])]]
+      : [];
+    const list = facts.length ? `<dl>${facts.map(([name, value]) => `<div><dt>${name}</dt><dd>${value}</dd></div>`).join('')}</dl>` : '';
+    const kept = document.activeElement?.id === 'pulses';
+    byId('meter').innerHTML = `<label>Meter: pulses in the next tick <input type="number" id="pulses" min="0" max="65535" value="${escaped(pulses)}"></label> <span class="soft">As text <code>@+5</code> advances the register, <code>@4</code> names it; it has 16 bits and rolls over.</span>${list}`;
+    if (kept) byId('pulses').focus();
+  }
+
+  // Keeping, opening, saving.
+
+  say(words) {
+    byId('said').textContent = words;
+  }
+
+  keep() {
+    if (!this.keeper.keep(this.desk)) this.say('This browser keeps nothing for this page: save your text before you leave.');
+    clearTimeout(this.later);
+    this.later = setTimeout(() => this.putAddress(), ADDRESS_REST);
+  }
+
+  async putAddress() {
+    const address = await addressOf(this.desk);
+    if (address !== location.hash) history.replaceState(null, '', address);
+    this.keeper.keep(this.desk);
+  }
+
+  /** What is here goes aside, unless it is a sample as it was given. */
+  putAside() {
+    const same = SAMPLES.some(({ clauses, events }) => clauses.join('\0') === this.desk.clauses.join('\0') && events === this.desk.events);
+    if (!same && this.desk.clauses.some((text) => text.trim())) this.keeper.putAside(this.desk);
+  }
+
+  /** Another desk takes the place of this one. */
+  take(desk, words) {
+    this.putAside();
+    this.desk = deskFrom(desk);
+    this.chosen = null;
+    this.from = null;
+    this.switches = 0;
+    this.drawn = 'all';
+    this.showDesk();
+    this.changed();
+    this.say(words);
+  }
+
+  takeSample(number) {
+    const { name, clauses, events, reading } = SAMPLES[number];
+    this.take({ title: name, clauses: [...clauses], open: 0, events, reading, cleaning: true }, `This is the sample “${name}”.`);
+    byId('sample').selectedIndex = 0;
+  }
+
+  bringBack() {
+    const before = this.keeper.aside;
+    if (!before) return;
+    this.keeper.forgetAside();
+    this.take(before, 'This is what was here before.');
+  }
+
+  showDesk() {
+    this.text.text = this.desk.clauses[this.desk.open];
+    this.eventsText.text = this.desk.events;
+    document.querySelector(`[name=reading][value="${this.desk.reading}"]`).checked = true;
+    byId('back').hidden = !this.keeper.aside;
+  }
+
+  /** A link that is opened, or pasted over the address of this page. */
+  async followAddress() {
+    if (location.hash === this.keeper.kept?.address) return;
+    try {
+      const desk = await deskOfAddress(location.hash);
+      if (desk) this.take(desk, 'This policy came with the link.');
+    } catch {
+      this.say('The link is damaged: it carries no policy. What was here stays.');
+    }
+  }
+
+  async begin() {
+    const kept = this.keeper.kept;
+    if (kept) this.desk = deskFrom(kept.desk);
+    else {
+      const [{ name, clauses, events, reading }] = SAMPLES;
+      this.desk = deskFrom({ title: name, clauses: [...clauses], events, reading });
+    }
+    this.showDesk();
+    if (location.hash.length > 1 && location.hash !== kept?.address) {
+      await this.followAddress();
+      if (this.policies === undefined) this.changed();
+    } else this.changed();
+  }
+
+  async openFile(file) {
+    byId('file').value = '';
+    if (!file) return;
+    const bytes = new Uint8Array(await file.arrayBuffer());
+    const open = { file: () => this.openPolicy(bytes), wave: () => this.openWave(bytes), events: () => this.setEvents(new TextDecoder().decode(bytes)) };
+    const kind = kindOfFile(bytes, file.name);
+    const asText = () => this.take({ ...this.desk, clauses: [new TextDecoder().decode(bytes)], open: 0 }, `${file.name} was opened.`);
+    if (kind === 'text') asText();
+    else if (open[kind]() !== false) this.say(`${file.name} was opened.`);
+  }
+
+  openPolicy(bytes) {
+    const { refusal, text } = writeText(this.library, bytes);
+    if (refusal) {
+      this.say(`That is no policy file: ${refusalSentence(refusal)}.`);
+      return false;
+    }
+    this.take({ ...this.desk, clauses: [new TextDecoder().decode(text)], open: 0 }, '');
+    return true;
+  }
+
+  /** A wave is a released stream of this policy's signals: it becomes the events. */
+  openWave(bytes) {
+    if (!this.policy || this.policy.refusal) {
+      this.say('A wave is read with the signals of a policy: open its policy first.');
+      return false;
+    }
+    const { refusal, events } = readWave(this.library, this.policy.file, bytes);
+    if (refusal) {
+      this.say(`That wave is not read: ${refusalSentence(refusal)}.`);
+      return false;
+    }
+    this.setEvents(eventsText(events, this.named.signals));
+    return true;
+  }
+
+  saveText() {
+    save('policy.txt', encoder.encode(this.desk.clauses.join('\n')), 'text/plain');
+    this.say('policy.txt was saved.');
+  }
+
+  saveFile() {
+    if (!this.policy || this.policy.refusal) return;
+    save('station.policy', this.policy.file, 'application/octet-stream');
+    this.say(`station.policy was saved: ${plural(this.policy.file.length, 'byte')}.`);
+  }
+
+  saveWave() {
+    const { record } = this;
+    if (!record) return;
+    const { refusal, text } = writeWave(this.library, this.policy.file, record.released.subarray(0, record.done));
+    if (refusal) {
+      this.say(`No wave was saved: ${refusalSentence(refusal)}. There are ${plural(record.done, 'tick')}.`);
+      return;
+    }
+    save('station.vcd', text, 'text/plain');
+    this.say(`station.vcd was saved: ${plural(record.done, 'tick')} as released under reading ${this.primary}.`);
+  }
+
+  async copyLink() {
+    await this.putAddress();
+    try {
+      await navigator.clipboard.writeText(location.href);
+      this.say('The link is in the clipboard. It carries the policy and the events.');
+    } catch {
+      this.say('The link stands in the address of this page: copy it from there. It carries the policy and the events.');
+    }
+  }
+}
+
+export async function openPage() {
+  const wasm = await wasmOf(WASM);
+  const library = await Library.open(wasm);
+  const program = URL.createObjectURL(new Blob([byId('program').textContent], { type: 'text/javascript' }));
+  let page = null;
+  const workshop = new Workshop(program, wasm, (ask) => page?.noticed(ask));
+  page = new Page(library, workshop);
+  // For engineers who want to ask the library from the console, and for the tests.
+  window.groovepawn = { library, page, samples: SAMPLES };
+  await page.begin();
+}

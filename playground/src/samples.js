@@ -1,0 +1,281 @@
+// Samples: the five of the scope, a transfer station, the pacemaker's policies, clauses that are joined, and the commonest patterns.
+
+const station = `# A transfer station. A card, then a credit within 30 s (300 ticks
+# of 100 ms); then water is delivered. A stale credit never passes.
+input  A card          # a card is accepted
+input  K credit        # a credit pulse from the card reader
+input  P pulse         # set by the meter: pulses in this tick
+output D delivery      # the valve; what flows while it is on is billed
+clock  age 301         # ticks since the card
+location idle
+location armed
+location transfer must be left   # begun, so it can be ended
+
+at idle
+  credit              -> violation
+  delivery            -> violation
+  card                -> armed reset age
+  any                 -> idle
+at armed
+  delivery            -> violation
+  credit age <= 300   -> transfer
+  credit age >= 301   -> violation
+  card                -> armed reset age
+  age >= 301          -> idle
+  any                 -> armed
+at transfer
+  credit age >= 301   -> violation
+  delivery            -> transfer
+  any                 -> idle
+`;
+
+const stationEvents = `@65500           # the meter's register at first
+card
+- * 3
+credit
+delivery @+6 * 5
+delivery @4      # 65530, then 4: it rolled over, 10 pulses
+delivery @+5 * 300
+credit delivery @+5   # a stale credit: the card is too old
+delivery @+5 * 2
+- @+3            # the valve is shut, three pulses run on
+delivery         # no card, no credit
+`;
+
+const S = `# S: never A with B, never B with R
+input  A
+input  B
+output R
+location all
+
+at all
+  A B -> violation
+  B R -> violation
+  any -> all
+`;
+
+const D = `# D: after R, C at latest on the fourth tick
+input  R request
+output C answer
+clock  age 3
+location quiet
+location due
+
+at quiet
+  request         -> due reset age
+  any             -> quiet reset age
+at due
+  answer          -> quiet reset age
+  !answer age <= 2 -> due
+`;
+
+const T = `# T: after A nothing is permitted any more, so A never passes
+input  A
+output B
+location open
+location shut
+
+at open
+  A   -> shut
+  any -> open
+`;
+
+const K = `# K: credit K only while the clock is at most 2
+output K credit
+clock  age 3
+location all
+
+at all
+  credit age >= 3 -> violation
+  any             -> all
+`;
+
+const N = `# N: no rule at all. Nothing is permitted: the policy is hopeless
+location all
+`;
+
+const heart = `input  A as   # atrium, sensed
+input  V vs   # ventricle, sensed
+output P ap   # atrium, paced
+output Q vp   # ventricle, paced
+`;
+
+const pacemaker = [
+  `# P1: ap and vp never at once
+${heart}location all
+
+at all
+  ap vp -> violation
+  any   -> all
+`,
+  `# P2: vs or vp within AVI after an atrial event (AVI: 2 ticks of 100 ms)
+${heart}clock avi 2
+location rest
+location wait
+
+at rest
+  !as !ap  -> rest
+  any      -> wait reset avi
+at wait
+  vs       -> rest
+  vp       -> rest
+  avi <= 1 -> wait
+`,
+  `# P3: as or ap within AEI after a ventricular event (AEI: 8 ticks)
+${heart}clock aei 8
+location rest
+location wait
+
+at rest
+  !vs !vp  -> rest
+  any      -> wait reset aei
+at wait
+  as       -> rest
+  ap       -> rest
+  aei <= 7 -> wait
+`,
+  `# P4: after a ventricular event another one only after URI (4 ticks)
+${heart}clock uri 4
+location first
+location later
+
+at first
+  !vs !vp  -> first
+  any      -> later reset uri
+at later
+  !vs !vp  -> later
+  uri >= 4 -> later reset uri
+`,
+  `# P5: after a ventricular event another one within LRI (10 ticks)
+${heart}clock lri 10
+location first
+location later
+
+at first
+  !vs !vp   -> first
+  any       -> later reset lri
+at later
+  vs        -> later reset lri
+  vp        -> later reset lri
+  lri <= 9  -> later
+`,
+];
+
+const signals = `input  C credit
+input  S stop
+input  A arm
+output V valve
+output L alarm
+`;
+
+const clauses = [
+  `# Never the valve while stop is on, never without the arm
+${signals}location all
+
+at all
+  stop valve -> violation
+  valve !arm -> violation
+  any        -> all
+`,
+  `# The alarm within 3 ticks after a stop
+${signals}clock age 2
+location quiet
+location due
+
+at quiet
+  stop !alarm -> due reset age
+  any         -> quiet
+at due
+  alarm       -> quiet
+  age <= 1    -> due
+`,
+  `# The valve only within 5 ticks after a credit
+${signals}clock since 5
+location none
+location credited
+
+at none
+  valve            -> violation
+  credit           -> credited reset since
+  any              -> none
+at credited
+  valve since >= 5 -> violation
+  credit           -> credited reset since
+  any              -> credited
+`,
+];
+
+const leak = `# "No pulses while the valve is shut": the obvious rule opens the valve.
+# The input is decided first, and stands if some output saves it.
+input  P pulse
+output V valve
+location all
+
+at all
+  pulse !valve -> violation
+  any          -> all
+`;
+
+const jammed = `# What is begun can be ended; but here is a slip. Turning the key while the
+# valve is open leads to a location without a way out.
+input  K key
+output V valve
+location shut
+location open must be left
+location jammed must be left
+location spare
+
+at shut
+  valve -> open
+  any   -> shut
+at open
+  key   -> jammed
+  valve -> open
+  any   -> shut
+at jammed
+  any   -> jammed
+`;
+
+const hammer = `# Once open, the valve stays open for 3 ticks, unless stopped
+input  S stop
+output V valve
+clock  held 2
+location shut
+location open
+
+at shut
+  stop valve -> violation
+  valve      -> open reset held
+  any        -> shut
+at open
+  stop valve -> violation
+  stop       -> shut          # before the minimum, so that the stop wins
+  valve      -> open
+  held <= 1  -> violation
+  any        -> shut
+`;
+
+/** As many states as there may be: 64 locations and two clocks of 32 values each. */
+function largest() {
+  const names = Array.from({ length: 64 }, (_, i) => `l${i}`);
+  const rules = names.map((name, i) => `at ${name}\n  A t <= 30 -> ${names[(i + 1) % 64]} reset t\n  !A u <= 30 -> ${names[(i + 7) % 64]} reset u\n  B -> l0 reset t u\n`);
+  return `# The largest: 64 locations, two clocks, 65,536 states\ninput A\noutput B\nclock t 31\nclock u 31\n${names.map((name) => `location ${name}\n`).join('')}\n${rules.join('')}`;
+}
+
+const one = (group, name, text, events, reading = '1') => ({ group, name, clauses: [text], events, reading });
+
+export const SAMPLES = [
+  one('A station', 'Transfer station with a meter', station, stationEvents),
+  one('A station', 'Valve that stays open for 3 ticks', hammer, 'valve\n- * 3\nvalve\nstop valve\nvalve * 2\n- * 2\n', 'both'),
+  one('A station', 'The rule that opens the valve', leak, '-\npulse\nvalve\npulse valve\npulse\n-\n'),
+  one('A station', 'A slip: no way out', jammed, 'valve\nkey valve\nvalve\nkey\n-\nkey\n'),
+  { group: 'Joined', name: 'Three clauses, joined', clauses, events: 'credit arm\nvalve arm\nstop valve arm\n- * 4\nvalve arm\ncredit arm\nvalve\n', reading: '1' },
+  { group: 'Joined', name: 'Pacemaker, P1 to P3', clauses: pacemaker.slice(0, 3), events: '-\nas\n- * 2\nap vp\n- * 9\nas\nvs\n- * 12\n', reading: '1' },
+  { group: 'Joined', name: 'Pacemaker, P1 to P5', clauses: pacemaker, events: '-\nas\n- * 2\nap vp\n- * 9\nas\nvs\nvs\n- * 12\n', reading: '1' },
+  one('Of the scope', 'S: never A with B, never B with R', S, 'A B\nB R\nA B R\nA R\n'),
+  one('Of the scope', 'D: an answer in time', D, 'request\n- * 4\n', 'both'),
+  one('Of the scope', 'T: a permitted event without a future', T, 'A\nA B\n'),
+  one('Of the scope', 'K: a credit that grows old', K, '- * 3\ncredit\n- * 65537\ncredit\n'),
+  one('Of the scope', 'N: hopeless', N, ''),
+  one('Of the scope', 'The largest: 65,536 states', largest(), 'A\n- * 40\nA B\n'),
+];

@@ -1,0 +1,138 @@
+// The ticks as a table: what was read, what was released, where that leads, and why. Equal ticks in a row are one row.
+import { STATE_NUMBERS, reasonsOf } from './calls.js';
+import { escaped } from './editor.js';
+import { amount, changesOf, plural, reasonsInWords } from './sentences.js';
+
+const ROWS = 40;
+
+/** The signals of an event as released, with what was put on and what was taken off. */
+export function signalsShown(named, read, released) {
+  const shown = named.signals.flatMap(({ bit, name }) => {
+    if (released & bit) return [read & bit ? `<span>${escaped(name)}</span>` : `<ins title="put on by the enforcer">${escaped(name)}</ins>`];
+    return read & bit ? [`<del title="taken off by the enforcer">${escaped(name)}</del>`] : [];
+  });
+  const none = released === 0 ? '<span class="none">–</span>' : '';
+  return [none, ...shown].filter(Boolean).join(' ');
+}
+
+export const eventShown = (named, event) => signalsShown(named, event, event);
+
+/** A state in words: its location, and its clocks. */
+export function stateShown(named, states, tick) {
+  const at = tick * STATE_NUMBERS;
+  const clocks = named.clocks.map((name, clock) => `${name} ${states[at + 1 + clock]}`);
+  return `<b>${escaped(named.locations[states[at]] ?? '')}</b>${clocks.length ? ` <span class="clocks">${escaped(clocks.join(', '))}</span>` : ''}`;
+}
+
+const capital = (words) => words[0].toUpperCase() + words.slice(1);
+
+/** The reasons of one edited tick as sentences. */
+export function reasonSentences(named, reasons, read, released) {
+  return reasonsInWords(named, reasonsOf(reasons)).map(({ half, words }) => `${capital(half)} changed, ${changesOf(named, half, read, released)}: ${words}.`);
+}
+
+/** What each clause says of the event as read, in its own names. */
+export function objectionSentences(clauses, answers) {
+  if (!answers) return [];
+  const told = answers.flatMap((answer, i) => reasonsInWords(clauses[i], reasonsOf(answer)).map(({ half, words }) => `Clause ${i + 1} objects to the ${half}: ${words}.`));
+  return told.length ? told : ['No clause alone objects to the event as read: they object only together.'];
+}
+
+/** Ticks in a row that are alike in all that is shown, as one. */
+export function groupsOf(records, onlyEdited) {
+  const [first] = records;
+  const groups = [];
+  let last = null;
+  for (let tick = 0; tick < first.done; tick++) {
+    const edited = records.some(({ read, released }) => read[tick] !== released[tick]);
+    if (onlyEdited && !edited) {
+      last = null;
+      continue;
+    }
+    const key = records.map(({ read, released, states, reasons }) => `${read[tick]} ${released[tick]} ${states[tick * STATE_NUMBERS]} ${reasons?.[tick] ?? ''}`).join();
+    if (last && last.key === key) last.to = tick;
+    else groups.push((last = { key, from: tick, to: tick, edited }));
+  }
+  return groups;
+}
+
+export class TickTable {
+  constructor(root, chosen) {
+    this.root = root;
+    this.chosen = chosen;
+    this.page = null;
+    root.addEventListener('click', (event) => {
+      const button = event.target.closest('button');
+      if (button?.dataset.tick) chosen(Number(button.dataset.tick));
+      if (button?.dataset.page) this.turn(button.dataset.page);
+    });
+    root.addEventListener('change', (event) => {
+      if (event.target.name !== 'edited') return;
+      this.onlyEdited = event.target.checked;
+      this.page = null;
+      this.show(this.shown);
+      root.querySelector('[name=edited]').focus();
+    });
+  }
+
+  turn(where) {
+    const last = Math.max(0, Math.ceil(this.groups.length / ROWS) - 1);
+    const now = Math.min(this.page ?? last, last);
+    this.page = { first: 0, earlier: Math.max(0, now - 1), later: Math.min(last, now + 1), last }[where];
+    if (this.page === last) this.page = null;
+    this.show(this.shown);
+    (this.root.querySelector(`[data-page=${where}]:not(:disabled)`) ?? this.root.querySelector('[data-page]:not(:disabled)'))?.focus();
+  }
+
+  /** `records` has for each reading shown its number, its record with reasons, and the names. */
+  show(shown) {
+    this.shown = shown;
+    const { records, clauses, chosen } = shown;
+    this.groups = groupsOf(records, this.onlyEdited);
+    const last = Math.max(0, Math.ceil(this.groups.length / ROWS) - 1);
+    const page = Math.min(this.page ?? last, last);
+    const rows = this.groups.slice(page * ROWS, (page + 1) * ROWS).map((group) => this.row(group, records, clauses, chosen));
+    const both = records.length > 1;
+    const head = ['Tick', 'Read', ...records.map(({ reading }) => (both ? `Released, reading ${reading}` : 'Released')), both ? 'Then, reading 1' : 'Then', 'Why'];
+    this.root.innerHTML = `${this.tools(records, last, page)}<div class="wide"><table role="table"><thead role="rowgroup"><tr role="row">${head.map((word) => `<th role="columnheader" scope="col">${word}</th>`).join('')}</tr></thead>
+      <tbody role="rowgroup">${rows.join('') || `<tr role="row"><td role="cell" colspan="${head.length}" class="none">${this.onlyEdited ? 'No tick was edited.' : 'No tick yet. Set the switches and press One tick.'}</td></tr>`}</tbody></table></div>`;
+  }
+
+  tools(records, last, page) {
+    const [{ done }] = records;
+    const edited = records.map(({ read, released, done: ticks }) => {
+      let count = 0;
+      for (let tick = 0; tick < ticks; tick++) count += read[tick] === released[tick] ? 0 : 1;
+      return count;
+    });
+    const words = `${plural(done, 'tick')}, ${edited.map((count, i) => `${amount(count)} edited${records.length > 1 ? ` under reading ${records[i].reading}` : ''}`).join(', ')}`;
+    const turn = (where, label, off) => `<button type="button" data-page="${where}" ${off ? 'disabled' : ''}>${label}</button>`;
+    const pages = last > 0 ? `<span class="pages">${turn('first', 'First', page === 0)}${turn('earlier', 'Earlier', page === 0)}<span>page ${page + 1} of ${last + 1}</span>${turn('later', 'Later', page === last)}${turn('last', 'Last', page === last)}</span>` : '';
+    return `<p class="tools"><span>${words}</span><label><input type="checkbox" name="edited" ${this.onlyEdited ? 'checked' : ''}> edited ticks only</label>${pages}</p>`;
+  }
+
+  row(group, records, clauses, chosen) {
+    const { from, to, edited } = group;
+    const [first] = records;
+    const label = from === to ? `${amount(from + 1)}` : `${amount(from + 1)} to ${amount(to + 1)}`;
+    const here = chosen !== null && chosen >= from && chosen <= to;
+    const cell = (name, html, kind = '') => `<td role="cell" data-name="${name}" class="${kind}">${html}</td>`;
+    const released = records.map(({ reading, named, read, released: out }) => cell(records.length > 1 ? `released, reading ${reading}` : 'released', signalsShown(named, read[from], out[from]), read[from] === out[from] ? '' : 'edited'));
+    return `<tr role="row" class="${edited ? 'edited' : ''}${here ? ' chosen' : ''}"><th role="rowheader" scope="row"><button type="button" data-tick="${to}" aria-pressed="${here}" title="Show this tick in the drawing and the waves">${label}</button></th>
+      ${cell('read', eventShown(first.named, first.read[from]))}${released.join('')}${cell('then', stateShown(first.named, first.states, to))}${cell('why', this.why(group, records, clauses), 'why')}</tr>`;
+  }
+
+  /** The sentences of a row, for each reading in which it was edited. */
+  why({ from, edited }, records, clauses) {
+    if (!edited) return '';
+    const told = records.flatMap(({ reading, named, read, released, reasons, objections }) => {
+      if (read[from] === released[from]) return [];
+      const lead = records.length > 1 ? `<b>Reading ${reading}.</b> ` : '';
+      if (!reasons) return [`<p>${lead}<span class="none">looking for the reason …</span></p>`];
+      const sentences = reasonSentences(named, reasons[from], read[from], released[from]);
+      const parts = clauses.length > 1 ? objectionSentences(clauses, objections?.get(from)) : [];
+      return [`<p>${lead}${escaped(sentences.join(' '))}</p>${parts.length ? `<ul>${parts.map((words) => `<li>${escaped(words)}</li>`).join('')}</ul>` : ''}`];
+    });
+    return told.join('');
+  }
+}
