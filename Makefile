@@ -26,8 +26,16 @@ dist:
 check:
 	tools/check-all.sh
 
+# The page on which policies are tried: one HTML file over the library, target/playground/groovepawn.html.
+playground:
+	playground/make.sh
+
+# That page, tested in Chromium.
+playground-check: playground
+	playground/test.sh
+
 # The library made for and tested on the processors that stations have.
 processors:
 	tools/cross-test.sh
 
-.PHONY: all library desk install dist check processors
+.PHONY: all library desk install dist check playground playground-check processors

@@ -7,7 +7,7 @@
 set -uo pipefail
 cd "$(dirname "$0")/.."
 
-names=(gate edits edges lists header examples documents desk station independent bench processors)
+names=(gate edits edges lists header examples documents desk station playground independent bench processors)
 declare -A does=(
     [gate]='.ci/run'
     [edits]='python3 tools/must-fail-logs.py'
@@ -18,6 +18,7 @@ declare -A does=(
     [documents]='rt staticlib groovepawn && tools/check-documents.sh && tools/spoil-documents.py'
     [desk]='rt check enforce wave why clean && rt staticlib groovepawn && cd rust && cargo test --offline'
     [station]='make desk && example/station/play.sh | diff example/station/prints -'
+    [playground]='make --no-print-directory playground-check'
     [independent]='cd independent && cargo test --offline'
     [bench]='cd bench && cargo test --offline'
     [processors]='tools/cross-test.sh'

@@ -25,7 +25,8 @@ function chipsOf(place) {
 }
 
 const textWidth = (text) => text.length * LETTER;
-const chipsWidth = (chips) => chips.reduce((width, [, words]) => width + textWidth(words) * 0.86 + 18, 0);
+const chipWidth = (words) => textWidth(words) * 0.86 + 12;
+const chipsWidth = (chips) => chips.reduce((width, [, words]) => width + chipWidth(words) + 6, 0);
 
 /** The row of a rule: its words, where it leads, and what it is told apart by. */
 function rowOf(named, rule, unused) {
@@ -35,7 +36,7 @@ function rowOf(named, rule, unused) {
     rule,
     words: conditions(named, rule),
     to,
-    resets: resets(named, rule),
+    resets: rule.target === null ? '' : resets(named, rule),
     kind: rule.target === null ? 'bad' : own ? 'own' : 'way',
     unused,
   };
@@ -102,11 +103,11 @@ function arrow(span, left, width, lit) {
 }
 
 function chipShapes(card, right) {
-  let x = right - 8;
-  return [...card.chips].reverse().map(([kind, words]) => {
-    const width = textWidth(words) * 0.86 + 12;
-    x -= width + 4;
-    return `<g class="chip ${kind}"><rect x="${x}" y="${card.y + 8}" width="${width}" height="18" rx="9"/><text x="${x + width / 2}" y="${card.y + 20.5}">${escaped(words)}</text></g>`;
+  let x = right - 4 - card.chips.reduce((width, [, words]) => width + chipWidth(words) + 4, 0);
+  return card.chips.map(([kind, words]) => {
+    const width = chipWidth(words);
+    x += width + 4;
+    return `<g class="chip ${kind}"><rect x="${x - width - 4}" y="${card.y + 8}" width="${width}" height="18" rx="9"/><text x="${x - 4 - width / 2}" y="${card.y + 20.5}">${escaped(words)}</text></g>`;
   }).join('');
 }
 

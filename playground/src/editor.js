@@ -43,6 +43,7 @@ export class Editor {
   set text(text) {
     if (this.area.value !== text) this.area.value = text;
     this.show();
+    this.follow();
   }
 
   label(words) {
@@ -71,10 +72,13 @@ export class Editor {
 
   show() {
     const lines = this.area.value.split('\n');
-    this.behind.innerHTML = lines.map((line, i) => this.lineShown(line, i + 1)).join('');
-    this.numbers.innerHTML = lines.map((_, i) => `<span class="${this.wrong?.line === i + 1 ? 'wrong' : ''}">${i + 1}\n</span>`).join('');
+    const shown = lines.map((line, i) => this.lineShown(line, i + 1)).join('');
+    if (shown !== this.shown) {
+      this.shown = shown;
+      this.behind.innerHTML = shown;
+      this.numbers.innerHTML = lines.map((_, i) => `<span class="${this.wrong?.line === i + 1 ? 'wrong' : ''}">${i + 1}\n</span>`).join('');
+    }
     this.root.style.setProperty('--lines', Math.min(HIGHEST, Math.max(this.lowest, lines.length + 1)));
-    this.follow();
   }
 
   /** What stands behind scrolls with the text. */

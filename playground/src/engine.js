@@ -1,7 +1,9 @@
 // What is asked of the library about a policy and its ticks, under both readings. It runs in the worker, so that nothing waits for it.
 import { STATE_NUMBERS, check, clean, meterTick, newMeter, prepare, run, why, whyRun, workSlices } from './calls.js';
 import { fileParts, statesOfALocation } from './file.js';
+import { readEvents } from './events.js';
 import { joinedClauses } from './joining.js';
+import { namedClause, namedJoin, namesInText } from './naming.js';
 
 export const READINGS = [1, 2];
 const HOPELESS = 11;
@@ -46,8 +48,9 @@ class Station {
     return this.summary.refusal === HOPELESS;
   }
 
-  start() {
-    this.state.put(new Uint16Array(STATE_NUMBERS));
+  /** Puts the station where it was after the ticks that are done. */
+  putAt(states, ticks) {
+    this.state.put(stateBefore(states, ticks));
   }
 
   /** One tick: the event released, or the refusal. */
@@ -83,6 +86,12 @@ class Meter {
   get state() {
     return this.station.numbers.subarray(0, STATE_NUMBERS);
   }
+
+  putAt({ states, totals }, registers, ticks) {
+    if (ticks === 0) return;
+    this.station.put([...stateBefore(states, ticks), registers[ticks - 1]]);
+    this.totals.put(totals.subarray(ticks * 2 - 2, ticks * 2));
+  }
 }
 
 /** What happened tick by tick, with the state after each. */
@@ -96,6 +105,26 @@ class Record {
     this.done = 0;
     this.refusal = 0;
   }
+
+  /** The first ticks of another record, which need not be run again. */
+  take(other, ticks) {
+    this.read.set(other.read.subarray(0, ticks));
+    this.released.set(other.released.subarray(0, ticks));
+    this.states.set(other.states.subarray(0, ticks * STATE_NUMBERS));
+    this.totals.set(other.totals.subarray(0, ticks * 2));
+    this.clauseStates.forEach((states, i) => states.set(other.clauseStates[i].subarray(0, ticks * STATE_NUMBERS)));
+    this.done = ticks;
+  }
+}
+
+/** How many ticks at the beginning of a play are those of the play before. */
+function sameTicks(before, { events, registers, first }) {
+  if (!before || before.first !== first || Boolean(before.registers) !== Boolean(registers)) return 0;
+  const most = Math.min(before.events.length, events.length);
+  for (let tick = 0; tick < most; tick++) {
+    if (before.events[tick] !== events[tick] || (registers && before.registers[tick] !== registers[tick])) return tick;
+  }
+  return most;
 }
 
 export class Engine {
@@ -104,16 +133,50 @@ export class Engine {
     this.policies = [];
   }
 
+  /** All answers about clauses and a text of events, one after another. */
+  *answer(given) {
+    yield { prepared: this.prepare(given) };
+    yield* this.play(given);
+  }
+
+  /** The answers about a text of events for the policy that was prepared last. */
+  *play({ events }) {
+    const said = this.signals ? readEvents(events, this.signals) : null;
+    yield { played: { records: said ? this.run(said) : [], registers: said?.registers ?? null, wrong: said?.wrong ?? null } };
+    yield { reasons: said ? this.reasons() : [] };
+  }
+
+  /** The names in the clauses' texts; what was found once is kept. */
+  namesOf(texts, files) {
+    const before = this.named ?? new Map();
+    const words = texts.map((text) => new TextDecoder('latin1').decode(text));
+    this.named = new Map(words.map((text, i) => [text, before.get(text) ?? namesInText(this.library, texts[i], files[i])]));
+    return words.map((text) => this.named.get(text));
+  }
+
   /** Joins the clauses and prepares what comes of it, and each clause, under both readings. */
-  prepare({ files, cleaning }) {
+  prepare({ texts, files, cleaning }) {
     const { library } = this;
     library.letGo();
+    this.before = null;
     const joins = READINGS.map((reading) => joinedClauses(library, reading, files, cleaning));
     const counts = [...files, ...joins.filter(({ refusal }) => !refusal).map(({ file }) => file)].map((file) => check(library, file).states);
     this.room = roomFor(library, Math.max(...counts));
     this.policies = joins.map((joined, i) => (joined.refusal ? null : this.policy(READINGS[i], joined, files)));
     this.mark = library.free;
-    return joins.map((joined, i) => (joined.refusal ? joined : { ...joined, ...this.policies[i].told }));
+    const names = this.namesOf(texts, files);
+    this.signals = this.signalsOf(texts, files, names, joins.find(({ refusal }) => !refusal));
+    return {
+      names,
+      policies: joins.map((joined, i) => (joined.refusal ? joined : { ...joined, ...this.policies[i].told })),
+    };
+  }
+
+  /** The signals that a text of events may name; none where the clauses are not joined. */
+  signalsOf(texts, files, names, joined) {
+    if (!joined) return null;
+    const clauses = files.map((file, i) => namedClause(this.library, texts[i], file, names[i]));
+    return namedJoin(clauses, joined.file, joined.places).signals;
   }
 
   policy(reading, joined, files) {
@@ -133,18 +196,25 @@ export class Engine {
     return { station, clauses, told };
   }
 
-  /** Runs events from the start, under both readings. `registers` are those of a meter, or none. */
-  run({ events, registers, first }) {
+  /** Runs events from the start, under both readings. `registers` are those of a meter, or none. Ticks that were run before are not run again. */
+  run(play) {
+    const { events, registers, first } = play;
     this.library.free = this.mark;
-    this.records = this.policies.map((policy) => {
+    const same = sameTicks(this.before, play);
+    const records = this.policies.map((policy, i) => {
       if (!policy || policy.station.hopeless) return null;
-      const meter = registers ? new Meter(this.library, first) : null;
       const record = new Record(events.length, policy.clauses.length);
-      for (const station of [policy.station, ...policy.clauses]) station.start();
-      for (let tick = 0; tick < events.length && !record.refusal; tick++) this.tick(policy, record, meter, events[tick], registers?.[tick]);
+      if (same) record.take(this.records[i], Math.min(same, this.records[i].done));
+      const meter = registers ? new Meter(this.library, first) : null;
+      meter?.putAt(record, registers, record.done);
+      policy.station.putAt(record.states, record.done);
+      policy.clauses.forEach((clause, number) => clause.putAt(record.clauseStates[number], record.done));
+      for (let tick = record.done; tick < events.length && !record.refusal; tick++) this.tick(policy, record, meter, events[tick], registers?.[tick]);
       return record;
     });
-    return this.records;
+    this.before = play;
+    this.records = records;
+    return records;
   }
 
   /** One tick of a record. With a meter the input P is as the meter sets it: on where a total has risen. */

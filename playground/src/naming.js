@@ -11,17 +11,22 @@ function remembered(ask) {
   };
 }
 
-/** A clause that was read: its file in parts, its names, and the line of each rule, all found by the library. */
-export function namedClause(library, text, file) {
+/** The names in a text, found by the library. */
+export function namesInText(library, text, file) {
   const parts = fileParts(file);
   const names = (kind, items) => items.map((_, i) => nameOf(library, text, kind, i));
-  const signalNames = names('signal', parts.signals);
+  return { signals: names('signal', parts.signals), clocks: names('clock', parts.ceilings), locations: names('location', parts.mustBeLeft) };
+}
+
+/** A clause that was read: its file in parts, its names, and the line of each rule as the library finds it. */
+export function namedClause(library, text, file, names) {
+  const parts = fileParts(file);
   return {
     file,
     parts,
-    signals: parts.signals.map((signal, i) => ({ ...signal, name: signalNames[i] || signal.tag })),
-    clocks: names('clock', parts.ceilings),
-    locations: names('location', parts.mustBeLeft),
+    signals: parts.signals.map((signal, i) => ({ ...signal, name: names.signals[i] || signal.tag })),
+    clocks: names.clocks,
+    locations: names.locations,
     lineOf: remembered((rule) => lineOfRule(library, text, rule)),
   };
 }
@@ -38,6 +43,13 @@ function clockNames(clauses) {
   return all.map(({ name, number }) => (all.filter((other) => other.name === name).length > 1 ? `${name}(${number + 1})` : name));
 }
 
+/** A clause with one location has nothing to tell by it. */
+function placeName(clauses, place) {
+  const names = place.map((location, i) => clauses[i].locations[location]);
+  const telling = names.filter((_, i) => clauses[i].locations.length > 1);
+  return (telling.length ? telling : names.slice(0, 1)).join(' · ');
+}
+
 /** Clauses that were joined: `places` has for each location of the file the locations of the clauses that it stands for. */
 export function namedJoin(clauses, file, places) {
   const parts = fileParts(file);
@@ -46,7 +58,7 @@ export function namedJoin(clauses, file, places) {
     parts,
     signals: parts.signals.map((signal) => ({ ...signal, name: nameOfSignal(clauses, signal) })),
     clocks: clockNames(clauses),
-    locations: places.map((place) => place.map((location, i) => clauses[i].locations[location]).join(' · ')),
+    locations: places.map((place) => placeName(clauses, place)),
     lineOf: () => 0,
   };
 }

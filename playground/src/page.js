@@ -2,7 +2,7 @@
 import { MOST_WAVE_EVENTS, STATE_NUMBERS, check, readText, readWave, reasonsOf, writeText, writeWave } from './calls.js';
 import { drawing, drawingStatesEach } from './drawing.js';
 import { Editor, escaped } from './editor.js';
-import { eventsText, readEvents, withTicks, withoutLastTick } from './events.js';
+import { eventsText, withTicks, withoutLastTick } from './events.js';
 import { Keeper, addressOf, deskFrom, deskOfAddress, emptyDesk, kindOfFile, save } from './keeping.js';
 import { Library } from './library.js';
 import { namedClause, namedJoin } from './naming.js';
@@ -15,8 +15,8 @@ import { Workshop } from './workshop.js';
 
 const byId = (id) => document.getElementById(id);
 const encoder = new TextEncoder();
-const HOPELESS = 11;
 const ADDRESS_REST = 400;
+const LONGEST_TITLE = 24;
 const READING = { 1: 0, 2: 1 };
 
 /** The library's bytes stand in the page, packed. */
@@ -25,7 +25,11 @@ async function wasmOf(packed) {
   return new Response(new Blob([bytes]).stream().pipeThrough(new DecompressionStream('deflate-raw'))).arrayBuffer();
 }
 
-const titleOf = (text, number) => /^\s*#\s*(.{1,28}?)(?:[:.(,]|$)/m.exec(text)?.[1].trim() || `Clause ${number + 1}`;
+/** What a clause is called: the beginning of its first comment. */
+function titleOf(text) {
+  const said = /^\s*#+\s*([^:.(,\n]*)/m.exec(text)?.[1].trim() ?? '';
+  return said.length <= LONGEST_TITLE ? said : `${said.slice(0, LONGEST_TITLE).replace(/\s+\S*$/, '')} …`;
+}
 
 class Page {
   constructor(library, workshop) {
@@ -71,11 +75,17 @@ class Page {
     on('try-part', 'keydown', (event) => this.keyed(event));
     for (const id of ['inputs', 'outputs']) on(id, 'click', (event) => this.flip(event.target.closest('button')?.dataset.bit));
     addEventListener('hashchange', () => this.followAddress());
-    let width = innerWidth;
     addEventListener('resize', () => {
-      if (innerWidth !== width) this.showTried();
-      width = innerWidth;
+      if (this.measure()) this.showTried();
     });
+    this.measure();
+  }
+
+  /** How wide the drawing and the waves may be, measured once: to ask at every keystroke would lay out the page each time. */
+  measure() {
+    const before = this.widths;
+    this.widths = { drawing: byId('drawing').clientWidth, waves: byId('waves').clientWidth };
+    return before?.drawing !== this.widths.drawing || before?.waves !== this.widths.waves;
   }
 
   sampleOptions() {
@@ -169,8 +179,7 @@ class Page {
     if (!this.texts.has(text)) {
       if (this.texts.size > 200) this.texts.clear();
       const bytes = encoder.encode(text);
-      const read = readText(this.library, bytes);
-      this.texts.set(text, read.refusal ? read : { ...read, named: namedClause(this.library, bytes, read.file) });
+      this.texts.set(text, { ...readText(this.library, bytes), bytes });
     }
     return this.texts.get(text);
   }
@@ -194,7 +203,7 @@ class Page {
   showClauses() {
     const { clauses, open, cleaning } = this.desk;
     const several = clauses.length > 1;
-    const tab = (text, i) => `<button type="button" data-clause="${i}" aria-pressed="${i === open}" class="${this.reads?.[i]?.refusal ? 'refused' : ''}">${i + 1}. ${escaped(titleOf(text, i))}${this.reads?.[i]?.refusal ? ' (refused)' : ''}</button>`;
+    const tab = (text, i) => `<button type="button" data-clause="${i}" aria-pressed="${i === open}" class="${this.reads?.[i]?.refusal ? 'refused' : ''}">${i + 1}${titleOf(text) && `. ${escaped(titleOf(text))}`}${this.reads?.[i]?.refusal ? ' (refused)' : ''}</button>`;
     const tools = `<button type="button" data-add="1">${several ? 'Add a clause' : 'Join a clause'}</button>${several ? '<button type="button" data-remove="1">Remove this one</button>' : ''}`;
     const clean = several ? `<label><input type="checkbox" ${cleaning ? 'checked' : ''}> clean in between</label>` : '';
     const html = `${several ? clauses.map(tab).join('') : ''}${tools}${clean}`;
@@ -205,36 +214,79 @@ class Page {
     this.text.label(several ? `Clause ${open + 1} of ${clauses.length}, as text` : 'The policy as text');
   }
 
-  // Preparing, in the worker.
+  // Asking the worker.
 
-  async prepare() {
-    const turn = ++this.turn;
+  prepare() {
+    this.turn++;
+    this.workshop.stop();
     const refused = this.reads.findIndex(({ refusal }) => refusal);
     if (refused >= 0) {
       this.policies = null;
-      this.workshop.stop();
+      this.preparing = false;
       this.showNotRead(refused);
+      this.answered();
       return;
     }
-    const files = this.reads.map(({ file }) => file);
-    this.workshop.stop();
+    this.preparing = true;
+    const { reads } = this;
+    const [texts, files] = [reads.map(({ bytes }) => bytes), reads.map(({ file }) => file)];
+    const { cleaning, events } = this.desk;
     this.working = files.map((file) => check(this.library, file).states);
-    const answers = await this.workshop.send('prepare', { files, cleaning: this.desk.cleaning });
-    if (turn !== this.turn) return;
-    this.policies = answers;
-    this.clauses = this.reads.map(({ named }) => named);
-    this.names = answers.map((answer) => (answer.refusal ? null : files.length === 1 ? this.clauses[0] : namedJoin(this.clauses, answer.file, answer.places)));
-    this.working = null;
-    this.showPrepared();
-    this.play();
+    this.workshop.send('answer', { texts, files, cleaning, events }, (parts, done) => this.came(parts, done, reads, events));
+  }
+
+  /** The events alone are played anew. While a policy is prepared they wait for it. */
+  play() {
+    if (this.preparing || !this.policies) return;
+    this.turn++;
+    this.workshop.drop();
+    const { events } = this.desk;
+    this.workshop.send('play', { events }, (parts, done) => this.came(parts, done, this.reads, events));
+  }
+
+  /** A part of the answer came, or all of it. */
+  came({ prepared, played, reasons }, done, reads, events) {
+    if (prepared) this.takePrepared(prepared, reads);
+    if (played) this.takePlayed(played);
+    reasons?.forEach((told, i) => told && Object.assign(this.tried[i], { reasons: told.reasons, objections: told.objections }));
+    this.showTried();
+    if (!done) return;
+    this.answered();
+    if (events !== this.desk.events) this.play();
+  }
+
+  takePrepared({ names, policies }, reads) {
+    this.preparing = false;
+    this.policies = policies;
+    this.tried = null;
+    this.clauses = reads.map(({ bytes, file }, i) => namedClause(this.library, bytes, file, names[i]));
+    this.names = policies.map((answer) => (answer.refusal ? null : reads.length === 1 ? this.clauses[0] : namedJoin(this.clauses, answer.file, answer.places)));
+    this.named = this.names[READING[this.primary]];
+    byId('verdict').innerHTML = this.verdicts();
+    this.showWhole();
+    this.showDrawn();
+  }
+
+  takePlayed({ records, registers, wrong }) {
+    this.tried = records;
+    this.registers = registers;
+    this.eventsText.mark(wrong, 'events-wrong');
+    byId('events-wrong').textContent = wrong ? `Line ${wrong.line}: ${wrong.words}.` : '';
+    if (this.wasNoticed) byId('verdict').innerHTML = this.verdicts();
+    this.wasNoticed = false;
+  }
+
+  /** Everything that was asked is answered and shown. */
+  answered() {
+    document.body.dataset.answered = this.turn;
   }
 
   /** Called when a question takes long enough to be noticed. */
   noticed(ask) {
     const states = Math.max(...(this.working ?? [0]));
-    const words = ask === 'prepare' ? `Preparing ${states > 1 ? plural(states, 'state') : 'the policy'} …` : ask === 'reasons' ? null : 'Working …';
-    if (words) byId('verdict').innerHTML = `<div class="verdict"><span class="lamp works"></span><span>${words} You can go on typing.</span></div>`;
-    this.wasNoticed = Boolean(words);
+    const words = ask === 'answer' && this.preparing ? `Preparing ${plural(states, 'state')} …` : 'Playing the events …';
+    byId('verdict').innerHTML = `<div class="verdict"><span class="lamp works"></span><span>${words} You can go on typing.</span></div>`;
+    this.wasNoticed = true;
   }
 
   /** A text that gives no file: what was last drawn stays no longer. */
@@ -263,14 +315,6 @@ class Page {
 
   get policy() {
     return this.policies?.[READING[this.primary]];
-  }
-
-  showPrepared() {
-    this.named = this.names[READING[this.primary]];
-    byId('verdict').innerHTML = this.verdicts();
-    this.showWhole();
-    this.showDrawn();
-    this.showSwitches();
   }
 
   verdicts() {
@@ -326,13 +370,13 @@ class Page {
     const several = this.clauses.length > 1;
     const choice = (value, words) => `<button type="button" data-drawn="${value}" aria-pressed="${String(this.drawn) === String(value)}">${words}</button>`;
     byId('drawn').innerHTML = several ? `${choice('all', 'All joined')}${this.clauses.map((_, i) => choice(i, `Clause ${i + 1}`)).join('')}` : '';
-    this.showDrawing();
   }
 
   draw(what) {
     if (what === undefined) return;
     this.drawn = what === 'all' ? 'all' : Number(what);
     this.showDrawn();
+    this.showDrawing();
     byId('drawn').querySelector('[aria-pressed=true]').focus();
   }
 
@@ -359,7 +403,7 @@ class Page {
     const tick = this.chosen ?? (this.record?.done ?? 0) - 1;
     const now = states ? { location: tick < 0 ? 0 : states[tick * STATE_NUMBERS], rule: this.litRule } : null;
     const statesEach = drawingStatesEach(named.parts);
-    byId('drawing').innerHTML = drawing(named, { ...told, live: told.live ?? [], statesEach }, now, byId('drawing').clientWidth || 600);
+    byId('drawing').innerHTML = drawing(named, { ...told, live: told.live ?? [], statesEach }, now, this.widths.drawing);
     byId('now').innerHTML = now ? `${tick < 0 ? 'At the start' : `After tick ${amount(tick + 1)}`}: ${stateShown(named, tick < 0 ? new Uint16Array(STATE_NUMBERS) : states, Math.max(tick, 0))}` : '';
   }
 
@@ -367,34 +411,6 @@ class Page {
 
   get record() {
     return this.tried?.[READING[this.primary]];
-  }
-
-  async play() {
-    const turn = ++this.turn;
-    if (!this.named || this.policy.summary.refusal === HOPELESS) {
-      this.tried = null;
-      this.showEventsRead(this.named ? readEvents(this.desk.events, this.named.signals) : null);
-      this.showTried();
-      return;
-    }
-    const events = readEvents(this.desk.events, this.named.signals);
-    this.showEventsRead(events);
-    const records = await this.workshop.send('run', { events: events.events, registers: events.registers, first: events.first });
-    if (turn !== this.turn) return;
-    this.tried = records;
-    this.registers = events.registers;
-    if (this.wasNoticed) byId('verdict').innerHTML = this.verdicts();
-    this.showTried();
-    const reasons = await this.workshop.send('reasons');
-    if (turn !== this.turn) return;
-    reasons.forEach((told, i) => told && Object.assign(records[i], { reasons: told.reasons, objections: told.objections }));
-    this.showTried();
-  }
-
-  showEventsRead(events) {
-    const wrong = events?.wrong ?? null;
-    this.eventsText.mark(wrong, 'events-wrong');
-    byId('events-wrong').textContent = wrong ? `Line ${wrong.line}: ${wrong.words}.` : '';
   }
 
   choose(tick) {
@@ -486,7 +502,7 @@ class Page {
   showWaves(from) {
     const [{ record }] = this.shown;
     const { done } = record;
-    const fit = Math.min(done, ticksThatFit(byId('waves').clientWidth || 600));
+    const fit = Math.min(done, ticksThatFit(this.widths.waves));
     const last = Math.max(0, done - fit);
     let begin = from === null || from > last ? last : Math.max(0, from);
     if (this.chosen !== null && (this.chosen < begin || this.chosen >= begin + fit)) begin = Math.min(last, Math.max(0, this.chosen - Math.floor(fit / 2)));
@@ -498,7 +514,7 @@ class Page {
     const both = this.shown.length > 1;
     const traces = this.shown.map(({ reading, record: one }) => ({ label: both ? `reading ${reading}` : 'released', events: one.released.subarray(0, one.done) }));
     byId('waves').innerHTML = done === 0 ? '<p class="none">No tick yet.</p>'
-      : this.named.signals.length === 0 ? '<p class="none">The policy has no signals.</p>' : waves(this.named, record.read, traces, begin, begin + fit, this.chosen);
+      : this.named.signals.length === 0 ? '<p class="none">The policy has no signals.</p>' : waves(this.named, record.read, traces, { from: begin, to: begin + fit, room: this.widths.waves }, this.chosen);
   }
 
   /** The meter of a policy with an input P and an output D: shown where the events name its register, or could. */

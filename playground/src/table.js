@@ -1,6 +1,7 @@
 // The ticks as a table: what was read, what was released, where that leads, and why. Equal ticks in a row are one row.
 import { STATE_NUMBERS, reasonsOf } from './calls.js';
 import { escaped } from './editor.js';
+import { refusalWords } from './refusals.js';
 import { amount, changesOf, plural, reasonsInWords } from './sentences.js';
 
 const ROWS = 40;
@@ -8,8 +9,8 @@ const ROWS = 40;
 /** The signals of an event as released, with what was put on and what was taken off. */
 export function signalsShown(named, read, released) {
   const shown = named.signals.flatMap(({ bit, name }) => {
-    if (released & bit) return [read & bit ? `<span>${escaped(name)}</span>` : `<ins title="put on by the enforcer">${escaped(name)}</ins>`];
-    return read & bit ? [`<del title="taken off by the enforcer">${escaped(name)}</del>`] : [];
+    if (released & bit) return [read & bit ? `<span>${escaped(name)}</span>` : `<ins>${escaped(name)}<span class="heard">, put on</span></ins>`];
+    return read & bit ? [`<del>${escaped(name)}<span class="heard">, taken off</span></del>`] : [];
   });
   const none = released === 0 ? '<span class="none">–</span>' : '';
   return [none, ...shown].filter(Boolean).join(' ');
@@ -38,6 +39,11 @@ export function objectionSentences(clauses, answers) {
   return told.length ? told : ['No clause alone objects to the event as read: they object only together.'];
 }
 
+function alike({ read, released, states, reasons }, one, other) {
+  return read[one] === read[other] && released[one] === released[other] && states[one * STATE_NUMBERS] === states[other * STATE_NUMBERS]
+    && (!reasons || reasons[one] === reasons[other]);
+}
+
 /** Ticks in a row that are alike in all that is shown, as one. */
 export function groupsOf(records, onlyEdited) {
   const [first] = records;
@@ -49,9 +55,8 @@ export function groupsOf(records, onlyEdited) {
       last = null;
       continue;
     }
-    const key = records.map(({ read, released, states, reasons }) => `${read[tick]} ${released[tick]} ${states[tick * STATE_NUMBERS]} ${reasons?.[tick] ?? ''}`).join();
-    if (last && last.key === key) last.to = tick;
-    else groups.push((last = { key, from: tick, to: tick, edited }));
+    if (last && records.every((record) => alike(record, last.from, tick))) last.to = tick;
+    else groups.push((last = { from: tick, to: tick, edited }));
   }
   return groups;
 }
@@ -95,7 +100,12 @@ export class TickTable {
     const both = records.length > 1;
     const head = ['Tick', 'Read', ...records.map(({ reading }) => (both ? `Released, reading ${reading}` : 'Released')), both ? 'Then, reading 1' : 'Then', 'Why'];
     this.root.innerHTML = `${this.tools(records, last, page)}<div class="wide"><table role="table"><thead role="rowgroup"><tr role="row">${head.map((word) => `<th role="columnheader" scope="col">${word}</th>`).join('')}</tr></thead>
-      <tbody role="rowgroup">${rows.join('') || `<tr role="row"><td role="cell" colspan="${head.length}" class="none">${this.onlyEdited ? 'No tick was edited.' : 'No tick yet. Set the switches and press One tick.'}</td></tr>`}</tbody></table></div>`;
+      <tbody role="rowgroup">${rows.join('') + this.refused(records, head.length, page === last) || `<tr role="row"><td role="cell" colspan="${head.length}" class="none">${this.onlyEdited ? 'No tick was edited.' : 'No tick yet. Set the switches and press One tick.'}</td></tr>`}</tbody></table></div>`;
+  }
+
+  /** The tick that was refused, behind those that were not. */
+  refused(records, columns, atEnd) {
+    return records.filter(({ refusal }) => refusal && atEnd).map(({ refusal, done, reading }) => `<tr role="row"><th role="rowheader" scope="row">${amount(done + 1)}</th><td role="cell" colspan="${columns - 1}" class="wrong">${records.length > 1 ? `Reading ${reading}: r` : 'R'}efused ${refusal}: ${escaped(refusalWords(refusal))}. The ticks behind it are not played.</td></tr>`).join('');
   }
 
   tools(records, last, page) {

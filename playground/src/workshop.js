@@ -4,8 +4,23 @@ import { Library } from './library.js';
 
 /** How long an old question may go on once there is a newer one. */
 const PATIENCE = 60;
+/** An answer waits so long for the next. */
+const AT_ONCE = 25;
 /** After so long a person is told that there is work. */
 const NOTICED = 150;
+
+/** Hands over the answers to a question as they come. Those that come at once go together. */
+function tell(scope, id, answers) {
+  let [parts, since] = [{}, performance.now()];
+  for (const answer of answers) {
+    Object.assign(parts, answer);
+    if (performance.now() - since > AT_ONCE) {
+      scope.postMessage({ id, parts });
+      [parts, since] = [{}, performance.now()];
+    }
+  }
+  scope.postMessage({ id, parts, done: true });
+}
 
 /** What the worker does: it answers one question after another. */
 export function serve(scope) {
@@ -14,8 +29,7 @@ export function serve(scope) {
     try {
       if (ask === 'open') opened = Library.open(given).then((library) => new Engine(library));
       const engine = await opened;
-      const answer = ask === 'open' ? true : engine[ask](given);
-      scope.postMessage({ id, answer });
+      if (ask !== 'open') tell(scope, id, engine[ask](given));
     } catch (error) {
       scope.postMessage({ id, failed: String(error?.stack ?? error) });
     }
@@ -41,12 +55,13 @@ class Here {
 export class Workshop {
   constructor(program, wasm, noticed) {
     Object.assign(this, { program, wasm, noticed });
+    this.queue = [];
+    this.last = 0;
     this.begin();
   }
 
   begin() {
-    this.waiting = new Map();
-    this.last = 0;
+    this.current = null;
     const answered = (event) => this.answered(event.data);
     try {
       this.worker = new Worker(this.program);
@@ -54,41 +69,53 @@ export class Workshop {
     } catch {
       this.worker = new Here(answered);
     }
-    this.send('open', this.wasm);
+    this.worker.postMessage({ id: 0, ask: 'open', given: this.wasm });
   }
 
-  send(ask, given) {
-    const id = ++this.last;
+  /** Asks the engine. The worker has one question at a time; the others wait here. `came` is called with the parts of the answer as they come. */
+  send(ask, given, came) {
+    this.queue.push({ id: ++this.last, ask, given, came });
+    this.next();
+  }
+
+  next() {
+    if (this.current || this.queue.length === 0) return;
+    this.current = this.queue.shift();
+    const { id, ask, given } = this.current;
+    this.current.since = performance.now();
+    this.current.slow = setTimeout(() => this.noticed(ask), NOTICED);
     this.worker.postMessage({ id, ask, given });
-    return new Promise((resolve, reject) => {
-      const slow = setTimeout(() => this.noticed(ask), NOTICED);
-      this.waiting.set(id, { resolve, reject, slow, since: performance.now() });
-    });
   }
 
-  answered({ id, answer, failed }) {
-    const asked = this.waiting.get(id);
-    if (!asked) return;
-    clearTimeout(asked.slow);
-    this.waiting.delete(id);
-    if (failed) asked.reject(new Error(failed));
-    else asked.resolve(answer);
+  answered({ id, parts, done, failed }) {
+    if (id !== this.current?.id) return;
+    const { slow, dropped, came } = this.current;
+    clearTimeout(slow);
+    if (done || failed) this.current = null;
+    if (failed) throw new Error(failed);
+    if (!dropped) came(parts, Boolean(done));
+    this.next();
   }
 
-  get busyFor() {
-    const [oldest] = this.waiting.values();
-    return oldest ? performance.now() - oldest.since : 0;
+  /** No answer is waited for any more. */
+  drop() {
+    this.queue = [];
+    if (!this.current) return;
+    clearTimeout(this.current.slow);
+    this.current.dropped = true;
   }
 
-  /** Forgets all questions, and stops the worker if it is still at one. */
+  /** The same, and the worker is stopped if it stays long at what it does: it must then be told everything anew. */
   stop() {
-    if (this.waiting.size === 0) return;
-    for (const { slow } of this.waiting.values()) clearTimeout(slow);
-    if (this.busyFor < PATIENCE) {
-      this.waiting.clear();
-      return;
-    }
+    this.drop();
+    const { current } = this;
+    if (!current) return;
+    setTimeout(() => this.current === current && this.restart(), Math.max(0, PATIENCE - (performance.now() - current.since)));
+  }
+
+  restart() {
     this.worker.terminate();
     this.begin();
+    this.next();
   }
 }
