@@ -111,7 +111,7 @@ class Page:
 
     def rows(self):
         """The rows of the table as lists of cells; the button's words first."""
-        return self.browser.run("""return [...document.querySelectorAll('#table tbody tr')].map((row) => [...row.children].map((cell) => cell.innerText.trim().replace(/\n,/g, ',')))""")
+        return self.browser.run("""return [...document.querySelectorAll('#table tbody tr')].map((row) => [...row.children].map((cell) => cell.innerText.trim().replace(/\\n,/g, ',')))""")
 
     def record(self, reading=1):
         """The events as read and as released, in hex."""
