@@ -1,6 +1,6 @@
 // The automaton: a card for each location with its rules in order, and arrows to where they lead. Arrows down go along the right side, arrows up
 // along the left, each in a lane of its own, so that none crosses a word.
-import { escaped } from './editor.js';
+import { escaped } from './html.js';
 import { amount, conditions, resets } from './sentences.js';
 
 const ROW = 22;
@@ -11,6 +11,7 @@ const LANE = 9;
 const SIDE = 16;
 const LETTER = 7.3;
 const NARROWEST = 190;
+const LOCATION = 1;
 const WIDE = 430;
 
 /** What is to be told of a location beside its name. */
@@ -42,30 +43,44 @@ function rowOf(named, rule, unused) {
   };
 }
 
-/** The cards from top to bottom, with the rows of their rules. */
+/** A location with its rules and what is told of it. */
+function cardOf(named, told, location, unused) {
+  const rows = named.parts.rules.filter(({ source }) => source === location).map((rule) => rowOf(named, rule, unused.rules.has(rule.number)));
+  const place = {
+    start: location === 0,
+    mustBeLeft: named.parts.mustBeLeft[location],
+    neverEntered: unused.locations.has(location),
+    live: told.live[location],
+    states: told.statesEach,
+  };
+  return { location, name: named.locations[location], rows, place, chips: chipsOf(place) };
+}
+
+/** What cleaning strikes out. */
+function unusedOf({ struck }) {
+  const numbers = (locations) => new Set(struck.filter(({ kind }) => (kind === LOCATION) === locations).map(({ number }) => number));
+  return { locations: numbers(true), rules: numbers(false) };
+}
+
+/** The cards from top to bottom, as wide as the widest line of them asks, and no wider than there is room. */
 function cardsOf(named, told, room) {
-  const struck = new Set(told.struck.filter(({ kind }) => kind !== 1).map(({ number }) => number));
-  const never = new Set(told.struck.filter(({ kind }) => kind === 1).map(({ number }) => number));
-  let y = GAP;
-  const cards = named.locations.map((name, location) => {
-    const rows = named.parts.rules.filter(({ source }) => source === location).map((rule) => rowOf(named, rule, struck.has(rule.number)));
-    const place = {
-      start: location === 0,
-      mustBeLeft: named.parts.mustBeLeft[location],
-      neverEntered: never.has(location),
-      live: told.live[location],
-      states: told.statesEach,
-    };
-    const height = HEAD + Math.max(1, rows.length) * ROW + FOOT;
-    const card = { location, name, rows, place, chips: chipsOf(place), y, height };
-    y += height + GAP;
-    return card;
-  });
+  const unused = unusedOf(told);
+  const cards = named.locations.map((_, location) => cardOf(named, told, location, unused));
   const widest = Math.max(...cards.flatMap((card) => [
     textWidth(card.name) + chipsWidth(card.chips) + 90,
     ...card.rows.map((row) => textWidth(`${row.words} → ${row.to} ${row.resets}`) + 60),
   ]));
-  return { cards, width: Math.max(NARROWEST, Math.min(Math.max(widest, WIDE), room)), height: y };
+  const width = Math.max(NARROWEST, Math.min(Math.max(widest, WIDE), room));
+  let y = GAP;
+  for (const card of cards) {
+    // Where name and chips do not fit side by side, the chips stand below.
+    card.below = textWidth(card.name) * 1.2 + chipsWidth(card.chips) > width - 40;
+    card.head = HEAD + (card.below ? ROW : 0);
+    card.y = y;
+    card.height = card.head + Math.max(1, card.rows.length) * ROW + FOOT;
+    y += card.height + GAP;
+  }
+  return { cards, width, height: y };
 }
 
 /** Arrows between cards, each in the first lane that is free along its way. */
@@ -75,7 +90,7 @@ function arrowsOf(cards) {
   const spans = arrows.map(({ card, row, i }) => {
     const target = cards[row.rule.target];
     const side = row.rule.target > card.location ? 'right' : 'left';
-    const from = card.y + HEAD + i * ROW + ROW / 2;
+    const from = card.y + card.head + i * ROW + ROW / 2;
     const to = target.y + HEAD / 2;
     return { row, card, side, from, to, low: Math.min(from, to), high: Math.max(from, to) };
   });
@@ -103,11 +118,12 @@ function arrow(span, left, width, lit) {
 }
 
 function chipShapes(card, right) {
+  const y = card.y + 8 + (card.below ? ROW + 2 : 0);
   let x = right - 4 - card.chips.reduce((width, [, words]) => width + chipWidth(words) + 4, 0);
   return card.chips.map(([kind, words]) => {
     const width = chipWidth(words);
     x += width + 4;
-    return `<g class="chip ${kind}"><rect x="${x - width - 4}" y="${card.y + 8}" width="${width}" height="18" rx="9"/><text x="${x - 4 - width / 2}" y="${card.y + 20.5}">${escaped(words)}</text></g>`;
+    return `<g class="chip ${kind}"><rect x="${x - width - 4}" y="${y}" width="${width}" height="18" rx="9"/><text x="${x - 4 - width / 2}" y="${y + 12.5}">${escaped(words)}</text></g>`;
   }).join('');
 }
 
@@ -118,7 +134,7 @@ function cut(text, width) {
 }
 
 function rowShape(card, row, i, left, width, litRule) {
-  const y = card.y + HEAD + i * ROW;
+  const y = card.y + card.head + i * ROW;
   const lit = row.rule.number === litRule;
   const sign = { bad: '✕', own: '↺', way: '→' }[row.kind];
   const tail = `${sign} ${row.to}${row.resets ? `, ${row.resets}` : ''}`;
@@ -136,9 +152,9 @@ function cardShape(card, left, width, now) {
   else if (card.place.live === 0) kinds.push('future');
   const box = (inset, name) => `<rect class="${name}" x="${left + inset}" y="${card.y + inset}" width="${width - 2 * inset}" height="${card.height - 2 * inset}" rx="${10 - inset}"/>`;
   const chips = chipsWidth(card.chips);
-  const empty = card.rows.length ? '' : `<text class="none" x="${left + 12}" y="${card.y + HEAD + 15}">no rule: every event is a violation</text>`;
+  const empty = card.rows.length ? '' : `<text class="none" x="${left + 12}" y="${card.y + card.head + 15}">${cut('no rule: every event is a violation', width - 20)}</text>`;
   return `<g class="${kinds.join(' ')}">${box(0, 'box')}${card.place.mustBeLeft ? box(3.5, 'inner') : ''}
-    <text class="name" x="${left + 12}" y="${card.y + 23}">${here ? '● ' : ''}${escaped(cut(card.name, width - chips - 36))}<title>${escaped(card.name)}</title></text>${chipShapes(card, left + width)}
+    <text class="name" x="${left + 12}" y="${card.y + 23}">${here ? '● ' : ''}${escaped(cut(card.name, card.below ? width - 30 : width - chips - 36))}<title>${escaped(card.name)}</title></text>${chipShapes(card, left + width)}
     ${card.rows.map((row, i) => rowShape(card, row, i, left, width, now?.rule)).join('')}${empty}</g>`;
 }
 
@@ -154,15 +170,13 @@ function spoken(named, cards, now) {
  * The drawing as SVG. `told` has the live states of each location and what cleaning strikes out; `now` the present location, and the rule that is lit.
  */
 export function drawing(named, told, now, room) {
-  const guess = cardsOf(named, told, Infinity);
-  const { spans, right, left: leftLanes } = arrowsOf(guess.cards);
-  const left = SIDE + 8 + leftLanes * LANE + (leftLanes ? 10 : 0);
-  const beside = SIDE + (right ? 12 + right * LANE : 0);
+  const lanes = arrowsOf(cardsOf(named, told, Infinity).cards);
+  const left = SIDE + 8 + lanes.left * LANE + (lanes.left ? 10 : 0);
+  const beside = SIDE + (lanes.right ? 12 + lanes.right * LANE : 0);
   const { cards, width, height } = cardsOf(named, told, Math.max(NARROWEST, room - left - beside));
+  const { spans } = arrowsOf(cards);
   const full = Math.max(left + width + beside, Math.min(room, 320));
   const begin = `<circle class="begin" cx="${left + 24}" cy="5" r="4.5"/><path class="arrow" d="M${left + 24} 6 V${cards[0].y - 2}" marker-end="url(#head)"/>`;
   return `<svg role="img" aria-label="${escaped(spoken(named, cards, now))}" width="${full}" height="${height}" viewBox="0 0 ${full} ${height}"><defs>${HEADS}</defs>
     ${begin}${spans.map((span) => arrow(span, left, width, span.row.rule.number === now?.rule)).join('')}${cards.map((card) => cardShape(card, left, width, now)).join('')}</svg>`;
 }
-
-export const drawingStatesEach = (parts) => parts.ceilings.reduce((product, ceiling) => product * (ceiling + 1), 1);

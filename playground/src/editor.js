@@ -1,10 +1,9 @@
 // A text area with line numbers. What stands behind it shows the same text in colours, marks a wrong line, and lights another.
+import { escaped, putInto } from './html.js';
 
 const WORDS = /(#.*)|\b(input|output|clock|location|at|reset|must be left|any)\b|\b(violation)\b|(->|>=|<=|@\+?\d+|\*)/g;
 const KINDS = ['comment', 'word', 'bad', 'sign'];
-const HIGHEST = 32;
-
-export const escaped = (text) => text.replace(/[&<>"]/g, (sign) => `&#${sign.charCodeAt(0)};`);
+const HIGHEST = 28;
 
 /** A line in colours: comments, words of the language, violations, signs. */
 function coloured(line) {
@@ -72,12 +71,8 @@ export class Editor {
 
   show() {
     const lines = this.area.value.split('\n');
-    const shown = lines.map((line, i) => this.lineShown(line, i + 1)).join('');
-    if (shown !== this.shown) {
-      this.shown = shown;
-      this.behind.innerHTML = shown;
-      this.numbers.innerHTML = lines.map((_, i) => `<span class="${this.wrong?.line === i + 1 ? 'wrong' : ''}">${i + 1}\n</span>`).join('');
-    }
+    putInto(this.behind, lines.map((line, i) => this.lineShown(line, i + 1)).join(''));
+    putInto(this.numbers, lines.map((_, i) => `<span class="${this.wrong?.line === i + 1 ? 'wrong' : ''}">${i + 1}\n</span>`).join(''));
     this.root.style.setProperty('--lines', Math.min(HIGHEST, Math.max(this.lowest, lines.length + 1)));
   }
 

@@ -1,7 +1,9 @@
 // The page: what was typed and switched goes to the library, and its answers to their places.
 import { MOST_WAVE_EVENTS, STATE_NUMBERS, check, readText, readWave, reasonsOf, writeText, writeWave } from './calls.js';
-import { drawing, drawingStatesEach } from './drawing.js';
-import { Editor, escaped } from './editor.js';
+import { drawing } from './drawing.js';
+import { Editor } from './editor.js';
+import { escaped, putInto } from './html.js';
+import { statesOfALocation } from './file.js';
 import { eventsText, withTicks, withoutLastTick } from './events.js';
 import { Keeper, addressOf, deskFrom, deskOfAddress, emptyDesk, kindOfFile, save } from './keeping.js';
 import { Library } from './library.js';
@@ -14,6 +16,7 @@ import { ticksThatFit, waves } from './waves.js';
 import { Workshop } from './workshop.js';
 
 const byId = (id) => document.getElementById(id);
+const put = (id, html) => putInto(byId(id), html);
 const encoder = new TextEncoder();
 const ADDRESS_REST = 400;
 const LONGEST_TITLE = 24;
@@ -52,7 +55,7 @@ class Page {
 
   listen() {
     const on = (id, what, does) => byId(id).addEventListener(what, does);
-    byId('sample').innerHTML = this.sampleOptions();
+    put('sample', this.sampleOptions());
     on('sample', 'change', (event) => this.takeSample(Number(event.target.value)));
     on('open', 'click', () => byId('file').click());
     on('file', 'change', (event) => this.openFile(event.target.files[0]));
@@ -207,10 +210,7 @@ class Page {
     const tools = `<button type="button" data-add="1">${several ? 'Add a clause' : 'Join a clause'}</button>${several ? '<button type="button" data-remove="1">Remove this one</button>' : ''}`;
     const clean = several ? `<label><input type="checkbox" ${cleaning ? 'checked' : ''}> clean in between</label>` : '';
     const html = `${several ? clauses.map(tab).join('') : ''}${tools}${clean}`;
-    if (byId('clauses').dataset.shown !== html) {
-      byId('clauses').innerHTML = html;
-      byId('clauses').dataset.shown = html;
-    }
+    put('clauses', html);
     this.text.label(several ? `Clause ${open + 1} of ${clauses.length}, as text` : 'The policy as text');
   }
 
@@ -233,6 +233,11 @@ class Page {
     const { cleaning, events } = this.desk;
     this.working = files.map((file) => check(this.library, file).states);
     this.workshop.send('answer', { texts, files, cleaning, events }, (parts, done) => this.came(parts, done, reads, events));
+  }
+
+  clauseTitle(number) {
+    const title = titleOf(this.desk.clauses[number]);
+    return `Clause ${number + 1}${title && ` (${title})`}`;
   }
 
   /** The events alone are played anew. While a policy is prepared they wait for it. */
@@ -259,10 +264,10 @@ class Page {
     this.preparing = false;
     this.policies = policies;
     this.tried = null;
-    this.clauses = reads.map(({ bytes, file }, i) => namedClause(this.library, bytes, file, names[i]));
+    this.clauses = reads.map(({ bytes, file }, i) => ({ ...namedClause(this.library, bytes, file, names[i]), title: this.clauseTitle(i) }));
     this.names = policies.map((answer) => (answer.refusal ? null : reads.length === 1 ? this.clauses[0] : namedJoin(this.clauses, answer.file, answer.places)));
     this.named = this.names[READING[this.primary]];
-    byId('verdict').innerHTML = this.verdicts();
+    put('verdict', this.verdicts());
     this.showWhole();
     this.showDrawn();
   }
@@ -272,7 +277,7 @@ class Page {
     this.registers = registers;
     this.eventsText.mark(wrong, 'events-wrong');
     byId('events-wrong').textContent = wrong ? `Line ${wrong.line}: ${wrong.words}.` : '';
-    if (this.wasNoticed) byId('verdict').innerHTML = this.verdicts();
+    if (this.wasNoticed) put('verdict', this.verdicts());
     this.wasNoticed = false;
   }
 
@@ -285,20 +290,20 @@ class Page {
   noticed(ask) {
     const states = Math.max(...(this.working ?? [0]));
     const words = ask === 'answer' && this.preparing ? `Preparing ${plural(states, 'state')} …` : 'Playing the events …';
-    byId('verdict').innerHTML = `<div class="verdict"><span class="lamp works"></span><span>${words} You can go on typing.</span></div>`;
+    put('verdict', `<div class="verdict"><span class="lamp works"></span><span>${words} You can go on typing.</span></div>`);
     this.wasNoticed = true;
   }
 
   /** A text that gives no file: what was last drawn stays no longer. */
   showNotRead(clause) {
     const where = this.desk.clauses.length > 1 ? `Clause ${clause + 1} is not read yet.` : 'The text is not read yet.';
-    byId('verdict').innerHTML = clause === this.desk.open ? '' : `<div class="verdict"><span class="lamp none"></span><span>${where}</span></div>`;
+    put('verdict', clause === this.desk.open ? '' : `<div class="verdict"><span class="lamp none"></span><span>${where}</span></div>`);
     this.named = null;
     this.tried = null;
-    byId('drawing').innerHTML = '<p class="none">The automaton is drawn when the text is right.</p>';
-    byId('now').textContent = '';
-    for (const id of ['waves', 'table', 'last', 'inputs', 'outputs']) byId(id).innerHTML = '';
-    byId('last').innerHTML = '<p class="none">The policy can be tried when its text is right.</p>';
+    put('drawing', '<p class="none">The automaton is drawn when the text is right.</p>');
+    put('now', '');
+    for (const id of ['waves', 'table', 'last', 'inputs', 'outputs']) put(id, '');
+    put('last', '<p class="none">The policy can be tried when its text is right.</p>');
     byId('window').hidden = true;
     byId('meter').hidden = true;
     this.showButtons();
@@ -356,7 +361,7 @@ class Page {
     const { parts } = this.named;
     const counts = [plural(parts.mustBeLeft.length, 'location'), plural(parts.ceilings.length, 'clock'), plural(parts.rules.length, 'rule'), plural(policy.file.length, 'byte')];
     const joined = this.clauses.length > 1 ? `${plural(this.clauses.length, 'clause')} joined${this.desk.cleaning ? `, and cleaned in between for reading ${this.primary}` : ''}: ` : '';
-    byId('whole-shown').innerHTML = `<p>${joined}${counts.join(', ')}.</p><pre tabindex="0" aria-label="The whole policy as text">${escaped(new TextDecoder().decode(text))}</pre><button type="button">Make this my text</button>`;
+    put('whole-shown', `<p>${joined}${counts.join(', ')}.</p><pre tabindex="0" aria-label="The whole policy as text">${escaped(new TextDecoder().decode(text))}</pre><button type="button">Make this my text</button>`);
   }
 
   takeWhole() {
@@ -369,7 +374,7 @@ class Page {
   showDrawn() {
     const several = this.clauses.length > 1;
     const choice = (value, words) => `<button type="button" data-drawn="${value}" aria-pressed="${String(this.drawn) === String(value)}">${words}</button>`;
-    byId('drawn').innerHTML = several ? `${choice('all', 'All joined')}${this.clauses.map((_, i) => choice(i, `Clause ${i + 1}`)).join('')}` : '';
+    put('drawn', several ? `${choice('all', 'All joined')}${this.clauses.map((_, i) => choice(i, `Clause ${i + 1}`)).join('')}` : '');
   }
 
   draw(what) {
@@ -395,16 +400,16 @@ class Page {
   showDrawing() {
     const part = this.drawnPart;
     if (!part) {
-      byId('drawing').innerHTML = '<p class="none">The clauses are not joined. Choose one of them to see it drawn.</p>';
-      byId('now').textContent = '';
+      put('drawing', '<p class="none">The clauses are not joined. Choose one of them to see it drawn.</p>');
+      put('now', '');
       return;
     }
     const { named, told, states } = part;
     const tick = this.chosen ?? (this.record?.done ?? 0) - 1;
     const now = states ? { location: tick < 0 ? 0 : states[tick * STATE_NUMBERS], rule: this.litRule } : null;
-    const statesEach = drawingStatesEach(named.parts);
-    byId('drawing').innerHTML = drawing(named, { ...told, live: told.live ?? [], statesEach }, now, this.widths.drawing);
-    byId('now').innerHTML = now ? `${tick < 0 ? 'At the start' : `After tick ${amount(tick + 1)}`}: ${stateShown(named, tick < 0 ? new Uint16Array(STATE_NUMBERS) : states, Math.max(tick, 0))}` : '';
+    const statesEach = statesOfALocation(named.parts);
+    put('drawing', drawing(named, { ...told, live: told.live ?? [], statesEach }, now, this.widths.drawing));
+    put('now', now ? `${tick < 0 ? 'At the start' : `After tick ${amount(tick + 1)}`}: ${stateShown(named, tick < 0 ? new Uint16Array(STATE_NUMBERS) : states, Math.max(tick, 0))}` : '');
   }
 
   // Trying it.
@@ -439,8 +444,8 @@ class Page {
     this.showButtons();
     const shown = this.shownReadings.map((reading) => ({ reading, record: this.tried?.[READING[reading]], named: this.names[READING[reading]] })).filter(({ record }) => record);
     if (shown.length === 0) {
-      for (const id of ['waves', 'table']) byId(id).innerHTML = '<p class="none">There is nothing to try: the policy is refused.</p>';
-      byId('last').innerHTML = `<p class="none">${this.named ? 'A hopeless policy has nothing to release: no stream is permitted that goes on for ever.' : 'The clauses are not joined.'}</p>`;
+      for (const id of ['waves', 'table']) put(id, '<p class="none">There is nothing to try: the policy is refused.</p>');
+      put('last', `<p class="none">${this.named ? 'A hopeless policy has nothing to release: no stream is permitted that goes on for ever.' : 'The clauses are not joined.'}</p>`);
       byId('window').hidden = true;
       byId('meter').hidden = true;
       return;
@@ -471,7 +476,7 @@ class Page {
         const byMeter = metered && input && tag === 'P';
         return `<button type="button" class="switch" role="switch" data-bit="${bit}" aria-checked="${Boolean(this.switches & bit)}" ${byMeter ? 'disabled title="The meter sets it"' : ''}><i></i>${escaped(name)}${name === tag ? '' : ` <kbd>${tag}</kbd>`}</button>`;
       }).join('');
-      byId(id).innerHTML = html || '<span class="none">none</span>';
+      put(id, html || '<span class="none">none</span>');
     }
     if (focus) byId('try-part').querySelector(`[data-bit="${focus}"]`)?.focus();
   }
@@ -481,11 +486,11 @@ class Page {
     const [{ record }] = this.shown;
     const tick = this.chosen ?? record.done - 1;
     if (tick < 0) {
-      byId('last').innerHTML = '<p class="none">Set the switches as the field and the controller would, and press One tick.</p>';
+      put('last', '<p class="none">Set the switches as the field and the controller would, and press One tick.</p>');
       return;
     }
     const lines = this.shown.map(({ reading, record: one, named }) => this.lastOf(reading, one, named, tick));
-    byId('last').innerHTML = `<p><b>Tick ${amount(tick + 1)}.</b> Read ${eventShown(this.named, record.read[tick])}.</p>${lines.join('')}`;
+    put('last', `<p><b>Tick ${amount(tick + 1)}.</b> Read ${eventShown(this.named, record.read[tick])}.</p>${lines.join('')}`);
   }
 
   lastOf(reading, record, named, tick) {
@@ -513,8 +518,8 @@ class Page {
     byId('from-said').textContent = `${amount(begin + 1)} to ${amount(begin + fit)} of ${amount(done)}`;
     const both = this.shown.length > 1;
     const traces = this.shown.map(({ reading, record: one }) => ({ label: both ? `reading ${reading}` : 'released', events: one.released.subarray(0, one.done) }));
-    byId('waves').innerHTML = done === 0 ? '<p class="none">No tick yet.</p>'
-      : this.named.signals.length === 0 ? '<p class="none">The policy has no signals.</p>' : waves(this.named, record.read, traces, { from: begin, to: begin + fit, room: this.widths.waves }, this.chosen);
+    put('waves', done === 0 ? '<p class="none">No tick yet.</p>'
+      : this.named.signals.length === 0 ? '<p class="none">The policy has no signals.</p>' : waves(this.named, record.read, traces, { from: begin, to: begin + fit, room: this.widths.waves }, this.chosen));
   }
 
   /** The meter of a policy with an input P and an output D: shown where the events name its register, or could. */
@@ -532,7 +537,7 @@ class Page {
       : [];
     const list = facts.length ? `<dl>${facts.map(([name, value]) => `<div><dt>${name}</dt><dd>${value}</dd></div>`).join('')}</dl>` : '';
     const kept = document.activeElement?.id === 'pulses';
-    byId('meter').innerHTML = `<label>Meter: pulses in the next tick <input type="number" id="pulses" min="0" max="65535" value="${escaped(pulses)}"></label> <span class="soft">As text <code>@+5</code> advances the register, <code>@4</code> names it; it has 16 bits and rolls over.</span>${list}`;
+    put('meter', `<label>Meter: pulses in the next tick <input type="number" id="pulses" min="0" max="65535" value="${escaped(pulses)}"></label> <span class="soft">As text <code>@+5</code> advances the register, <code>@4</code> names it; it has 16 bits and rolls over.</span>${list}`);
     if (kept) byId('pulses').focus();
   }
 

@@ -100,7 +100,8 @@ output P ap   # atrium, paced
 output Q vp   # ventricle, paced
 `;
 
-const pacemaker = [
+/** P1 to P5 of the source on pacemakers, with their times in ticks: deadlines rounded down, the least distance up. */
+const pacemaker = ({ avi, aei, uri, lri }) => [
   `# P1: ap and vp never at once
 ${heart}location all
 
@@ -108,8 +109,8 @@ at all
   ap vp -> violation
   any   -> all
 `,
-  `# P2: vs or vp within AVI after an atrial event (AVI: 2 ticks of 100 ms)
-${heart}clock avi 2
+  `# P2: vs or vp within AVI after as or ap (150 ms, ${avi} ticks)
+${heart}clock avi ${avi - 1}
 location rest
 location wait
 
@@ -119,10 +120,10 @@ at rest
 at wait
   vs       -> rest
   vp       -> rest
-  avi <= 1 -> wait
+  avi <= ${avi - 2} -> wait
 `,
-  `# P3: as or ap within AEI after a ventricular event (AEI: 8 ticks)
-${heart}clock aei 8
+  `# P3: as or ap within AEI after vs or vp (850 ms, ${aei} ticks)
+${heart}clock aei ${aei - 1}
 location rest
 location wait
 
@@ -132,10 +133,10 @@ at rest
 at wait
   as       -> rest
   ap       -> rest
-  aei <= 7 -> wait
+  aei <= ${aei - 2} -> wait
 `,
-  `# P4: after a ventricular event another one only after URI (4 ticks)
-${heart}clock uri 4
+  `# P4: after vs or vp another one only after URI (400 ms, ${uri} ticks)
+${heart}clock uri ${uri}
 location first
 location later
 
@@ -144,22 +145,35 @@ at first
   any      -> later reset uri
 at later
   !vs !vp  -> later
-  uri >= 4 -> later reset uri
+  uri >= ${uri} -> later reset uri
 `,
-  `# P5: after a ventricular event another one within LRI (10 ticks)
-${heart}clock lri 10
+  `# P5: after vs or vp another one within LRI (1000 ms, ${lri} ticks)
+${heart}clock lri ${lri - 1}
 location first
 location later
 
 at first
-  !vs !vp   -> first
-  any       -> later reset lri
+  !vs !vp  -> first
+  any      -> later reset lri
 at later
-  vs        -> later reset lri
-  vp        -> later reset lri
-  lri <= 9  -> later
+  vs       -> later reset lri
+  vp       -> later reset lri
+  lri <= ${lri - 2} -> later
 `,
 ];
+
+const FIFTY = { avi: 3, aei: 17, uri: 8, lri: 20 };
+const SEVENTY_FIVE = { avi: 2, aei: 11, uri: 6, lri: 13 };
+
+const heartEvents = `as
+- * 4
+ap vp
+- * 16
+vs
+- * 2
+vs          # too soon after the last
+- * 16
+`;
 
 const signals = `input  C credit
 input  S stop
@@ -270,8 +284,8 @@ export const SAMPLES = [
   one('A station', 'The rule that opens the valve', leak, '-\npulse\nvalve\npulse valve\npulse\n-\n'),
   one('A station', 'A slip: no way out', jammed, 'valve\nkey valve\nvalve\nkey\n-\nkey\n'),
   { group: 'Joined', name: 'Three clauses, joined', clauses, events: 'credit arm\nvalve arm\nstop valve arm\n- * 4\nvalve arm\ncredit arm\nvalve\n', reading: '1' },
-  { group: 'Joined', name: 'Pacemaker, P1 to P3', clauses: pacemaker.slice(0, 3), events: '-\nas\n- * 2\nap vp\n- * 9\nas\nvs\n- * 12\n', reading: '1' },
-  { group: 'Joined', name: 'Pacemaker, P1 to P5', clauses: pacemaker, events: '-\nas\n- * 2\nap vp\n- * 9\nas\nvs\nvs\n- * 12\n', reading: '1' },
+  { group: 'Joined', name: 'Pacemaker, P1 to P5 (ticks of 75 ms)', clauses: pacemaker(SEVENTY_FIVE), events: heartEvents, reading: '1' },
+  { group: 'Joined', name: 'Pacemaker, P1 to P4 (ticks of 50 ms)', clauses: pacemaker(FIFTY).slice(0, 4), events: heartEvents, reading: '1' },
   one('Of the scope', 'S: never A with B, never B with R', S, 'A B\nB R\nA B R\nA R\n'),
   one('Of the scope', 'D: an answer in time', D, 'request\n- * 4\n', 'both'),
   one('Of the scope', 'T: a permitted event without a future', T, 'A\nA B\n'),

@@ -32,6 +32,7 @@ const RULE = 1;
 const NO_RULE = 2;
 const TICKS_LEFT = 3;
 const RESTS_LEFT = 4;
+const NO_VIOLATION = 'it is no violation itself, but ';
 
 const times = (count, one, many) => `${count} more ${count === 1 ? one : many}`;
 
@@ -47,8 +48,8 @@ function outputReason(named, { kind, number }) {
   switch (kind) {
     case RULE: return forbids(named, number);
     case NO_RULE: return 'no rule allows it';
-    case TICKS_LEFT: return `after it at most ${times(number, 'tick', 'ticks')}`;
-    case RESTS_LEFT: return number === 0 ? 'after it never at rest again' : `after it at most ${times(number, 'time at rest', 'times at rest')}`;
+    case TICKS_LEFT: return `${NO_VIOLATION}after it at most ${times(number, 'tick', 'ticks')}`;
+    case RESTS_LEFT: return `${NO_VIOLATION}after it ${number === 0 ? 'never at rest again' : `at most ${times(number, 'time at rest', 'times at rest')}`}`;
     default: return '';
   }
 }

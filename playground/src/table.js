@@ -1,6 +1,6 @@
 // The ticks as a table: what was read, what was released, where that leads, and why. Equal ticks in a row are one row.
 import { STATE_NUMBERS, reasonsOf } from './calls.js';
-import { escaped } from './editor.js';
+import { escaped, putInto } from './html.js';
 import { refusalWords } from './refusals.js';
 import { amount, changesOf, plural, reasonsInWords } from './sentences.js';
 
@@ -35,7 +35,7 @@ export function reasonSentences(named, reasons, read, released) {
 /** What each clause says of the event as read, in its own names. */
 export function objectionSentences(clauses, answers) {
   if (!answers) return [];
-  const told = answers.flatMap((answer, i) => reasonsInWords(clauses[i], reasonsOf(answer)).map(({ half, words }) => `Clause ${i + 1} objects to the ${half}: ${words}.`));
+  const told = answers.flatMap((answer, i) => reasonsInWords(clauses[i], reasonsOf(answer)).map(({ half, words }) => `${clauses[i].title} objects to the ${half}: ${words}.`));
   return told.length ? told : ['No clause alone objects to the event as read: they object only together.'];
 }
 
@@ -99,8 +99,8 @@ export class TickTable {
     const rows = this.groups.slice(page * ROWS, (page + 1) * ROWS).map((group) => this.row(group, records, clauses, chosen));
     const both = records.length > 1;
     const head = ['Tick', 'Read', ...records.map(({ reading }) => (both ? `Released, reading ${reading}` : 'Released')), both ? 'Then, reading 1' : 'Then', 'Why'];
-    this.root.innerHTML = `${this.tools(records, last, page)}<div class="wide"><table role="table"><thead role="rowgroup"><tr role="row">${head.map((word) => `<th role="columnheader" scope="col">${word}</th>`).join('')}</tr></thead>
-      <tbody role="rowgroup">${rows.join('') + this.refused(records, head.length, page === last) || `<tr role="row"><td role="cell" colspan="${head.length}" class="none">${this.onlyEdited ? 'No tick was edited.' : 'No tick yet. Set the switches and press One tick.'}</td></tr>`}</tbody></table></div>`;
+    putInto(this.root, `${this.tools(records, last, page)}<div class="wide"><table role="table"><thead role="rowgroup"><tr role="row">${head.map((word) => `<th role="columnheader" scope="col">${word}</th>`).join('')}</tr></thead>
+      <tbody role="rowgroup">${rows.join('') + this.refused(records, head.length, page === last) || `<tr role="row"><td role="cell" colspan="${head.length}" class="none">${this.onlyEdited ? 'No tick was edited.' : 'No tick yet. Set the switches and press One tick.'}</td></tr>`}</tbody></table></div>`);
   }
 
   /** The tick that was refused, behind those that were not. */

@@ -1,5 +1,5 @@
 // Waves: each signal as read and as released, tick by tick, with the edits shaded.
-import { escaped } from './editor.js';
+import { escaped } from './html.js';
 
 const NARROW_STEP = 20;
 const WIDE_STEP = 34;
