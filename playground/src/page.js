@@ -294,6 +294,12 @@ class Page {
     this.wasNoticed = true;
   }
 
+  /** A fault of the page, and not of what was typed. */
+  broken(words) {
+    this.say('The page has a fault and cannot answer. Your text is kept; reload the page.');
+    console.error(words);
+  }
+
   /** A text that gives no file: what was last drawn stays no longer. */
   showNotRead(clause) {
     const where = this.desk.clauses.length > 1 ? `Clause ${clause + 1} is not read yet.` : 'The text is not read yet.';
@@ -405,11 +411,22 @@ class Page {
       return;
     }
     const { named, told, states } = part;
-    const tick = this.chosen ?? (this.record?.done ?? 0) - 1;
-    const now = states ? { location: tick < 0 ? 0 : states[tick * STATE_NUMBERS], rule: this.litRule } : null;
+    const tick = this.shownTick;
+    const now = states ? { location: tick < 0 ? 0 : states[tick * STATE_NUMBERS], rule: this.litRule(this.drawn) } : null;
     const statesEach = statesOfALocation(named.parts);
     put('drawing', drawing(named, { ...told, live: told.live ?? [], statesEach }, now, this.widths.drawing));
     put('now', now ? `${tick < 0 ? 'At the start' : `After tick ${amount(tick + 1)}`}: ${stateShown(named, tick < 0 ? new Uint16Array(STATE_NUMBERS) : states, Math.max(tick, 0))}` : '');
+    this.followLocation(now?.location);
+  }
+
+  /** The present location is kept in sight where the drawing is higher than its place. */
+  followLocation(location) {
+    if (location === this.followed) return;
+    this.followed = location;
+    const [place, card] = [byId('drawing'), byId('drawing').querySelector('.here > .box')];
+    if (!card || place.scrollHeight <= place.clientHeight) return;
+    const [top, height] = [Number(card.getAttribute('y')), Number(card.getAttribute('height'))];
+    if (top < place.scrollTop || top + height > place.scrollTop + place.clientHeight) place.scrollTop = Math.max(0, top - 20);
   }
 
   // Trying it.
@@ -424,21 +441,30 @@ class Page {
     byId('table').querySelector(`[data-tick="${tick}"]`)?.focus();
   }
 
-  /** The rule that the reason of the chosen tick, or of the last, names. */
-  findLit() {
-    this.litRule = null;
-    const { record } = this;
-    const tick = this.chosen ?? (record?.done ?? 0) - 1;
-    if (record?.reasons && tick >= 0 && this.clauses.length === 1) {
-      const told = reasonsInWords(this.named, reasonsOf(record.reasons[tick]));
-      this.litRule = told.map(({ rule }) => rule).find((rule) => rule !== null) ?? null;
-    }
-    this.text.light(this.litRule === null ? [] : [this.named.lineOf(this.litRule)]);
+  /** The tick that is shown in the drawing and in words: the one chosen, or the last. */
+  get shownTick() {
+    return this.chosen ?? (this.record?.done ?? 0) - 1;
+  }
+
+  /** The rule that the reason of the tick shown names: of the whole policy, or of what one clause says of the event. */
+  litRule(part) {
+    const { record, shownTick: tick } = this;
+    const whole = part === 'all' || this.clauses.length === 1;
+    const answer = whole ? record?.reasons?.[tick] : record?.objections?.get(tick)?.[part];
+    if (!answer) return null;
+    const told = reasonsInWords(whole ? this.named : this.clauses[part], reasonsOf(answer));
+    return told.map(({ rule }) => rule).find((rule) => rule !== null) ?? null;
+  }
+
+  /** Lights the line of that rule in the text that is open. */
+  lightLine() {
+    const rule = this.named ? this.litRule(this.desk.open) : null;
+    this.text.light(rule === null ? [] : [this.clauses[this.desk.open].lineOf(rule)]);
   }
 
   showTried() {
     if (!this.policies) return;
-    this.findLit();
+    this.lightLine();
     this.showDrawing();
     this.showSwitches();
     this.showButtons();
@@ -555,7 +581,11 @@ class Page {
 
   async putAddress() {
     const address = await addressOf(this.desk);
-    if (address !== location.hash) history.replaceState(null, '', address);
+    try {
+      if (address !== location.hash) history.replaceState(null, '', address);
+    } catch {
+      this.say('This is too long for an address: save it as a file instead.');
+    }
     this.keeper.keep(this.desk);
   }
 
@@ -629,9 +659,15 @@ class Page {
     const bytes = new Uint8Array(await file.arrayBuffer());
     const open = { file: () => this.openPolicy(bytes), wave: () => this.openWave(bytes), events: () => this.setEvents(new TextDecoder().decode(bytes)) };
     const kind = kindOfFile(bytes, file.name);
-    const asText = () => this.take({ ...this.desk, clauses: [new TextDecoder().decode(bytes)], open: 0 }, `${file.name} was opened.`);
-    if (kind === 'text') asText();
-    else if (open[kind]() !== false) this.say(`${file.name} was opened.`);
+    if (kind === 'text') this.openText(new TextDecoder().decode(bytes));
+    else if (open[kind]() === false) return;
+    this.say(`${file.name} was opened.`);
+  }
+
+  /** A text takes the place of the clause that is open. */
+  openText(text) {
+    const { clauses, open } = this.desk;
+    this.take({ ...this.desk, clauses: clauses.map((clause, i) => (i === open ? text : clause)), open }, '');
   }
 
   openPolicy(bytes) {
@@ -640,7 +676,7 @@ class Page {
       this.say(`That is no policy file: ${refusalSentence(refusal)}.`);
       return false;
     }
-    this.take({ ...this.desk, clauses: [new TextDecoder().decode(text)], open: 0 }, '');
+    this.openText(new TextDecoder().decode(text));
     return true;
   }
 
@@ -660,8 +696,10 @@ class Page {
   }
 
   saveText() {
-    save('policy.txt', encoder.encode(this.desk.clauses.join('\n')), 'text/plain');
-    this.say('policy.txt was saved.');
+    const { clauses, open } = this.desk;
+    const name = clauses.length > 1 ? `clause-${open + 1}.txt` : 'policy.txt';
+    save(name, encoder.encode(clauses[open]), 'text/plain');
+    this.say(`${name} was saved.`);
   }
 
   saveFile() {
@@ -698,7 +736,7 @@ export async function openPage() {
   const library = await Library.open(wasm);
   const program = URL.createObjectURL(new Blob([byId('program').textContent], { type: 'text/javascript' }));
   let page = null;
-  const workshop = new Workshop(program, wasm, (ask) => page?.noticed(ask));
+  const workshop = new Workshop(program, wasm, { noticed: (ask) => page?.noticed(ask), broken: (words) => page?.broken(words) });
   page = new Page(library, workshop);
   // For engineers who want to ask the library from the console, and for the tests.
   window.groovepawn = { library, page, samples: SAMPLES };

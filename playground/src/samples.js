@@ -183,7 +183,7 @@ output L alarm
 `;
 
 const clauses = [
-  `# Never the valve while stop is on, never without the arm
+  `# Interlock: never the valve while stop is on, or without the arm
 ${signals}location all
 
 at all
@@ -191,7 +191,7 @@ at all
   valve !arm -> violation
   any        -> all
 `,
-  `# The alarm within 3 ticks after a stop
+  `# Alarm: within 3 ticks after a stop
 ${signals}clock age 2
 location quiet
 location due
@@ -203,7 +203,7 @@ at due
   alarm       -> quiet
   age <= 1    -> due
 `,
-  `# The valve only within 5 ticks after a credit
+  `# Credit: the valve only within 5 ticks after one
 ${signals}clock since 5
 location none
 location credited

@@ -53,8 +53,9 @@ class Here {
 }
 
 export class Workshop {
-  constructor(program, wasm, noticed) {
-    Object.assign(this, { program, wasm, noticed });
+  /** `noticed` is called when a question takes long, `broken` when the page itself has a fault. */
+  constructor(program, wasm, { noticed, broken }) {
+    Object.assign(this, { program, wasm, noticed, broken });
     this.queue = [];
     this.last = 0;
     this.begin();
@@ -92,8 +93,8 @@ export class Workshop {
     const { slow, dropped, came } = this.current;
     clearTimeout(slow);
     if (done || failed) this.current = null;
-    if (failed) throw new Error(failed);
-    if (!dropped) came(parts, Boolean(done));
+    if (failed) this.broken(failed);
+    else if (!dropped) came(parts, Boolean(done));
     this.next();
   }
 

@@ -15,6 +15,7 @@ import sys
 import time
 import traceback
 
+from pictures import smaller
 from webdriver import Browser, Keys
 
 ROOT = pathlib.Path(__file__).resolve().parents[2]
@@ -326,16 +327,18 @@ def test_clauses(page, _):
     page.sample("Three clauses")
     same(page.browser.run("return document.querySelectorAll('#clauses [data-clause]').length"), 3, "clauses")
     why = [row[-1] for row in page.rows()]
-    within("Clause 1 (Never the valve while …) objects to the output: rule 0 (line 10) forbids it: at all, stop valve on.", why[2], "the objection")
+    within("Clause 1 (Interlock) objects to the output: rule 0 (line 10) forbids it: at all, stop valve on.", why[2], "the objection")
     within("objects to the output: no rule allows it.", why[4], "the objection")
-    within("Clause 3 (The valve only within 5 …) objects to the output: rule 3 (line 16) forbids it", why[6], "the objection")
+    within("Clause 3 (Credit) objects to the output: rule 3 (line 16) forbids it", why[6], "the objection")
+    page.click('#table [data-tick="2"]')
+    within("stop valve -> violation", page.browser.text("#text .line.lit"), "the line of the clause that objects")
     page.click("#drawn [data-drawn='2']")
     same(page.browser.run("return document.querySelectorAll('#drawing .card').length"), 2, "one clause drawn")
     page.click("#whole summary")
     page.browser.wait("return document.querySelector('#whole-shown').innerText")
     within("3 clauses joined, and cleaned in between for reading 1: 4 locations, 2 clocks", page.text("#whole-shown"), "as one file")
     page.click("#clauses [data-clause='1']")
-    within("The alarm within 3 ticks", page.browser.value(TEXT), "the second clause")
+    within("Alarm: within 3 ticks", page.browser.value(TEXT), "the second clause")
     page.click("#clauses [data-add]")
     same(page.browser.run("return document.querySelectorAll('#clauses [data-clause]').length"), 4, "one more")
     within("Verdict 0.", page.text("#verdict"), "joined with one that permits all")
@@ -670,7 +673,7 @@ def take_pictures(path, folder):
             page.fresh()
             page.sample(sample)
             page.browser.run("document.activeElement.blur(); document.querySelector('#said').textContent = ''")
-            page.browser.picture(folder / f"{name}.png")
+            (folder / f"playground-{name}.png").write_bytes(smaller(page.browser.picture()))
         finally:
             page.browser.close()
 

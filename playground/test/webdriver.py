@@ -95,13 +95,12 @@ class Browser:
     def reload(self):
         self.ask("POST", "/refresh")
 
-    def picture(self, path):
-        """All of the page, as high as it is."""
+    def picture(self):
+        """All of the page, as high as it is, as a PNG."""
         view = self.devtools("Page.getLayoutMetrics")["cssContentSize"]
         clip = {"x": 0, "y": 0, "width": view["width"], "height": view["height"], "scale": 1}
         shot = self.devtools("Page.captureScreenshot", format="png", captureBeyondViewport=True, clip=clip)
-        with open(path, "wb") as out:
-            out.write(base64.b64decode(shot["data"]))
+        return base64.b64decode(shot["data"])
 
     def console(self):
         return [line for line in self.ask("POST", "/se/log", {"type": "browser"}) if line["level"] in ("SEVERE", "WARNING")]
