@@ -120,13 +120,15 @@ class Page {
   }
 
   tick(times) {
-    if (!this.named || !this.tried) return;
+    if (!this.canTick) return;
     const pulses = Number(byId('pulses')?.value) || 0;
     this.setEvents(withTicks(this.desk.events, this.named.signals, this.switches, times, pulses));
   }
 
   restart() {
+    this.putAside();
     this.setEvents('');
+    byId('back').hidden = !this.keeper.aside;
     this.say('The policy is at its start again.');
   }
 
@@ -262,6 +264,7 @@ class Page {
 
   takePrepared({ names, policies }, reads) {
     this.preparing = false;
+    document.body.classList.remove('stale');
     this.policies = policies;
     this.tried = null;
     this.clauses = reads.map(({ bytes, file }, i) => ({ ...namedClause(this.library, bytes, file, names[i]), title: this.clauseTitle(i) }));
@@ -275,6 +278,7 @@ class Page {
   takePlayed({ records, registers, wrong }) {
     this.tried = records;
     this.registers = registers;
+    this.wrongEvents = Boolean(wrong);
     this.eventsText.mark(wrong, 'events-wrong');
     byId('events-wrong').textContent = wrong ? `Line ${wrong.line}: ${wrong.words}.` : '';
     if (this.wasNoticed) put('verdict', this.verdicts());
@@ -300,18 +304,14 @@ class Page {
     console.error(words);
   }
 
-  /** A text that gives no file: what was last drawn stays no longer. */
+  /** A text that gives no file. What came of the last right one stays in sight, dimmed, so that nothing jumps while one types. */
   showNotRead(clause) {
-    const where = this.desk.clauses.length > 1 ? `Clause ${clause + 1} is not read yet.` : 'The text is not read yet.';
-    put('verdict', clause === this.desk.open ? '' : `<div class="verdict"><span class="lamp none"></span><span>${where}</span></div>`);
-    this.named = null;
-    this.tried = null;
-    put('drawing', '<p class="none">The automaton is drawn when the text is right.</p>');
-    put('now', '');
-    for (const id of ['waves', 'table', 'last', 'inputs', 'outputs']) put(id, '');
-    put('last', '<p class="none">The policy can be tried when its text is right.</p>');
-    byId('window').hidden = true;
-    byId('meter').hidden = true;
+    const where = clause === this.desk.open ? 'The text is not right yet' : `Clause ${clause + 1} is not right yet`;
+    put('verdict', `<div class="verdict"><span class="lamp none"></span><span>${where}${this.named ? ': what is drawn and tried is of the last one that was' : ''}.</span></div>`);
+    document.body.classList.add('stale');
+    byId('whole').hidden = true;
+    this.text.light([]);
+    if (!this.named) put('drawing', '<p class="none">The automaton is drawn when the text is right.</p>');
     this.showButtons();
   }
 
@@ -483,11 +483,15 @@ class Page {
     this.showMeter();
   }
 
+  /** Whether a tick can be added: the policy is tried, and no line of the events is wrong. */
+  get canTick() {
+    return Boolean(this.policies && this.record && !this.wrongEvents);
+  }
+
   showButtons() {
-    const ready = Boolean(this.tried?.[READING[this.primary]]);
-    for (const id of ['tick', 'ticks']) byId(id).disabled = !ready;
+    for (const id of ['tick', 'ticks']) byId(id).disabled = !this.canTick;
     byId('undo').disabled = byId('restart').disabled = this.desk.events === '';
-    byId('save-wave').disabled = !ready;
+    byId('save-wave').disabled = !this.policies || !this.record;
     byId('save-file').disabled = !this.policy || Boolean(this.policy.refusal);
   }
 

@@ -199,7 +199,8 @@ def test_refusals_of_a_text(page, _):
         same(said.startswith("Line "), line > 0, f"a line for {text!r}")
         if line:
             within(f"Line {line}:", said, text)
-    within("when the text is right", page.text("#drawing"), "the drawing of a wrong text")
+    within("of the last one that was", page.text("#verdict"), "what is drawn meanwhile")
+    expect(page.browser.run("return document.querySelector('#tick').disabled && document.body.classList.contains('stale')"), "a wrong text can be ticked")
     page.write(TEXT, "x" * 200_000)
     within("Line 1: refused 30", page.text("#wrong"), "a line of 200,000 letters")
 
@@ -246,6 +247,8 @@ def test_switches(page, _):
     page.click("#restart")
     same(page.browser.value(EVENTS), "", "from the start")
     within("No tick yet", page.text("#table"), "no tick")
+    page.click("#back")
+    same(page.browser.value(EVENTS), "valve\ncredit valve * 25\n", "brought back")
 
 
 def test_choose_a_tick(page, _):
@@ -281,6 +284,7 @@ def test_wrong_events(page, _):
         within(words, said, text)
     page.write(EVENTS, "C\nwater\n")
     same(page.record(), ("01", "01"), "what stands before the wrong line is played")
+    expect(page.browser.run("return document.querySelector('#tick').disabled"), "a tick behind a wrong line")
     page.write(EVENTS, "C @5\n")
     within("refused 26", page.text("#last").lower() + page.text("#table").lower(), "a meter without P and D")
 
