@@ -336,5 +336,6 @@ extern "C" {
 
     pub fn groovepawn_text_name_of_clock(text: *const u8, text_len: usize, clock: u32) -> u64;
 
-    pub fn groovepawn_text_name_of_location(text: *const u8, text_len: usize, location: u32) -> u64;
+    pub fn groovepawn_text_name_of_location(text: *const u8, text_len: usize, location: u32)
+        -> u64;
 }

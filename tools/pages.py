@@ -13,7 +13,8 @@ from policy_text import draft_of, file_of
 
 PAGES = os.environ.get("PAGES", ".")
 TENDER = {"01": "../shared/tender/01-scope.md", "02": "../shared/tender/02-change-requests.md"}
-COMMAND_WORDS = {"rt", "cc", "grep", "{", "sed", "python3", "printf", "cat", "make", "cargo"}
+COMMAND_WORDS = {"rt", "cc", "grep", "{", "sed", "python3", "printf", "cat", "make", "cargo", "groovepawn", "export"}
+DESK = "rust/target/release/groovepawn"  # what `make` builds
 SAMPLES = {"enforce": [], "wave": [], "why": []}  # the programs that take crates/NAME/stdin, with their words
 
 faults, skipped, held = [], [], 0
@@ -113,12 +114,15 @@ class Shell:
 
     def missing(self, command):
         used = re.findall(r"target/(?:bin|staticlib)/[\w.]+", command)
+        if re.search(r"^groovepawn ", command, re.M):
+            used.append(DESK)
         tools = [tool for tool in ("xxd", "cc") if re.search(rf"(^|\| ){tool} ", command, re.M) and not shutil.which(tool)]
         return tools + [path for path in used if not os.path.exists(os.path.join(self.folder, path))]
 
     def run(self, command):
         shell = shutil.which("dash") or "sh"
-        return subprocess.run([shell, "-c", command], cwd=self.folder, capture_output=True, text=True, timeout=120, check=False)
+        path = os.pathsep.join([os.path.abspath(os.path.dirname(DESK)), os.environ["PATH"]])
+        return subprocess.run([shell, "-c", command], cwd=self.folder, env={**os.environ, "PATH": path}, capture_output=True, text=True, timeout=120, check=False)
 
 
 def without_rt(block, crates):
@@ -141,7 +145,7 @@ def run_block(block, following, shell, crates):
     if not command:
         skip(block.where, f"not run: {block.lines[0]}")
         return False
-    if block.first_word() in (".ci/run", "make", "cargo") or "tools/" in command:
+    if block.first_word() in (".ci/run", "make", "cargo", "export") or "tools/" in command:
         skip(block.where, f"not run: {block.lines[0]}")
         return False
     missing = shell.missing(command)

@@ -16,7 +16,6 @@ fi
 ticks=72000
 mkdir -p "$folder"
 cd "$folder"
-"$here/policy.sh" >station.policy
 for program in field controller wrapping; do
     "${CC:-cc}" -O2 -Wall -Wextra -I"$here" "$here/$program.c" -o "$program"
 done
@@ -42,9 +41,9 @@ echo "with a clock of sixteen bits:"
 play wrapping ./wrapping
 echo
 echo "with groovepawn live:"
-play enforced "$groovepawn" live station.policy
+play enforced "$groovepawn" live "$here/station.text"
 echo
-echo "groovepawn why station.policy enforced.events:"
-"$groovepawn" why station.policy enforced.events
-"$groovepawn" wave --all station.policy enforced.events -o enforced.vcd
-"$groovepawn" draw station.policy -o station.dot
+echo "groovepawn why station.text enforced.events:"
+"$groovepawn" why "$here/station.text" enforced.events
+"$groovepawn" wave --all "$here/station.text" enforced.events -o enforced.vcd
+"$groovepawn" draw "$here/station.text" -o station.dot

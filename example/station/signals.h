@@ -1,4 +1,4 @@
-/* The signals of the station, as policy.sh lists them, and how its two programs talk: one byte for each half of a tick. */
+/* The signals of the station, as station.text lists them, and how its two programs talk: one byte for each half of a tick. */
 #ifndef SIGNALS_H
 #define SIGNALS_H
 

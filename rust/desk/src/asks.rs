@@ -1,20 +1,24 @@
 //! Rules and reasons in words.
 
-use groovepawn::{Bounds, Policy, Reason, Rule, Target};
+use groovepawn::{Bounds, Reason, Rule, Target};
 
+use crate::names::Names;
+use crate::policies::Named;
 use crate::signals::Signals;
 
-/// The rules and tags of a policy, taken apart once.
-pub struct Asks {
+/// The rules and names of a policy, taken apart once.
+pub struct Asks<'a> {
     signals: Signals,
+    pub names: Names<'a>,
     pub rules: Vec<Rule>,
 }
 
-impl Asks {
-    pub fn of(policy: &Policy) -> Asks {
+impl<'a> Asks<'a> {
+    pub fn of(named: &'a Named) -> Asks<'a> {
         Asks {
-            signals: Signals::of(policy),
-            rules: policy.rules(),
+            signals: Signals::of(named),
+            names: Names::of(named),
+            rules: named.policy.rules(),
         }
     }
 
@@ -32,10 +36,13 @@ impl Asks {
     /// Why an output was edited.
     pub fn output(&self, reason: Reason) -> String {
         match reason {
-            Reason::Rule(number) => match self.rules.get(number) {
-                Some(rule) => format!("rule {number} forbids it: {}", self.asked(rule)),
-                None => format!("rule {number} forbids it"),
-            },
+            Reason::Rule(number) => {
+                let rule = self.names.rule(number);
+                match self.rules.get(number) {
+                    Some(asked) => format!("rule {rule} forbids it: {}", self.asked(asked)),
+                    None => format!("rule {rule} forbids it"),
+                }
+            }
             Reason::NoRule => "no rule allows it".to_string(),
             Reason::TicksLeft(1) => "after it at most 1 more tick".to_string(),
             Reason::TicksLeft(ticks) => format!("after it at most {ticks} more ticks"),
@@ -47,14 +54,18 @@ impl Asks {
 
     /// What a rule asks, as `docs/WHY.md` has it.
     fn asked(&self, rule: &Rule) -> String {
-        let mut parts = vec![format!("at location {}", rule.source)];
+        let mut parts = vec![format!(
+            "at location {}",
+            self.names.location(rule.source.into())
+        )];
         for (on, word) in [(true, "on"), (false, "off")] {
-            let tags = self.tags(rule, on);
-            if !tags.is_empty() {
-                parts.push(format!("{} {word}", tags.join(" ")));
+            let names = self.asked_to_be(rule, on);
+            if !names.is_empty() {
+                parts.push(format!("{} {word}", names.join(" ")));
             }
         }
         for (clock, bounds) in rule.bounds.iter().enumerate() {
+            let clock = self.names.clock(clock);
             match *bounds {
                 Bounds {
                     low,
@@ -72,31 +83,32 @@ impl Asks {
         let mut words = Vec::new();
         let all = rule.input_care | rule.output_care << 4;
         let on = rule.input_value | rule.output_value << 4;
-        for &(bit, tag) in self.signals.tags() {
-            if all & bit != 0 {
-                let not = if on & bit != 0 { "" } else { "!" };
-                words.push(format!("{not}{tag}"));
+        for signal in self.signals.all() {
+            if all & signal.bit != 0 {
+                let not = if on & signal.bit != 0 { "" } else { "!" };
+                words.push(format!("{not}{}", signal.name));
             }
         }
         for (clock, bounds) in rule.bounds.iter().enumerate() {
+            let clock = self.clock_word(clock);
             if bounds.low > 0 {
-                words.push(format!("t{clock} >= {}", bounds.low));
+                words.push(format!("{clock} >= {}", bounds.low));
             }
             if let Some(high) = bounds.high {
-                words.push(format!("t{clock} <= {high}"));
+                words.push(format!("{clock} <= {high}"));
             }
         }
         if words.is_empty() {
             words.push("any".to_string());
         }
         let target = match rule.target {
-            Target::Location(location) => format!("q{location}"),
+            Target::Location(location) => self.location_word(location.into()),
             Target::Violation => "violation".to_string(),
         };
         let mut line = format!("{} -> {target}", words.join(" "));
         let resets: Vec<String> = (0..rule.bounds.len())
             .filter(|clock| rule.resets >> clock & 1 == 1)
-            .map(|clock| format!(" t{clock}"))
+            .map(|clock| format!(" {}", self.clock_word(clock)))
             .collect();
         if !resets.is_empty() {
             line.push_str(" reset");
@@ -105,14 +117,33 @@ impl Asks {
         line
     }
 
-    /// The tags that a rule asks to be on, or off.
-    fn tags(&self, rule: &Rule, on: bool) -> Vec<String> {
+    /// A clock as a text writes it: by its name, or by the one that `show` gives it.
+    fn clock_word(&self, clock: usize) -> String {
+        self.word('t', self.names.clock(clock))
+    }
+
+    /// A location as a text writes it.
+    fn location_word(&self, location: usize) -> String {
+        self.word('q', self.names.location(location))
+    }
+
+    fn word(&self, letter: char, name: &str) -> String {
+        if self.names.are_said() {
+            name.to_string()
+        } else {
+            format!("{letter}{name}")
+        }
+    }
+
+    /// The signals that a rule asks to be on, or off.
+    fn asked_to_be(&self, rule: &Rule, on: bool) -> Vec<&str> {
         let value = rule.input_value | rule.output_value << 4;
         let care = rule.input_care | rule.output_care << 4;
         let asked = care & if on { value } else { !value };
-        let tags = self.signals.tags().iter();
-        tags.filter(|(bit, _)| asked & bit != 0)
-            .map(|(_, tag)| tag.to_string())
+        let signals = self.signals.all().iter();
+        signals
+            .filter(|signal| asked & signal.bit != 0)
+            .map(|signal| &*signal.name)
             .collect()
     }
 }

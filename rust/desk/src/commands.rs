@@ -2,11 +2,13 @@
 
 pub mod check;
 pub mod clean;
+pub mod compile;
 pub mod draw;
 pub mod firmware;
 pub mod join;
 pub mod live;
 pub mod run;
+pub mod show;
 pub mod ticks;
 pub mod wave;
 pub mod why;

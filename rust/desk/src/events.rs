@@ -3,10 +3,8 @@
 use std::ffi::OsStr;
 use std::io::{BufRead, BufReader, Read};
 
-use groovepawn::Policy;
-
 use crate::fault::Fault;
-use crate::policies::{name_of, open};
+use crate::policies::{name_of, open, Named};
 use crate::signals::{Signals, NONE_ON};
 
 /// How many events are handled at once: more than `enforce` takes in all.
@@ -35,10 +33,10 @@ pub struct Events {
 }
 
 impl Events {
-    pub fn open(path: &OsStr, form: Form, policy: &Policy) -> Result<Events, Fault> {
+    pub fn open(path: &OsStr, form: Form, named: &Named) -> Result<Events, Fault> {
         let name = name_of(path);
         let source = BufReader::with_capacity(PIECE, open(path, &name)?);
-        let signals = Signals::of(policy);
+        let signals = Signals::of(named);
         Ok(Events {
             name,
             source,
@@ -154,8 +152,8 @@ impl Events {
 
     /// A word that names no signal: there is no event to put to the library.
     fn no_signal(&self, word: &str, tick: u64) -> Fault {
-        let all = self.signals.all();
-        self.wrong(format!("tick {tick}: no signal {word}; there are {all}"))
+        let told = self.signals.told();
+        self.wrong(format!("tick {tick}: no signal {word}; there are {told}"))
     }
 
     fn wrong(&self, words: impl AsRef<str>) -> Fault {

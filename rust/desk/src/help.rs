@@ -88,7 +88,8 @@ pub const UP: Flag = Flag {
 };
 
 pub const NAME: &str = "groovepawn";
-pub const SUMMARY: &str = "policies for transfer stations: check, join, clean, run, explain, draw";
+pub const SUMMARY: &str =
+    "policies for transfer stations: write, check, join, clean, run, explain, draw";
 
 pub const ABOUT: &[&str] = &[
     "A policy says which inputs and outputs of a station may come, tick by tick. The enforcer \
@@ -98,9 +99,11 @@ pub const ABOUT: &[&str] = &[
 ];
 
 pub const FILES: &[&str] = &[
-    "POLICY is a policy file (docs/POLICY-FILE.md). EVENTS is a text with a line for each tick: \
-     the signals that are on, by their letters, as A C; - where none is on; * 20 at the end for \
-     twenty such ticks; # begins a comment. With --bytes it has one byte for each tick. It may \
+    "POLICY is a policy as text (docs/POLICY-TEXT.md) or a policy file (docs/POLICY-FILE.md): the \
+     first byte tells, below 9 in a file. What is printed of a text has its names, and the lines \
+     of its rules. EVENTS is a text with a line for each tick: the signals that are on, by their \
+     letters or names, as A credit; - where none is on; * 20 at the end for twenty such ticks; \
+     # begins a comment. With --bytes it has one byte for each tick. It may \
      be of any length. The word - stands for standard input. Where a run needs a reading and -r \
      does not name it, it is 1, as that of the program enforce.",
 ];
@@ -125,6 +128,28 @@ pub const COMMANDS: &[Command] = &[
         obey: commands::check::obey,
     },
     Command {
+        name: "compile",
+        takes: "TEXT -o FILE",
+        does: "write the policy file of a policy's text",
+        more: &[
+            "A text that is wrong is refused with the line where it fails, and nothing is \
+             written. The file has no names and no comments; keep the text.",
+        ],
+        flags: &[&OUT],
+        obey: commands::compile::obey,
+    },
+    Command {
+        name: "show",
+        takes: "POLICY [-o FILE]",
+        does: "print a policy as text",
+        more: &[
+            "Signals have their letters, clocks the names t0, t1, .. and locations q0, q1, .., \
+             for a file has no others. The text compiles to the same file, byte for byte.",
+        ],
+        flags: &[&OUT],
+        obey: commands::show::obey,
+    },
+    Command {
         name: "join",
         takes: "[--clean -r 1|2] POLICY POLICY .. -o FILE",
         does: "join policies over the same signals into one that asks what all ask",
@@ -141,7 +166,7 @@ pub const COMMANDS: &[Command] = &[
         does: "write a policy without what is of no use, and print what went",
         more: &[
             "Under the reading named the cleaned policy releases the same for every stream. \
-             Numbers are those of the old file, counted from 0.",
+             Numbers are those of the old policy, counted from 0. The cleaned policy is a file.",
         ],
         flags: &[&READING, &OUT],
         obey: commands::clean::obey,
@@ -163,8 +188,8 @@ pub const COMMANDS: &[Command] = &[
         takes: "[-r 1|2] [--bytes] [--from N] [--to N] POLICY EVENTS",
         does: "tell for each edited tick what was read and released, and why",
         more: &[
-            "Rules, locations and clocks are counted from 0, as in the file. The last line says \
-             how many of the ticks told of were edited.",
+            "Of a text, rules have their lines, and locations and clocks their names; of a file they \
+             are counted from 0. The last line says how many of the ticks told of were edited.",
         ],
         flags: &[&READING, &BYTES, &FROM, &TO],
         obey: commands::why::obey,

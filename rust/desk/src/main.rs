@@ -12,6 +12,7 @@ mod help;
 mod limits;
 mod locate;
 mod man;
+mod names;
 mod out;
 mod pages;
 mod policies;

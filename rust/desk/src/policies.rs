@@ -4,7 +4,7 @@ use std::ffi::OsStr;
 use std::fs::File;
 use std::io::{self, Read};
 
-use groovepawn::{Marks, Policy, Reading, Refusal, Summary, MOST_FILE_BYTES};
+use groovepawn::{Marks, Policy, PolicyText, Reading, Refusal, Summary, MOST_FILE_BYTES};
 
 use crate::fault::Fault;
 use crate::locate;
@@ -17,18 +17,23 @@ pub const STANDARD_INPUT: &str = "-";
 pub struct Named {
     pub name: String,
     pub policy: Policy,
+    /// The text that it was written as, if it was.
+    pub text: Option<PolicyText>,
 }
 
 impl Named {
     pub fn read(path: &OsStr) -> Result<Named, Fault> {
         let name = name_of(path);
         let bytes = beginning(path, &name)?;
-        if texts::is_text(&bytes) {
-            return Err(texts::not_read(&name));
-        }
-        match Policy::check(&bytes) {
-            Ok(policy) => Ok(Named { name, policy }),
-            Err(refusal) => Err(Fault::refused(name, with_place(refusal, &bytes))),
+        let read = if texts::is_text(&bytes) {
+            texts::read(&bytes).map(|text| (text.policy().clone(), Some(text)))
+        } else {
+            let checked = Policy::check(&bytes).map(|policy| (policy, None));
+            checked.map_err(|refusal| with_place(refusal, &bytes))
+        };
+        match read {
+            Ok((policy, text)) => Ok(Named { name, policy, text }),
+            Err(refusal) => Err(Fault::refused(name, refusal)),
         }
     }
 
@@ -61,15 +66,30 @@ pub fn open(path: &OsStr, name: &str) -> Result<Box<dyn Read>, Fault> {
     }
 }
 
-/// As much of a file as decides what is to be said of it: one byte more than the
-/// longest policy has. A longer one has bytes left over, wherever it ends.
+/// As much of a policy as decides what is to be said of it. Of a file that is one
+/// byte more than the longest has: a longer one has bytes left over, wherever it
+/// ends. Of a text it is the whole.
 fn beginning(path: &OsStr, name: &str) -> Result<Vec<u8>, Fault> {
     let mut bytes = Vec::new();
-    let most = MOST_FILE_BYTES as u64 + 1;
-    match open(path, name)?.take(most).read_to_end(&mut bytes) {
-        Ok(_) => Ok(bytes),
-        Err(error) => Err(Fault::of_io(name, &error)),
+    let mut source = open(path, name)?;
+    take(&mut source, MOST_FILE_BYTES + 1, &mut bytes, name)?;
+    if texts::is_text(&bytes) {
+        take(&mut source, texts::LONGEST, &mut bytes, name)?;
+        if bytes.len() > texts::LONGEST {
+            let words = format!(
+                "{name}: a policy's text has at most {} bytes",
+                texts::LONGEST
+            );
+            return Err(Fault::Failed(words));
+        }
     }
+    Ok(bytes)
+}
+
+/// So many bytes more, or fewer where they end.
+fn take(source: &mut dyn Read, most: usize, bytes: &mut Vec<u8>, name: &str) -> Result<(), Fault> {
+    let read = source.take(most as u64).read_to_end(bytes);
+    read.map(|_| ()).map_err(|error| Fault::of_io(name, &error))
 }
 
 fn with_place(refusal: Refusal, bytes: &[u8]) -> Refusal {

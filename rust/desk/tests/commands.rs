@@ -43,9 +43,13 @@ fn check_goes_on_after_one_that_is_wrong() {
 #[test]
 fn a_text_is_told_from_a_file() {
     let folder = Folder::new();
-    desk(&["check", &folder.file("text", b"input A\n")]).bad(2, "policy as text");
-    desk(&["check", &folder.file("eight", &[8])]).bad(1, "refused 2");
-    desk(&["check", &folder.file("nine", &[9])]).bad(2, "policy as text");
+    desk(&["check", &folder.file("text", b"input A\n")]).bad(1, "refused 2");
+    desk(&["check", &folder.file("eight", &[8])])
+        .bad(1, "refused 2: a count is outside its limits: byte 0");
+    desk(&["check", &folder.file("nine", &[9])]).bad(1, "refused 2");
+    desk(&["check", &folder.file("letters", b"gate A\n")])
+        .bad(1, "refused 30")
+        .bad(1, "line 1: gate A");
 }
 
 #[test]
@@ -343,7 +347,7 @@ fn help_and_version_are_there_for_all() {
         .text()
         .starts_with("groovepawn "));
     desk(&[]).bad(2, "no command");
-    desk(&["sing"]).bad(2, "no command sing; there are check, join");
+    desk(&["sing"]).bad(2, "no command sing; there are check, compile");
     desk(&["run", "--sing", "a", "b"]).bad(2, "there is no option --sing");
     desk(&["run", "a"]).bad(2, "usage: groovepawn run");
     desk(&["run", "-r"]).bad(2, "-r needs 1|2 behind it");

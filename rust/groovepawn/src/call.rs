@@ -15,6 +15,7 @@ pub(crate) const MOST_FILE_BYTES: usize = GROOVEPAWN_MOST_FILE_BYTES;
 pub(crate) const MOST_STATES: usize = GROOVEPAWN_MOST_STATES;
 pub(crate) const MOST_EVENTS_OF_A_WAVE: usize = GROOVEPAWN_MOST_EVENTS_OF_A_WAVE;
 pub(crate) const MOST_TEXT_BYTES: usize = GROOVEPAWN_MOST_TEXT_BYTES;
+pub(crate) const MOST_POLICY_TEXT_BYTES: usize = GROOVEPAWN_MOST_POLICY_TEXT_BYTES;
 pub(crate) const MOST_STRUCK_BYTES: usize = GROOVEPAWN_MOST_STRUCK_BYTES;
 pub(crate) const STATE_LEN: usize = GROOVEPAWN_STATE_LEN;
 pub(crate) const STATION_LEN: usize = GROOVEPAWN_STATION_LEN;
@@ -187,6 +188,30 @@ pub(crate) fn meter_output(
 
 pub(crate) fn clean(reading: u8, file: &[u8], cleaned: &mut [u8], struck: &mut [u8]) -> u64 {
     call!(groovepawn_clean[reading][file, cleaned, struck][])
+}
+
+pub(crate) fn text_read(text: &[u8], file: &mut [u8]) -> u64 {
+    call!(groovepawn_text_read[][text, file][])
+}
+
+pub(crate) fn text_write(file: &[u8], text: &mut [u8]) -> u64 {
+    call!(groovepawn_text_write[][file, text][])
+}
+
+pub(crate) fn text_line_of_rule(text: &[u8], rule: u32) -> u64 {
+    call!(groovepawn_text_line_of_rule[][text][rule])
+}
+
+pub(crate) fn text_name_of_signal(text: &[u8], signal: u32) -> u64 {
+    call!(groovepawn_text_name_of_signal[][text][signal])
+}
+
+pub(crate) fn text_name_of_clock(text: &[u8], clock: u32) -> u64 {
+    call!(groovepawn_text_name_of_clock[][text][clock])
+}
+
+pub(crate) fn text_name_of_location(text: &[u8], location: u32) -> u64 {
+    call!(groovepawn_text_name_of_location[][text][location])
 }
 
 pub(crate) fn why(basis: Basis, state: &[u16], x: u8, y: u8) -> u64 {

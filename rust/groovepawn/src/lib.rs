@@ -38,6 +38,9 @@
 //! | `index`, `input_indexed`, `output_indexed` | [`Policy::index`], [`Station::input_indexed`], [`Station::output_indexed`] |
 //! | `why`, `why_run` | [`Station::why`], [`Station::why_run`] |
 //! | `join`, `clean` | [`Policy::join`], [`Policy::clean`] |
+//! | `text_read`, `text_write` | [`PolicyText::read`], [`Policy::text`] |
+//! | `text_line_of_rule` | [`PolicyText::line_of_rule`] |
+//! | `text_name_of_signal`, `_clock`, `_location` | [`PolicyText::name_of_signal`], [`PolicyText::name_of_clock`], [`PolicyText::name_of_location`] |
 //! | `wave_write`, `wave_read` | [`Policy::wave`], [`Policy::wave_events`] |
 //! | `bays_new`, `bay_input`, `bay_output` | [`Bays::new`], [`Bays::input`], [`Bays::output`] |
 //! | `meter_new`, `meter_input`, `meter_output` | [`Meter::new`], [`Meter::input`], [`Meter::output`] |
@@ -62,6 +65,7 @@ mod refusal;
 mod rule;
 mod state;
 mod station;
+mod text;
 mod ticks;
 
 pub use bays::Bays;
@@ -77,6 +81,7 @@ pub use refusal::Refusal;
 pub use rule::{Bounds, Rule, Target};
 pub use state::State;
 pub use station::{Run, Station};
+pub use text::PolicyText;
 pub use ticks::{ticks, Rounding};
 
 /// The version of the functions that the library is called by: of its header.

@@ -20,11 +20,12 @@ use std::fmt;
 #[derive(Clone, Debug, PartialEq, Eq)]
 pub struct Refusal {
     number: u8,
+    line: Option<usize>,
     place: Option<Box<str>>,
 }
 
 /// The words of the refusals, from 1 on.
-const WORDS: [&str; 29] = [
+const WORDS: [&str; 35] = [
     "a count or its section is cut short",
     "a count is outside its limits",
     "a tag is not A to Z or is repeated",
@@ -54,6 +55,12 @@ const WORDS: [&str; 29] = [
     "a total would pass 4,294,967,295",
     "the index is not that of the policy",
     "a wave has at most 16,384 events",
+    "a line or a word is not of this form, or comes in the wrong place",
+    "a name or letter is taken, unknown, or said twice in one rule",
+    "a number is above 65,535",
+    "there are more of something than a file has room for",
+    "an at names a location that stands before the one named last",
+    "there is none of this number",
 ];
 
 impl Refusal {
@@ -65,6 +72,7 @@ impl Refusal {
     pub fn of(number: u8) -> Refusal {
         Refusal {
             number,
+            line: None,
             place: None,
         }
     }
@@ -88,6 +96,19 @@ impl Refusal {
         at.and_then(|at| WORDS.get(at))
             .copied()
             .unwrap_or("a refusal of another version")
+    }
+
+    /// The line of the policy's text that it was met in, counted from 1.
+    pub fn line(&self) -> Option<usize> {
+        self.line
+    }
+
+    /// The same refusal, met in this line of a policy's text.
+    pub(crate) fn on_line(self, line: usize) -> Refusal {
+        Refusal {
+            line: Some(line),
+            ..self.at(format!("line {line}"))
+        }
     }
 
     /// Where it was met, if a caller said so.

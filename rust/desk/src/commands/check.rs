@@ -74,7 +74,7 @@ fn contents(named: &Named) -> String {
     ];
     let counts =
         counts.map(|(count, what)| format!("{count} {what}{}", if count == 1 { "" } else { "s" }));
-    let signals = Signals::of(policy);
+    let signals = Signals::of(named);
     let inputs = signals.words(policy.signals() & 0x0f);
     let outputs = signals.words(policy.signals() & 0xf0);
     format!("inputs {inputs}, outputs {outputs}, {}", counts.join(", "))

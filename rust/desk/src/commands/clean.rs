@@ -6,6 +6,7 @@ use groovepawn::Struck;
 
 use crate::fault::Fault;
 use crate::help;
+use crate::names::Names;
 use crate::out::Out;
 use crate::policies::Named;
 use crate::words::Words;
@@ -25,21 +26,26 @@ pub fn obey(words: &Words) -> Result<(), Fault> {
     file.put(cleaned.policy.bytes())?;
     file.finish()?;
     let mut out = Out::standard();
+    let names = Names::of(&named);
     for struck in cleaned.struck {
-        out.line(&line(struck))?;
+        out.line(&line(struck, &names))?;
     }
     out.line(&format!("left {} bytes", cleaned.policy.bytes().len()))?;
     out.finish()
 }
 
-fn line(struck: Struck) -> String {
+fn line(struck: Struck, names: &Names) -> String {
     match struck {
         Struck::Location(number) => {
-            format!("location {number}: no permitted stream from the start leads to it")
+            let location = names.location(number);
+            format!("location {location}: no permitted stream from the start leads to it")
         }
-        Struck::RuleOfLocation(number) => format!("rule {number}: of such a location"),
+        Struck::RuleOfLocation(number) => {
+            format!("rule {}: of such a location", names.rule(number))
+        }
         Struck::Rule(number) => {
-            format!("rule {number}: decides no event in any state such a stream leads to")
+            let rule = names.rule(number);
+            format!("rule {rule}: decides no event in any state such a stream leads to")
         }
     }
 }

@@ -3,7 +3,7 @@
 use std::collections::BTreeSet;
 use std::fmt::Write;
 
-use groovepawn::{Cleaned, Policy, Struck, Target};
+use groovepawn::{Cleaned, Struck, Target};
 
 use crate::asks::Asks;
 use crate::fault::Fault;
@@ -21,7 +21,7 @@ pub fn obey(words: &Words) -> Result<(), Fault> {
         .clean(reading)
         .map_err(|refusal| Fault::refused(&named.name, refusal))?;
     let mut out = Out::of(words.value(&help::OUT))?;
-    out.put(drawing(&named.policy, &Unused::of(&cleaned)).as_bytes())?;
+    out.put(drawing(&named, &Unused::of(&cleaned)).as_bytes())?;
     out.finish()
 }
 
@@ -52,18 +52,21 @@ impl Unused {
 const GREY: &str = "style=dashed, color=gray60, fontcolor=gray60";
 const RED: &str = "color=red3, fontcolor=red3";
 
-fn drawing(policy: &Policy, unused: &Unused) -> String {
-    let asks = Asks::of(policy);
+fn drawing(named: &Named, unused: &Unused) -> String {
+    let asks = Asks::of(named);
     let mut text = String::from(
         "digraph policy {\n  rankdir=LR;\n  node [shape=circle];\n  start [shape=point];\n  start -> q0;\n",
     );
-    for (number, location) in policy.locations().into_iter().enumerate() {
+    for (number, location) in named.policy.locations().into_iter().enumerate() {
         let mut looks = Vec::new();
+        if asks.names.are_said() {
+            looks.push(format!("label=\"{}\"", asks.names.location(number)));
+        }
         if location.must_be_left {
-            looks.push("shape=doublecircle");
+            looks.push("shape=doublecircle".to_string());
         }
         if unused.locations.contains(&number) {
-            looks.push(GREY);
+            looks.push(GREY.to_string());
         }
         let _ = writeln!(text, "  q{number} [{}];", looks.join(", "));
     }
@@ -89,10 +92,14 @@ fn drawing(policy: &Policy, unused: &Unused) -> String {
             Target::Violation => format!(", {RED}"),
             Target::Location(_) => String::new(),
         };
+        let place = match asks.names.line(number) {
+            Some(line) => format!("line {line}"),
+            None => number.to_string(),
+        };
         let (source, line) = (rule.source, asks.line(rule));
         let _ = writeln!(
             text,
-            "  q{source} -> {target} [label=\"{number}: {line}\"{looks}];"
+            "  q{source} -> {target} [label=\"{place}: {line}\"{looks}];"
         );
     }
     text.push_str("}\n");

@@ -2,7 +2,7 @@
 
 use std::fmt::Write;
 
-use groovepawn::{Event, Policy, Summary};
+use groovepawn::{Event, Summary};
 
 use crate::events::{Events, Form};
 use crate::fault::Fault;
@@ -20,12 +20,12 @@ pub fn obey(words: &Words) -> Result<(), Fault> {
     let mut out = Out::standard();
     let ran = Named::read(policy).and_then(|named| {
         let (marks, summary) = named.prepare(words.reading()?)?;
-        let events = Events::open(events, form, &named.policy)?;
+        let events = Events::open(events, form, &named)?;
         let mut runner = Runner::new(&named.policy, &marks, events);
         match (plain, form) {
             (true, _) => run_plain(&mut runner, summary, &mut out),
             (false, Form::Bytes) => run_bytes(&mut runner, &mut out),
-            (false, Form::Text) => run_lines(&mut runner, &named.policy, summary, &mut out),
+            (false, Form::Text) => run_lines(&mut runner, &Signals::of(&named), summary, &mut out),
         }
     });
     if let (true, Err(Fault::Refused { refusal, .. })) = (plain, &ran) {
@@ -96,11 +96,10 @@ fn letter(forwarded: bool) -> char {
 /// Lines that are a text of events themselves.
 fn run_lines(
     runner: &mut Runner,
-    policy: &Policy,
+    signals: &Signals,
     summary: Summary,
     out: &mut Out,
 ) -> Result<(), Fault> {
-    let signals = Signals::of(policy);
     let width = signals.width();
     let (verdict, states, live) = (summary.verdict(), summary.states, summary.live);
     out.line(&format!(

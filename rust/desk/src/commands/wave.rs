@@ -2,7 +2,7 @@
 
 use std::fmt::Write;
 
-use groovepawn::{Event, Policy, MOST_EVENTS_OF_A_WAVE};
+use groovepawn::{Event, MOST_EVENTS_OF_A_WAVE};
 
 use crate::commands::run::form;
 use crate::events::Events;
@@ -11,7 +11,7 @@ use crate::help;
 use crate::out::Out;
 use crate::policies::Named;
 use crate::runner::Runner;
-use crate::signals::Signals;
+use crate::signals::{Signal, Signals};
 use crate::words::Words;
 
 pub fn obey(words: &Words) -> Result<(), Fault> {
@@ -20,12 +20,12 @@ pub fn obey(words: &Words) -> Result<(), Fault> {
     let reading = words.reading()?;
     let named = Named::read(policy)?;
     let (marks, _) = named.prepare(reading)?;
-    let events = Events::open(events, form(words), &named.policy)?;
+    let events = Events::open(events, form(words), &named)?;
     let events_name = events.name.clone();
     let mut runner = Runner::new(&named.policy, &marks, events);
     let mut out = Out::of(Some(path))?;
     if words.has(&help::ALL) {
-        put_all(&mut runner, &named.policy, &mut out)?;
+        put_all(&mut runner, &Signals::of(&named), &mut out)?;
     } else {
         let released = released(&mut runner)?;
         let wave = named.policy.wave(&released);
@@ -73,8 +73,8 @@ fn edits(read: u8, released: u8) -> u8 {
     bit(changed.input() != 0, INPUT_EDITED) | bit(changed.output() != 0, OUTPUT_EDITED)
 }
 
-/// Each signal as released by its tag, as read in small letters, and the edits.
-fn wires(policy: &Policy) -> Vec<Wire> {
+/// Each signal as released, by its name or its tag, each as read, and the edits.
+fn wires(signals: &Signals) -> Vec<Wire> {
     let mut wires = Vec::new();
     let mut wire = |name: String, mark, shows, bit| {
         wires.push(Wire {
@@ -85,13 +85,13 @@ fn wires(policy: &Policy) -> Vec<Wire> {
             last: None,
         })
     };
-    for &(bit, tag) in Signals::of(policy).tags() {
-        wire(tag.to_string(), tag, |_, released| released, bit);
+    for Signal { bit, tag, name } in signals.all() {
+        wire(name.clone(), *tag, |_, released| released, *bit);
         wire(
-            format!("{tag}_read"),
+            format!("{name}_read"),
             tag.to_ascii_lowercase(),
             |read, _| read,
-            bit,
+            *bit,
         );
     }
     wire("input_edited".to_string(), '<', edits, INPUT_EDITED);
@@ -99,8 +99,8 @@ fn wires(policy: &Policy) -> Vec<Wire> {
     wires
 }
 
-fn put_all(runner: &mut Runner, policy: &Policy, out: &mut Out) -> Result<(), Fault> {
-    let mut wires = wires(policy);
+fn put_all(runner: &mut Runner, signals: &Signals, out: &mut Out) -> Result<(), Fault> {
+    let mut wires = wires(signals);
     let mut text = String::from("$timescale 100 ms $end\n");
     for wire in &wires {
         let _ = writeln!(text, "$var wire 1 {} {} $end", wire.mark, wire.name);

@@ -23,7 +23,7 @@ pub fn obey(words: &Words) -> Result<(), Fault> {
     let reading = words.reading()?;
     let named = Named::read(policy)?;
     let (marks, _) = named.prepare(reading)?;
-    let events = Events::open(events, form(words), &named.policy)?;
+    let events = Events::open(events, form(words), &named)?;
     let mut runner = Runner::new(&named.policy, &marks, events);
     let mut out = Out::standard();
     let mut teller = Teller::new(&named, &marks, from, to);
@@ -53,7 +53,7 @@ struct Teller<'a> {
     from: u64,
     to: u64,
     signals: Signals,
-    asks: Asks,
+    asks: Asks<'a>,
     room: WhyRoom,
     edited: u64,
 }
@@ -67,8 +67,8 @@ impl<'a> Teller<'a> {
             marks,
             from,
             to,
-            signals: Signals::of(policy),
-            asks: Asks::of(policy),
+            signals: Signals::of(named),
+            asks: Asks::of(named),
             room: WhyRoom::new(policy, PIECE),
             edited: 0,
         }
