@@ -7,11 +7,15 @@ use policy::check;
 use texts::put_bytes;
 ghost use mathlib.Core.Path.{_≡_};
 ghost use Prim.Native.Nat.{_≤_};
+ghost use lib.Dec.{leb};
 ghost use lib.ListN.{length};
 ghost use Rattle.texts.specs.Wrote.{Wrote};
 ghost use Rattle.wording.specs.Writer.{textOfFile};
 ghost use Rattle.showing.specs.Lines.{LaidOut};
 ghost use Rattle.showing.specs.Promise.{WriteTextPromise};
+
+// No text is longer.
+const LONGEST: usize = 39420;
 
 // A refusal, or 0 and the length written.
 pub struct Written {
@@ -32,6 +36,17 @@ fn text_length(file: &[u8], layout: Layout, line: &mut [u8]) -> usize
         i += 1;
     }
     total
+}
+
+// Only where the longest text would not fit, the lengths are added up.
+fn has_room(file: &[u8], layout: Layout, line: &mut [u8], room: usize) -> bool
+    requires { ⌜ LaidOut (now file) layout × (216 ≤ length (now line)) ⌝ }
+    ensures { λ r. ⌜ r ≡ leb (length (textOfFile (now (file .entry)))) room ⌝ }
+{
+    if LONGEST <= room {
+        return true;
+    }
+    text_length(file, layout, line) <= room
 }
 
 // Each line is made in `line`, where the longest has room, and then copied.
@@ -61,7 +76,7 @@ fn write_by(file: &[u8], out: &mut [u8], line: &mut [u8]) -> Written
         return Written { refusal, length: 0 };
     }
     let layout = checked.layout;
-    if out.len() < text_length(file, layout, line) {
+    if !has_room(file, layout, line, out.len()) {
         return Written {
             refusal: 14,
             length: 0,

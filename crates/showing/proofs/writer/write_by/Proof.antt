@@ -3,6 +3,7 @@ use mathlib.Core.Path.{_≡_, sym, _∙_}
 use native.Mathlib.Omega.{arith}
 use denote.Ref.{now}
 use borrow.Author.Needs.{needs}
+use borrow.Author.Tests.{leb-true, leb-false, not-true, not-false}
 use Rattle.showing.specs.Lines.{laid-out}
 use Rattle.showing.specs.Promise.{check-says, write-refused, write-short, write-whole}
 use Rattle.showing.proofs.writer.write_by.Statement.{statement}
@@ -14,8 +15,8 @@ check-requires c κs = search needs
 returns : tie.Need-returns
 returns c = write-refused _ _ (check-says (c .before .check .ensures) .0) (c .if1 .taken)
 
-text-length-requires : tie.Need-text-length-requires
-text-length-requires c κs =
+has-room-requires : tie.Need-has-room-requires
+has-room-requires c κs =
     let passes = sym (check-says (c .before .before .before .check .ensures) .0) ∙ c .before .before .if1 .left in
     (laid-out passes (check-says (c .before .before .before .check .ensures) .1 passes), c .before .before .before .before .before .before .before .pre)
 
@@ -23,13 +24,13 @@ same-length : tie.Need-same-length
 same-length c = search needs
 
 returns-2 : tie.Need-returns-2
-returns-2 c = write-short _ _ (sym (check-says (c .before .before .before .before .before .before .before .check .ensures) .0) ∙ c .before .before .before .before .before .before .if1 .left) (omega (arith, c .before .before .before .text-length .ensures, c .if2 .taken))
+returns-2 c = write-short _ _ (sym (check-says (c .before .before .before .before .before .before .before .check .ensures) .0) ∙ c .before .before .before .before .before .before .if1 .left) (leb-false _ _ (sym (c .before .before .before .has-room .ensures) ∙ not-true _ (c .if2 .taken)))
 
 put-text-requires : tie.Need-put-text-requires
 put-text-requires c κs =
     let passes = sym (check-says (c .before .before .before .before .before .before .before .before .before .check .ensures) .0) ∙ c .before .before .before .before .before .before .before .before .if1 .left in
-    let l = c .before .before .before .before .before .text-length in
-    (laid-out passes (check-says (c .before .before .before .before .before .before .before .before .before .check .ensures) .1 passes), omega (arith, c .before .before .before .before .before .before .before .before .before .before .before .before .before .pre, l .kept), omega (arith, l .ensures, c .before .before .if2 .left))
+    let h = c .before .before .before .before .before .has-room in
+    (laid-out passes (check-says (c .before .before .before .before .before .before .before .before .before .check .ensures) .1 passes), omega (arith, c .before .before .before .before .before .before .before .before .before .before .before .before .before .pre, h .kept), leb-true _ _ (sym (h .ensures) ∙ not-false _ (c .before .before .if2 .left)))
 
 same-length-2 : tie.Need-same-length-2
 same-length-2 c = search needs
@@ -40,7 +41,7 @@ same-length-3 c = search needs
 returns-3 : tie.Need-returns-3
 returns-3 c =
     let a = c .before .before .before .before .before .before .before .before .before .before .before .before .before .before .before .before .before .before .args in
-    write-whole (now (a .file)) (now (a .out)) (sym (check-says (c .before .before .before .before .before .before .before .before .before .before .before .before .before .before .check .ensures) .0) ∙ c .before .before .before .before .before .before .before .before .before .before .before .before .before .if1 .left) (omega (arith, c .before .before .before .before .before .before .before .before .before .before .text-length .ensures, c .before .before .before .before .before .before .before .if2 .left)) (c .before .before .before .before .put-text .ensures)
+    write-whole (now (a .file)) (now (a .out)) (sym (check-says (c .before .before .before .before .before .before .before .before .before .before .before .before .before .before .check .ensures) .0) ∙ c .before .before .before .before .before .before .before .before .before .before .before .before .before .if1 .left) (leb-true _ _ (sym (c .before .before .before .before .before .before .before .before .before .before .has-room .ensures) ∙ not-false _ (c .before .before .before .before .before .before .before .if2 .left))) (c .before .before .before .before .put-text .ensures)
 
 pub write-by-spec : {M : Type 1} → statement M
 write-by-spec =
@@ -48,7 +49,7 @@ write-by-spec =
     (tie.spec
     check-requires
     returns
-    text-length-requires
+    has-room-requires
     same-length
     returns-2
     put-text-requires
