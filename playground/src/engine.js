@@ -159,6 +159,7 @@ export class Engine {
     const { library } = this;
     library.letGo();
     this.before = null;
+    this.told = null;
     const joins = READINGS.map((reading) => joinedClauses(library, reading, files, cleaning));
     const counts = [...files, ...joins.filter(({ refusal }) => !refusal).map(({ file }) => file)].map((file) => check(library, file).states);
     this.room = roomFor(library, Math.max(...counts));
@@ -201,6 +202,7 @@ export class Engine {
     const { events, registers, first } = play;
     this.library.free = this.mark;
     const same = sameTicks(this.before, play);
+    this.same = same;
     const records = this.policies.map((policy, i) => {
       if (!policy || policy.station.hopeless) return null;
       const record = new Record(events.length, policy.clauses.length);
@@ -241,23 +243,26 @@ export class Engine {
     });
   }
 
-  /** The reasons of every edited tick of the records, and the objections of each clause. */
+  /** The reasons of every edited tick of the records, and the objections of each clause. Those of ticks that were run before are kept. */
   reasons() {
-    return this.records.map((record, i) => {
-      if (!record) return null;
-      const read = record.read.subarray(0, record.done);
-      const edited = [];
-      read.forEach((event, tick) => {
-        if (event !== record.released[tick]) edited.push(tick);
-      });
-      return { ...this.reasonsOf(this.policies[i], read, edited), objections: this.objections(this.policies[i], record, edited) };
-    });
+    this.told = this.records.map((record, i) => (record ? this.reasonsOf(this.policies[i], record, this.told?.[i]) : null));
+    return this.told;
   }
 
-  reasonsOf({ station }, read, edited) {
-    if (edited.length === 0) return { refusal: 0, reasons: new BigUint64Array(read.length) };
-    const state = new Uint16Array(STATE_NUMBERS);
-    return whyRun(this.library, station.reading, station.file, station.marks, state, read, this.room);
+  reasonsOf(policy, record, before) {
+    const from = Math.min(this.same, before?.reasons.length ?? 0);
+    const edited = [];
+    for (let tick = from; tick < record.done; tick++) if (record.read[tick] !== record.released[tick]) edited.push(tick);
+    const reasons = new BigUint64Array(record.done);
+    if (from) reasons.set(before.reasons.subarray(0, from));
+    if (edited.length) reasons.set(this.reasonsFrom(policy.station, record, from), from);
+    const kept = [...(before?.objections ?? [])].filter(([tick]) => tick < from);
+    return { reasons, objections: new Map([...kept, ...this.objections(policy, record, edited)]) };
+  }
+
+  reasonsFrom(station, record, from) {
+    const state = stateBefore(record.states, from).slice();
+    return whyRun(this.library, station.reading, station.file, station.marks, state, record.read.subarray(from, record.done), this.room).reasons;
   }
 
   /** For each edited tick what each clause alone says of the event as read. */
@@ -273,7 +278,7 @@ export class Engine {
   }
 }
 
-/** A long record is explained clause by clause no further than this. */
+/** So many edited ticks are explained clause by clause; a reader of more would look for them by their reasons. */
 const MOST_OBJECTIONS = 5000;
 
 const sum = ([billed, unbilled]) => billed + unbilled;

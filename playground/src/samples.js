@@ -1,15 +1,15 @@
 // Samples: the five of the scope, a transfer station, the pacemaker's policies, clauses that are joined, and the commonest patterns.
 
-const station = `# A transfer station. A card, then a credit within 30 s (300 ticks
-# of 100 ms); then water is delivered. A stale credit never passes.
-input  A card          # a card is accepted
-input  K credit        # a credit pulse from the card reader
-input  P pulse         # set by the meter: pulses in this tick
-output D delivery      # the valve; what flows while it is on is billed
-clock  age 301         # ticks since the card
+const station = `# A transfer station: a card, a credit within 30 s of it
+# (300 ticks), then water. A stale credit never passes.
+input  A card        # a card is accepted
+input  K credit      # a credit pulse of the card reader
+input  P pulse       # set by the meter
+output D delivery    # the valve; what flows then is billed
+clock  age 301       # ticks of 100 ms since the card
 location idle
 location armed
-location transfer must be left   # begun, so it can be ended
+location transfer must be left   # it can be ended
 
 at idle
   credit              -> violation

@@ -180,6 +180,10 @@ def test_wrong_line_while_typing(page, _):
     within("refused 31", browser.text("#text .line.wrong .said"), "the words at the line")
     same(browser.text("#text .numbers .wrong").strip(), "7", "the marked number")
     same(browser.run("return document.querySelector(arguments[0]).getAttribute('aria-invalid')", TEXT), "true", "aria-invalid")
+    beside = """const tops = (css) => [...document.querySelectorAll(css)].map((one) => Math.round(one.getBoundingClientRect().top));
+        return [tops('#text .numbers span'), tops('#text .behind .line')]"""
+    numbers, shown = browser.run(beside)
+    same(numbers, shown, "each number beside its line")
     browser.press(Keys.BACKSPACE)
     page.idle()
     same(page.text("#wrong"), "", "right again")
@@ -319,6 +323,7 @@ def test_meter(page, _):
     same(values(), ["1,522", "1,555", "3", "1,558"], "register, billed, not billed, all")
     page.write(EVENTS, "@65530\ncard\ncredit\ndelivery @65530\ndelivery @4\n")
     same(values(), ["4", "10", "0", "10"], "65,530 followed by 4 is 10 pulses")
+    same(page.record()[0], "01 02 10 14", "P is on in the tick with pulses, and in no other")
     page.click('[data-bit="16"]')
     page.browser.run("document.querySelector('#pulses').value = 7")
     page.click("#tick")
@@ -366,9 +371,44 @@ def test_only_together(page, _):
     page.write(EVENTS, "stop valve\n")
     within("Clause 2 (No valve at a stop) objects to the output", page.rows()[0][-1], "one of them objects")
     page.write(EVENTS, "stop\n")
-    row = page.rows()[0]
-    same(row[2].split(), ["valve"] if False else row[2].split(), "released")
-    within("Clause 1 (The valve stays open) objects to the output", row[-1], "the other objects")
+    within("Clause 1 (The valve stays open) objects to the output", page.rows()[0][-1], "the other objects")
+
+
+def test_clauses_follow_the_release(page, _):
+    # The valve is taken off by the second clause, so for the first it never opened.
+    head = "input S stop\noutput V valve\n"
+    page.write(TEXT, f"# Door\n{head}location shut\nlocation open\n\nat shut\n  valve -> open\n  any -> shut\nat open\n  any -> open\n")
+    page.click("#clauses [data-add]")
+    page.write(TEXT, f"# Stop\n{head}location all\n\nat all\n  stop valve -> violation\n  any -> all\n")
+    page.write(EVENTS, "stop valve\n")
+    page.click("#drawn [data-drawn='0']")
+    within("After tick 1: shut", page.text("#now"), "the first clause")
+    page.write(EVENTS, "stop valve\nvalve\n")
+    within("After tick 2: open", page.text("#now"), "the first clause later")
+
+
+PLACES = """
+const { page } = window.groovepawn;
+const wrong = [];
+page.tried.forEach((record, i) => {
+  const named = page.names[i];
+  if (named.locations.length !== named.parts.mustBeLeft.length) wrong.push(`${named.locations.length} names`);
+  for (let tick = 0; tick < record.done; tick++) {
+    const parts = page.clauses.map((clause, c) => clause.locations.length > 1 ? clause.locations[record.clauseStates[c][tick * 5]] : null).filter((name) => name !== null);
+    const name = named.locations[record.states[tick * 5]];
+    if (name !== parts.join(' · ')) wrong.push(`reading ${i + 1} tick ${tick + 1}: ${name}, and not ${parts.join(' · ')}`);
+  }
+});
+return wrong;
+"""
+
+
+def test_joined_names(page, _):
+    for sample in ("Three clauses", "Pacemaker, P1 to P5", "Pacemaker, P1 to P4"):
+        page.sample(sample)
+        same(page.browser.run(PLACES), [], f"{sample}: the joined location is that of the clauses")
+        struck = page.browser.run("return window.groovepawn.page.policies.map(({ struck }) => struck.length)")
+        same(struck, [0, 0], f"{sample}: what cleaning would strike out of a cleaned join, under each reading")
 
 
 def test_join_too_large(page, _):
