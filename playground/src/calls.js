@@ -1,10 +1,10 @@
 // The library's functions, with their answers taken apart. Every answer has `refusal`, 0 for none.
 
-export const MOST_FILE_BYTES = 5974;
-export const MOST_STRUCK_BYTES = 957;
-export const MOST_WAVE_BYTES = 508119;
-export const MOST_WAVE_EVENTS = 16384;
-export const MOST_TEXT_BYTES = 39420;
+const MOST_FILE_BYTES = 5974;
+const MOST_STRUCK_BYTES = 957;
+const MOST_WAVE_BYTES = 508119;
+const MOST_WAVE_EVENTS = 16384;
+const MOST_TEXT_BYTES = 39420;
 export const STATE_NUMBERS = 5;
 
 const field = (answer, from, bits) => Number((answer >> BigInt(from)) & ((1n << BigInt(bits)) - 1n));

@@ -133,15 +133,25 @@ function cut(text, width) {
   return text.length <= letters ? text : `${text.slice(0, Math.max(1, letters - 1))}…`;
 }
 
+const SIGNS = { bad: '✕', own: '↺', way: '→' };
+
 function rowShape(card, row, i, left, width, litRule) {
   const y = card.y + card.head + i * ROW;
-  const lit = row.rule.number === litRule;
-  const sign = { bad: '✕', own: '↺', way: '→' }[row.kind];
-  const tail = `${sign} ${row.to}${row.resets ? `, ${row.resets}` : ''}`;
+  const kinds = ['row', row.kind, row.unused ? 'unused' : '', row.rule.number === litRule ? 'lit' : ''].join(' ');
+  const tail = `${SIGNS[row.kind]} ${row.to}${row.resets ? `, ${row.resets}` : ''}`;
   const room = width - 24;
   const tailWidth = Math.min(textWidth(tail), room * 0.6);
-  return `<g class="row ${row.kind}${row.unused ? ' unused' : ''}${lit ? ' lit' : ''}"><title>rule ${row.rule.number}: ${escaped(`${row.words} -> ${row.rule.target === null ? 'violation' : row.kind === 'own' ? card.name : row.to} ${row.resets}`)}${row.unused ? ' (decides no event)' : ''}</title>
-    <rect x="${left + 1}" y="${y}" width="${width - 2}" height="${ROW}"/><text x="${left + 12}" y="${y + 15}">${escaped(cut(row.words, room - tailWidth - 6))}</text><text class="to" x="${left + width - 12}" y="${y + 15}">${escaped(cut(tail, tailWidth + 4))}</text></g>`;
+  const title = `rule ${row.rule.number}: ${row.words} ${tail}${row.unused ? ' (decides no event)' : ''}`;
+  return `<g class="${kinds}"><title>${escaped(title)}</title><rect x="${left + 1}" y="${y}" width="${width - 2}" height="${ROW}"/>
+    <text x="${left + 12}" y="${y + 15}">${escaped(cut(row.words, room - tailWidth - 6))}</text>
+    <text class="to" x="${left + width - 12}" y="${y + 15}">${escaped(cut(tail, tailWidth + 4))}</text></g>`;
+}
+
+/** The frame of a card; a second one within it where the location must be left. */
+function frames(card, left, width) {
+  const frame = (inset, name) => `<rect class="${name}" x="${left + inset}" y="${card.y + inset}" width="${width - 2 * inset}" height="${
+    card.height - 2 * inset}" rx="${10 - inset}"/>`;
+  return frame(0, 'box') + (card.place.mustBeLeft ? frame(3.5, 'inner') : '');
 }
 
 function cardShape(card, left, width, now) {
@@ -150,15 +160,15 @@ function cardShape(card, left, width, now) {
   if (here) kinds.push('here');
   if (card.place.neverEntered) kinds.push('never');
   else if (card.place.live === 0) kinds.push('future');
-  const box = (inset, name) => `<rect class="${name}" x="${left + inset}" y="${card.y + inset}" width="${width - 2 * inset}" height="${card.height - 2 * inset}" rx="${10 - inset}"/>`;
-  const chips = chipsWidth(card.chips);
-  const empty = card.rows.length ? '' : `<text class="none" x="${left + 12}" y="${card.y + card.head + 15}">${cut('no rule: every event is a violation', width - 20)}</text>`;
-  return `<g class="${kinds.join(' ')}">${box(0, 'box')}${card.place.mustBeLeft ? box(3.5, 'inner') : ''}
-    <text class="name" x="${left + 12}" y="${card.y + 23}">${here ? '● ' : ''}${escaped(cut(card.name, card.below ? width - 30 : width - chips - 36))}<title>${escaped(card.name)}</title></text>${chipShapes(card, left + width)}
-    ${card.rows.map((row, i) => rowShape(card, row, i, left, width, now?.rule)).join('')}${empty}</g>`;
+  const name = cut(card.name, width - 36 - (card.below ? 0 : chipsWidth(card.chips)));
+  const rows = card.rows.map((row, i) => rowShape(card, row, i, left, width, now?.rule)).join('');
+  const empty = `<text class="none" x="${left + 12}" y="${card.y + card.head + 15}">${cut('no rule: every event is a violation', width - 20)}</text>`;
+  return `<g class="${kinds.join(' ')}">${frames(card, left, width)}<text class="name" x="${left + 12}" y="${card.y + 23}">${here ? '● ' : ''}${
+    escaped(name)}<title>${escaped(card.name)}</title></text>${chipShapes(card, left + width)}${rows || empty}</g>`;
 }
 
-const HEADS = ['head', 'head-lit', 'head-unused'].map((id) => `<marker id="${id}" viewBox="0 0 8 8" refX="7" refY="4" markerWidth="8" markerHeight="8" orient="auto-start-reverse"><path d="M0 0.5 L8 4 L0 7.5 z"/></marker>`).join('');
+const HEADS = ['head', 'head-lit', 'head-unused'].map((id) => `<marker id="${id}" viewBox="0 0 8 8" refX="7" refY="4" markerWidth="8" markerHeight="8"
+  orient="auto-start-reverse"><path d="M0 0.5 L8 4 L0 7.5 z"/></marker>`).join('');
 
 /** What a screen reader is told of the drawing. */
 function spoken(named, cards, now) {

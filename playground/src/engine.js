@@ -5,7 +5,7 @@ import { readEvents } from './events.js';
 import { joinedClauses } from './joining.js';
 import { namedClause, namedJoin, namesInText } from './naming.js';
 
-export const READINGS = [1, 2];
+const READINGS = [1, 2];
 const HOPELESS = 11;
 
 /** Scratch for the second engine and for reasons, as long as the largest policy needs. */
@@ -289,6 +289,6 @@ function withPulse(station, event, pulses) {
 }
 
 /** The state before a tick, of the states after each. */
-export function stateBefore(states, tick) {
+function stateBefore(states, tick) {
   return tick === 0 ? new Uint16Array(STATE_NUMBERS) : states.subarray((tick - 1) * STATE_NUMBERS, tick * STATE_NUMBERS);
 }

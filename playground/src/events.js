@@ -2,7 +2,7 @@
 // With a meter, `@65530` is its register in this tick and `@+10` its advance; a line with the register alone, before all ticks, is the first reading.
 
 const NONE_ON = '-';
-export const MOST_TICKS = 1000000;
+const MOST_TICKS = 1000000;
 const REGISTER_SIZE = 65536;
 
 class Wrong extends Error {}
@@ -87,8 +87,8 @@ function laid(pieces, ticks, metered, first) {
 }
 
 /** An event as words. */
-export function eventWords(event, signals, letters = false) {
-  const on = signals.filter(({ bit }) => event & bit).map(({ tag, name }) => (letters ? tag : name));
+function eventWords(event, signals) {
+  const on = signals.filter(({ bit }) => event & bit).map(({ name }) => name);
   return on.join(' ') || NONE_ON;
 }
 

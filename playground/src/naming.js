@@ -62,6 +62,3 @@ export function namedJoin(clauses, file, places) {
     lineOf: () => 0,
   };
 }
-
-/** The names of the signals that are on in an event. */
-export const namesOn = (named, event) => named.signals.filter(({ bit }) => event & bit).map(({ name }) => name);

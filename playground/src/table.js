@@ -45,7 +45,7 @@ function alike({ read, released, states, reasons }, one, other) {
 }
 
 /** Ticks in a row that are alike in all that is shown, as one. */
-export function groupsOf(records, onlyEdited) {
+function groupsOf(records, onlyEdited) {
   const [first] = records;
   const groups = [];
   let last = null;
@@ -59,6 +59,34 @@ export function groupsOf(records, onlyEdited) {
     else groups.push((last = { from: tick, to: tick, edited }));
   }
   return groups;
+}
+
+const cell = (name, html, kind = '') => `<td role="cell" data-name="${name}" class="${kind}">${html}</td>`;
+
+function releasedCell({ reading, named, read, released }, tick, both) {
+  const name = both ? `released, reading ${reading}` : 'released';
+  return cell(name, signalsShown(named, read[tick], released[tick]), read[tick] === released[tick] ? '' : 'edited');
+}
+
+function headOf(records) {
+  const both = records.length > 1;
+  const released = records.map(({ reading }) => (both ? `Released, reading ${reading}` : 'Released'));
+  return ['Tick', 'Read', ...released, both ? 'Then, reading 1' : 'Then', 'Why'];
+}
+
+/** The tick that was refused, behind those that were not. */
+function refusedRows(records, columns) {
+  return records.filter(({ refusal }) => refusal).map(({ refusal, done, reading }) => {
+    const lead = records.length > 1 ? `Reading ${reading}: r` : 'R';
+    const words = `${lead}efused ${refusal}: ${escaped(refusalWords(refusal))}. The ticks behind it are not played.`;
+    return `<tr role="row"><th role="rowheader" scope="row">${amount(done + 1)}</th><td role="cell" colspan="${columns - 1}" class="wrong">${words}</td></tr>`;
+  }).join('');
+}
+
+function editedIn({ read, released, done }) {
+  let count = 0;
+  for (let tick = 0; tick < done; tick++) if (read[tick] !== released[tick]) count++;
+  return count;
 }
 
 export class TickTable {
@@ -92,44 +120,47 @@ export class TickTable {
   /** `records` has for each reading shown its number, its record with reasons, and the names. */
   show(shown) {
     this.shown = shown;
-    const { records, clauses, chosen } = shown;
+    const { records } = shown;
     this.groups = groupsOf(records, this.onlyEdited);
     const last = Math.max(0, Math.ceil(this.groups.length / ROWS) - 1);
     const page = Math.min(this.page ?? last, last);
-    const rows = this.groups.slice(page * ROWS, (page + 1) * ROWS).map((group) => this.row(group, records, clauses, chosen));
-    const both = records.length > 1;
-    const head = ['Tick', 'Read', ...records.map(({ reading }) => (both ? `Released, reading ${reading}` : 'Released')), both ? 'Then, reading 1' : 'Then', 'Why'];
-    putInto(this.root, `${this.tools(records, last, page)}<div class="wide"><table role="table"><thead role="rowgroup"><tr role="row">${head.map((word) => `<th role="columnheader" scope="col">${word}</th>`).join('')}</tr></thead>
-      <tbody role="rowgroup">${rows.join('') + this.refused(records, head.length, page === last) || `<tr role="row"><td role="cell" colspan="${head.length}" class="none">${this.onlyEdited ? 'No tick was edited.' : 'No tick yet. Set the switches and press One tick.'}</td></tr>`}</tbody></table></div>`);
+    const head = headOf(records);
+    const rows = this.groups.slice(page * ROWS, (page + 1) * ROWS).map((group) => this.row(group, shown)).join('');
+    const refused = page === last ? refusedRows(records, head.length) : '';
+    putInto(this.root, `${this.tools(records, last, page)}<div class="wide"><table role="table">
+      <thead role="rowgroup"><tr role="row">${head.map((word) => `<th role="columnheader" scope="col">${word}</th>`).join('')}</tr></thead>
+      <tbody role="rowgroup">${rows + refused || this.noRow(head.length)}</tbody></table></div>`);
   }
 
-  /** The tick that was refused, behind those that were not. */
-  refused(records, columns, atEnd) {
-    return records.filter(({ refusal }) => refusal && atEnd).map(({ refusal, done, reading }) => `<tr role="row"><th role="rowheader" scope="row">${amount(done + 1)}</th><td role="cell" colspan="${columns - 1}" class="wrong">${records.length > 1 ? `Reading ${reading}: r` : 'R'}efused ${refusal}: ${escaped(refusalWords(refusal))}. The ticks behind it are not played.</td></tr>`).join('');
+  noRow(columns) {
+    const words = this.onlyEdited ? 'No tick was edited.' : 'No tick yet. Set the switches and press One tick.';
+    return `<tr role="row"><td role="cell" colspan="${columns}" class="none">${words}</td></tr>`;
   }
 
   tools(records, last, page) {
-    const [{ done }] = records;
-    const edited = records.map(({ read, released, done: ticks }) => {
-      let count = 0;
-      for (let tick = 0; tick < ticks; tick++) count += read[tick] === released[tick] ? 0 : 1;
-      return count;
-    });
-    const words = `${plural(done, 'tick')}, ${edited.map((count, i) => `${amount(count)} edited${records.length > 1 ? ` under reading ${records[i].reading}` : ''}`).join(', ')}`;
+    const edited = records.map((record) => `${amount(editedIn(record))} edited${records.length > 1 ? ` under reading ${record.reading}` : ''}`);
+    const words = `${plural(records[0].done, 'tick')}, ${edited.join(', ')}`;
     const turn = (where, label, off) => `<button type="button" data-page="${where}" ${off ? 'disabled' : ''}>${label}</button>`;
-    const pages = last > 0 ? `<span class="pages">${turn('first', 'First', page === 0)}${turn('earlier', 'Earlier', page === 0)}<span>page ${page + 1} of ${last + 1}</span>${turn('later', 'Later', page === last)}${turn('last', 'Last', page === last)}</span>` : '';
-    return `<p class="tools"><span>${words}</span><label><input type="checkbox" name="edited" ${this.onlyEdited ? 'checked' : ''}> edited ticks only</label>${pages}</p>`;
+    const back = turn('first', 'First', page === 0) + turn('earlier', 'Earlier', page === 0);
+    const on = turn('later', 'Later', page === last) + turn('last', 'Last', page === last);
+    const pages = last > 0 ? `<span class="pages">${back}<span>page ${page + 1} of ${last + 1}</span>${on}</span>` : '';
+    const only = `<label><input type="checkbox" name="edited" ${this.onlyEdited ? 'checked' : ''}> edited ticks only</label>`;
+    return `<p class="tools"><span>${words}</span>${only}${pages}</p>`;
   }
 
-  row(group, records, clauses, chosen) {
+  row(group, { records, clauses, chosen }) {
     const { from, to, edited } = group;
-    const [first] = records;
-    const label = from === to ? `${amount(from + 1)}` : `${amount(from + 1)} to ${amount(to + 1)}`;
+    const [{ named, read, states }] = records;
     const here = chosen !== null && chosen >= from && chosen <= to;
-    const cell = (name, html, kind = '') => `<td role="cell" data-name="${name}" class="${kind}">${html}</td>`;
-    const released = records.map(({ reading, named, read, released: out }) => cell(records.length > 1 ? `released, reading ${reading}` : 'released', signalsShown(named, read[from], out[from]), read[from] === out[from] ? '' : 'edited'));
-    return `<tr role="row" class="${edited ? 'edited' : ''}${here ? ' chosen' : ''}"><th role="rowheader" scope="row"><button type="button" data-tick="${to}" aria-pressed="${here}" title="Show this tick in the drawing and the waves">${label}</button></th>
-      ${cell('read', eventShown(first.named, first.read[from]))}${released.join('')}${cell('then', stateShown(first.named, first.states, to))}${cell('why', this.why(group, records, clauses), 'why')}</tr>`;
+    const label = from === to ? amount(from + 1) : `${amount(from + 1)} to ${amount(to + 1)}`;
+    const button = `<button type="button" data-tick="${to}" aria-pressed="${here}" title="Show this tick in the drawing and the waves">${label}</button>`;
+    const cells = [
+      cell('read', eventShown(named, read[from])),
+      ...records.map((record) => releasedCell(record, from, records.length > 1)),
+      cell('then', stateShown(named, states, to)),
+      cell('why', this.why(group, records, clauses), 'why'),
+    ];
+    return `<tr role="row" class="${edited ? 'edited' : ''}${here ? ' chosen' : ''}"><th role="rowheader" scope="row">${button}</th>${cells.join('')}</tr>`;
   }
 
   /** The sentences of a row, for each reading in which it was edited. */

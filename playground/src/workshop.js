@@ -84,7 +84,7 @@ export class Workshop {
     this.current = this.queue.shift();
     const { id, ask, given } = this.current;
     this.current.since = performance.now();
-    this.current.slow = setTimeout(() => this.noticed(ask), NOTICED);
+    this.current.slow = setTimeout(() => this.noticed(), NOTICED);
     this.worker.postMessage({ id, ask, given });
   }
 
