@@ -677,6 +677,50 @@ def test_word_while_it_works(page, _):
     within("Verdict", page.text("#verdict"), "then the verdict")
 
 
+@contextlib.contextmanager
+def before_each_load(browser, script):
+    """A browser that lacks something."""
+    number = browser.devtools("Page.addScriptToEvaluateOnNewDocument", source=script)["identifier"]
+    try:
+        yield
+    finally:
+        browser.devtools("Page.removeScriptToEvaluateOnNewDocument", identifier=number)
+
+
+def test_without_workers(page, _):
+    with before_each_load(page.browser, "delete window.Worker"):
+        page.open()
+        page.browser.reload()
+        page.idle()
+        within("Verdict 0.", page.text("#verdict"), "verdict")
+        page.sample("D:")
+        same(page.record(2)[1], "01 00 00 10 00", "reading 2")
+        page.write(TEXT, VALVE + "x")
+        within("Line 12: refused 31", page.text("#wrong"), "a wrong line")
+
+
+def test_without_a_store(page, _):
+    with before_each_load(page.browser, "Object.defineProperty(window, 'localStorage', { get() { throw new Error('forbidden'); } })"):
+        page.browser.reload()
+        page.idle()
+        page.write(TEXT, VALVE)
+        within("keeps nothing", page.text("#said"), "that nothing is kept is said")
+        within("Verdict 0.", page.text("#verdict"), "verdict")
+        time.sleep(1)
+        page.browser.reload()
+        page.idle()
+        same(page.browser.value(TEXT), VALVE, "the address alone carries it over a reload")
+
+
+def test_hostile_texts(page, _):
+    bad = "# <img src=x onerror=\"console.error('run')\"> & </textarea><script>console.error('run')</script>\n"
+    page.write(TEXT, bad + VALVE)
+    page.click("#clauses [data-add]")
+    page.write(EVENTS, "<b>C</b>\n")
+    within("no signal <b>C</b>", page.text("#events-wrong"), "signs as they are")
+    same(page.browser.run("return document.querySelectorAll('img, #text script, #clauses b').length"), 0, "what was typed is never taken for markup")
+
+
 REPLAY = """
 const done = arguments[arguments.length - 1];
 const bytes = (words) => Uint8Array.from(atob(words), (letter) => letter.charCodeAt(0));
