@@ -79,6 +79,11 @@ class Page {
     on('try-part', 'change', (event) => event.target.name === 'reading' && this.change({ reading: event.target.value }));
     on('try-part', 'keydown', (event) => this.keyed(event));
     for (const id of ['inputs', 'outputs']) on(id, 'click', (event) => this.flip(event.target.closest('button')?.dataset.bit));
+    // The address belongs to the policy: the link only moves the focus.
+    on('skip', 'click', (event) => {
+      event.preventDefault();
+      byId('text-heading').focus();
+    });
     addEventListener('resize', () => {
       if (this.measure()) this.showTried();
     });

@@ -514,6 +514,10 @@ def test_by_keyboard(page, _):
     page.write(EVENTS, "")
     browser.reload()
     page.idle()
+    browser.press(Keys.TAB, Keys.ENTER)
+    same(browser.run("return document.activeElement.id + location.hash.slice(0, 3)"), "text-heading#p=", "the first link leads to the policy, and the address stays")
+    browser.reload()
+    page.idle()
     seen = []
     for _ in range(60):
         browser.press(Keys.TAB)
