@@ -362,6 +362,14 @@ def check_wave(block, library):
     hold(block.where, written == "\n".join(block.lines) + "\n", f"it is\n{written}")
 
 
+def sample_named(block):
+    """The file of the sample of the scope that the line before a block names, as in **S**, ..:"""
+    with open("independent/src/samples.rs", encoding="utf-8") as file:
+        samples = dict(re.findall(r'pub const (\w): &str = "([0-9A-F\s\\]+)";', file.read()))
+    name = re.match(r"\*\*([A-Z])\*\*, ", block.before)
+    return bytes.fromhex(samples[name.group(1)].replace("\\", "")) if name else None
+
+
 def check_page(page, shell, library, crates, outputs, files):
     blocks = blocks_of(page)
     texts = []
@@ -374,6 +382,8 @@ def check_page(page, shell, library, crates, outputs, files):
                 printed = following
         elif block.is_hex():
             hold(block.where, block.bytes() in files or not files, "no sample and no file that a program leaves has these bytes")
+        elif block.is_policy_text() and sample_named(block):
+            hold(block.where, b"".join(draft_of_block(block).sections()) == sample_named(block), "this text gives another file than the sample")
         elif block.is_policy_text():
             texts.append(b"".join(draft_of_block(block).sections()))
             hold(block.where, texts[-1] == texts[0], "this text gives another file than the first of the page")
