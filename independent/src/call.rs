@@ -35,6 +35,14 @@ impl Call {
         basis
     }
 
+    /// The text to be read, of a wave or of a policy.
+    fn text(&self) -> Option<&[u8]> {
+        self.given().iter().find_map(|(name, given)| match given {
+            Given::Bytes(text) if *name == "text" => Some(&text[..]),
+            _ => None,
+        })
+    }
+
     /// The same call under another reading, if it takes one.
     pub fn under(mut self, other: u8) -> Call {
         if self.reading().is_some() {

@@ -9,6 +9,7 @@ mod halves;
 mod indexes;
 mod joins;
 mod meter;
+mod texts;
 mod times;
 mod waves;
 mod why;
@@ -26,6 +27,7 @@ use halves::{around_edits, input_call, output_call, run_call};
 use indexes::{index_call, indexed_call};
 use joins::around_join;
 use meter::around_meter;
+use texts::around_text;
 use times::around_ticks;
 use waves::around_wave;
 use why::{around_reasons, why_call, why_run_call};
@@ -46,6 +48,13 @@ pub fn group(seed: u64, number: u64) -> Vec<Call> {
         112..=117 => around_meter(&mut random),
         _ => around_engines(&mut random),
     }
+}
+
+/// Texts `number` of `seed`, which are drawn apart from the groups; always the
+/// same.
+pub fn texts(seed: u64, number: u64) -> Vec<Call> {
+    let mut random = Random::for_group(!seed, number);
+    around_text(&mut random)
 }
 
 fn around_policy(random: &mut Random) -> Vec<Call> {
@@ -107,6 +116,11 @@ pub fn refusals_of(function: &str) -> Vec<usize> {
         "wave_read" => &[14, 21],
         "index" => &[14],
         "input_indexed" | "output_indexed" => &[10, 15, 16, 17, 22, 28],
+        "text_read" => return vec![0, 2, 4, 7, 9, 14, 30, 31, 32, 33, 34],
+        "text_write" => &[14],
+        name if name.starts_with("text_") => {
+            return vec![0, 2, 4, 7, 9, 30, 31, 32, 33, 34, 35];
+        }
         "bays_new" => return vec![0, 25],
         "meter_new" => return vec![0, 14],
         "meter_input" => &[10, 15, 16, 17, 22, 26],
@@ -137,7 +151,7 @@ mod tests {
     fn every_function_meets_every_refusal_it_has() {
         let mut seen = [[0; LAST_REFUSAL + 1]; FUNCTIONS.len()];
         for number in 0..6_000 {
-            for call in group(9, number) {
+            for call in [group(9, number), texts(9, number)].concat() {
                 let refusal = refusal_in(call.make(&mut Model).answer);
                 seen[call.kind()][usize::from(refusal)] += 1;
             }

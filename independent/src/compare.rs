@@ -28,14 +28,10 @@ pub fn compare(
 ) -> Result<(), String> {
     while goes_on(tally.groups) {
         let number = tally.groups;
-        for (place, call) in cases::group(seed, number).iter().enumerate() {
-            if trace {
-                eprintln!("group {number} call {place}");
-            }
-            compare_call(engine, call, tally).map_err(|difference| {
-                format!("seed {seed} group {number} call {place}\n{difference}")
-            })?;
-        }
+        compare_calls(engine, &cases::group(seed, number), tally, |place| {
+            announced(trace, format!("seed {seed} group {number} call {place}"))
+        })?;
+        compare_texts(engine, seed, number, trace, tally)?;
         if number.is_multiple_of(GROUPS_FOR_A_LAW_CASE) {
             if trace {
                 eprintln!("laws {number}");
@@ -53,6 +49,41 @@ pub fn compare(
         tally.groups += 1;
     }
     Ok(())
+}
+
+/// The texts `number`.
+pub fn compare_texts(
+    engine: &mut dyn Engine,
+    seed: u64,
+    number: u64,
+    trace: bool,
+    tally: &mut Tally,
+) -> Result<(), String> {
+    compare_calls(engine, &cases::texts(seed, number), tally, |place| {
+        announced(trace, format!("seed {seed} texts {number} call {place}"))
+    })
+}
+
+/// `named` says which call it is, at this place in the list.
+fn compare_calls(
+    engine: &mut dyn Engine,
+    calls: &[Call],
+    tally: &mut Tally,
+    named: impl Fn(usize) -> String,
+) -> Result<(), String> {
+    for (place, call) in calls.iter().enumerate() {
+        let name = named(place);
+        compare_call(engine, call, tally).map_err(|difference| format!("{name}\n{difference}"))?;
+    }
+    Ok(())
+}
+
+/// What is about to be done, which a trace tells at once.
+fn announced(trace: bool, what: String) -> String {
+    if trace {
+        eprintln!("{what}");
+    }
+    what
 }
 
 fn compare_call(engine: &mut dyn Engine, call: &Call, tally: &mut Tally) -> Result<(), String> {

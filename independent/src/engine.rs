@@ -11,6 +11,7 @@ use crate::join;
 use crate::meter::{self, Lent};
 use crate::parse;
 use crate::refusal::Refusal;
+use crate::text::{self, Failure, Sought};
 use crate::ticks::{self, Rounding};
 use crate::waves;
 use crate::why::{self, Told};
@@ -84,6 +85,17 @@ pub trait Engine {
 
     /// refusal | events explained << 8
     fn why_run(&mut self, basis: Basis, state: &mut [u16], events: &[u8], told: Told) -> u64;
+
+    /// refusal | line << 8 | length << 40
+    fn text_read(&mut self, text: &[u8], file: &mut [u8]) -> u64;
+
+    /// refusal | length << 8
+    fn text_write(&mut self, file: &[u8], text: &mut [u8]) -> u64;
+
+    /// Of a rule: refusal | line << 8. Of a name: refusal | where << 8 |
+    /// length << 40, where being the line with a refusal, and else the byte
+    /// where the name begins.
+    fn text_place(&mut self, sought: Sought, text: &[u8], number: u32) -> u64;
 
     /// Whether, since this was last asked, a byte was changed that was not
     /// lent for writing.
@@ -214,6 +226,24 @@ impl Engine for Model {
     fn why_run(&mut self, basis: Basis, state: &mut [u16], events: &[u8], told: Told) -> u64 {
         packed(why::why_run(basis, state, events, told).map(|count| count as u64))
     }
+
+    fn text_read(&mut self, read: &[u8], file: &mut [u8]) -> u64 {
+        match text::read(read, file) {
+            Ok(length) => (length as u64) << 40,
+            Err(failure) => failed(failure),
+        }
+    }
+
+    fn text_write(&mut self, file: &[u8], written: &mut [u8]) -> u64 {
+        packed(text::write(file, written).map(|length| length as u64))
+    }
+
+    fn text_place(&mut self, sought: Sought, read: &[u8], number: u32) -> u64 {
+        match text::place(sought, read, number) {
+            Ok((place, length)) => (place as u64) << 8 | (length as u64) << 40,
+            Err(failure) => failed(failure),
+        }
+    }
 }
 
 /// Of both prepares.
@@ -225,6 +255,11 @@ fn prepared(result: Result<enforce::Prepared, Refusal>) -> u64 {
         }
         Err(refusal) => u64::from(refusal.number()),
     }
+}
+
+/// Of a text that is refused.
+fn failed(failure: Failure) -> u64 {
+    u64::from(failure.refusal.number()) | (failure.line as u64) << 8
 }
 
 /// Of a function that finds nothing.

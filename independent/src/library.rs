@@ -8,6 +8,7 @@ use crate::engine::Engine;
 use crate::groovepawn::*;
 use crate::index::Indexed;
 use crate::meter;
+use crate::text::Sought;
 use crate::why::Told;
 
 const GUARD: usize = 16;
@@ -237,6 +238,23 @@ impl Engine for Library {
         let [a, b, c, d, e] = work.each_mut().map(Vec::as_mut_slice);
         ask!(self.groovepawn_why_run[reading]
             [file, marks, state, events, reasons, ticks, rests, prepared, a, b, c, d, e][])
+    }
+
+    fn text_read(&mut self, text: &[u8], file: &mut [u8]) -> u64 {
+        ask!(self.groovepawn_text_read[][text, file][])
+    }
+
+    fn text_write(&mut self, file: &[u8], text: &mut [u8]) -> u64 {
+        ask!(self.groovepawn_text_write[][file, text][])
+    }
+
+    fn text_place(&mut self, sought: Sought, text: &[u8], number: u32) -> u64 {
+        match sought {
+            Sought::LineOfRule => ask!(self.groovepawn_text_line_of_rule[][text][number]),
+            Sought::NameOfSignal => ask!(self.groovepawn_text_name_of_signal[][text][number]),
+            Sought::NameOfClock => ask!(self.groovepawn_text_name_of_clock[][text][number]),
+            Sought::NameOfLocation => ask!(self.groovepawn_text_name_of_location[][text][number]),
+        }
     }
 
     fn strayed(&mut self) -> bool {

@@ -15,6 +15,7 @@ mod graph;
 #[cfg(feature = "library")]
 #[path = "../../include/groovepawn.rs"]
 mod groovepawn;
+mod handwriting;
 mod hex;
 mod index;
 mod join;
@@ -35,6 +36,7 @@ mod samples;
 mod selfcheck;
 mod spoil;
 mod subject;
+mod text;
 mod ticks;
 mod vectors;
 mod waves;
@@ -53,6 +55,7 @@ const USAGE: &str = "usage:
   independent selfcheck
   independent compare SECONDS SEED [trace]   (needs the feature `library`)
   independent rehearse SECONDS SEED
+  independent texts COUNT SEED   (of the library, with the feature `library`)
   independent program enforce|wave|why|clean SECONDS SEED WORD...   (the words run it)
   independent prints enforce|wave|why [READING] < INPUT
   independent show SEED GROUP
@@ -74,6 +77,7 @@ fn perform(words: &[&str]) -> Result<(), String> {
         ["rehearse", seconds, seed] => {
             compare_engine(&mut Model, number(seconds)?, number(seed)?, false)
         }
+        ["texts", count, seed] => compare_texts(number(count)?, number(seed)?),
         ["program", name, seconds, seed, ref words @ ..] => {
             compare_program(name, words, number(seconds)?, number(seed)?)
         }
@@ -148,11 +152,27 @@ fn compare_engine(
     }
 }
 
+/// Of the library where there is one, and else of the model.
+fn compare_texts(count: u64, seed: u64) -> Result<(), String> {
+    #[cfg(feature = "library")]
+    let engine = &mut library::Library::default();
+    #[cfg(not(feature = "library"))]
+    let engine = &mut Model;
+    let mut tally = Tally::default();
+    while tally.texts() < count {
+        compare::compare_texts(engine, seed, tally.groups, false, &mut tally)?;
+        tally.groups += 1;
+    }
+    print!("texts {}\n{}", tally.texts(), tally.answers());
+    println!("no difference");
+    Ok(())
+}
+
 fn compare_program(name: &str, words: &[&str], seconds: u64, seed: u64) -> Result<(), String> {
     let began = Instant::now();
     let goes_on = |_| began.elapsed() < Duration::from_secs(seconds);
     let (runs, refused) = match name {
-        "clean" => program::clean::compare(words, seed, goes_on)?,
+        "clean" => program::folder::compare(&program::clean::TOPIC, words, seed, goes_on)?,
         _ => program::compare(program(name)?, words, seed, goes_on)?,
     };
     println!("{runs} runs, of which refused {refused}; no difference");
@@ -160,8 +180,13 @@ fn compare_program(name: &str, words: &[&str], seconds: u64, seed: u64) -> Resul
 }
 
 fn show(seed: u64, group: u64) -> Result<(), String> {
-    for (place, call) in cases::group(seed, group).iter().enumerate() {
-        print!("call {place}\n{call}model:\n{}", call.make(&mut Model));
+    for (title, calls) in [
+        ("call", cases::group(seed, group)),
+        ("texts, call", cases::texts(seed, group)),
+    ] {
+        for (place, call) in calls.iter().enumerate() {
+            print!("{title} {place}\n{call}model:\n{}", call.make(&mut Model));
+        }
     }
     println!("laws\n{}", laws::case(seed, group).describe());
     Ok(())

@@ -3,6 +3,7 @@
 //! program `clean` does with files is in `program/clean`.
 
 pub mod clean;
+pub mod folder;
 mod inputs;
 mod ran;
 mod run;

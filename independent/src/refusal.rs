@@ -32,9 +32,15 @@ pub enum Refusal {
     TotalTooLarge = 27,
     WrongIndex = 28,
     TooManyEvents = 29,
+    BadWord = 30,
+    BadName = 31,
+    NumberTooLarge = 32,
+    TooMany = 33,
+    FallingLocation = 34,
+    NoneOfThisNumber = 35,
 }
 
-pub const LAST_REFUSAL: usize = 29;
+pub const LAST_REFUSAL: usize = 35;
 
 impl Refusal {
     pub fn number(self) -> u8 {

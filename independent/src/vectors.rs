@@ -18,6 +18,10 @@ pub const MAGIC: [u8; 4] = *b"GPV2";
 
 /// A random call whose record is longer than this is left out.
 const LONGEST_RECORD: usize = 700;
+/// The same of a call about a text.
+const LONGEST_TEXT_RECORD: usize = 300;
+/// So many random calls about texts are stored.
+const TEXTS: usize = 5;
 /// No record is added once the file has this length.
 const LONGEST_FILE: usize = 295_000;
 /// The longest that a policy, unpacked, may be, and the slice for a join.
@@ -33,14 +37,18 @@ const LONGEST_TOTALS: usize = 4;
 /// The most reasons of a run.
 const LONGEST_REASONS: usize = 40;
 
-/// Those written by hand, then `count` random ones as far as they fit.
+/// Those written by hand, then `count` random ones and some about texts, as far
+/// as they fit.
 pub fn vectors(count: usize, seed: u64) -> Vec<u8> {
-    let mut records: Vec<Vec<u8>> = written::all()
+    let mut records: Vec<Vec<u8>> = written::stored()
         .iter()
         .map(|written| record(&written.call, &written.expected))
         .collect();
     let mut length: usize = MAGIC.len() + 4 + records.iter().map(Vec::len).sum::<usize>();
-    for (call, outcome) in chosen(seed).take(count) {
+    let calls = chosen(seed)
+        .take(count)
+        .chain(chosen_texts(seed).take(TEXTS));
+    for (call, outcome) in calls {
         let record = record(&call, &outcome);
         length += record.len();
         if length > LONGEST_FILE {
@@ -54,9 +62,22 @@ pub fn vectors(count: usize, seed: u64) -> Vec<u8> {
 /// Random calls without end, short ones only, and no answer much more often
 /// than others.
 pub fn chosen(seed: u64) -> impl Iterator<Item = (Call, Outcome)> {
+    let calls = (0..).flat_map(move |number| cases::group(seed, number));
+    chosen_of(calls, LONGEST_RECORD)
+}
+
+/// The same of texts.
+pub fn chosen_texts(seed: u64) -> impl Iterator<Item = (Call, Outcome)> {
+    let calls = (0..).flat_map(move |number| cases::texts(seed, number));
+    chosen_of(calls, LONGEST_TEXT_RECORD)
+}
+
+fn chosen_of(
+    calls: impl Iterator<Item = Call>,
+    longest: usize,
+) -> impl Iterator<Item = (Call, Outcome)> {
     let mut taken = 0;
     let mut answers = [[0; LAST_REFUSAL + 1]; FUNCTIONS.len()];
-    let calls = (0..).flat_map(move |number| cases::group(seed, number));
     calls.filter_map(move |call| {
         let outcome = call.make(&mut Model);
         let refusal = usize::from(refusal_in(outcome.answer));
@@ -66,7 +87,7 @@ pub fn chosen(seed: u64) -> impl Iterator<Item = (Call, Outcome)> {
         if *seen > 2 + taken / share {
             return None;
         }
-        let short = record(&call, &outcome).len() <= LONGEST_RECORD && strings_fit(&call);
+        let short = record(&call, &outcome).len() <= longest && strings_fit(&call);
         if !short {
             return None;
         }
@@ -116,8 +137,8 @@ mod tests {
     fn stored_calls_are_read_and_hold() {
         let file = vectors(500, 6);
         assert!(file.len() < 300_000, "{}", file.len());
-        let written = written::all().len();
-        assert_eq!(replay(&file, &mut Model), Ok(written + 500));
+        let written = written::stored().len();
+        assert_eq!(replay(&file, &mut Model), Ok(written + 500 + TEXTS));
         let records = read(&file).expect("just written");
         assert!(records.iter().all(|(call, _)| strings_fit(call)));
     }
@@ -130,7 +151,13 @@ mod tests {
             seen[call.kind()][usize::from(refusal_in(outcome.answer))] = true;
         }
         for (function, seen) in FUNCTIONS.iter().zip(seen) {
-            for number in cases::refusals_of(function) {
+            // Where a text is asked for a place, it is read as the reader reads it.
+            let place = function.starts_with("text_line") || function.starts_with("text_name");
+            let possible = match place {
+                true => vec![0, 30, 35],
+                false => cases::refusals_of(function),
+            };
+            for number in possible {
                 assert!(seen[number], "{function} {number}");
             }
         }

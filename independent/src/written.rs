@@ -14,6 +14,7 @@ mod leaving;
 mod meter;
 mod readings;
 mod runs;
+mod texts;
 mod times;
 mod waves;
 mod why;
@@ -70,6 +71,15 @@ impl Written {
 }
 
 pub fn all() -> Vec<Written> {
+    with_texts(texts::all())
+}
+
+/// Those that are stored: of the texts, some.
+pub fn stored() -> Vec<Written> {
+    with_texts(texts::stored())
+}
+
+fn with_texts(texts: Vec<Written>) -> Vec<Written> {
     [
         files::all(),
         halves::all(),
@@ -88,6 +98,7 @@ pub fn all() -> Vec<Written> {
         check::all(),
         wrong_files::all(),
         times::all(),
+        texts,
         waves::all(),
     ]
     .concat()

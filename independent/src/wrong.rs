@@ -1,11 +1,12 @@
 //! Stored calls with wrong outcomes, each wrong in one place: a program that
 //! compares must notice every one of them.
 
-use crate::call::{Outcome, FUNCTIONS};
+use crate::call::{Call, Outcome, FUNCTIONS};
 use crate::engine::refusal_in;
 use crate::random::Random;
 use crate::vectors::{
-    chosen, file_of, record, writes_bytes, writes_list, writes_reasons, writes_state, writes_totals,
+    chosen, chosen_texts, file_of, record, writes_bytes, writes_list, writes_reasons, writes_state,
+    writes_totals,
 };
 
 /// A call whose record is longer than this is left out.
@@ -78,21 +79,24 @@ fn ways() -> impl Iterator<Item = (usize, Part)> {
 /// `each` records for every way, calls that are refused and others by turns.
 pub fn wrong(each: usize, seed: u64) -> Vec<u8> {
     let mut random = Random::new(seed);
-    let mut calls = chosen(seed);
+    let (mut calls, mut texts) = (chosen(seed), chosen_texts(seed));
     let mut records = Vec::new();
     for (kind, part) in ways() {
         for turn in 0..each {
             // A refused call leaves alone most of what was lent to it, and a
             // change there must be noticed as well.
             let refused = turn % 2 == 1;
-            let (call, mut outcome) = calls
-                .find(|(call, outcome)| {
-                    call.kind() == kind
-                        && (refusal_in(outcome.answer) != 0) == refused
-                        && part.places(outcome) > 0
-                        && record(call, outcome).len() <= LONGEST_RECORD
-                })
-                .expect("random calls have no end");
+            let fits = |(call, outcome): &(Call, Outcome)| {
+                call.kind() == kind
+                    && (refusal_in(outcome.answer) != 0) == refused
+                    && part.places(outcome) > 0
+                    && record(call, outcome).len() <= LONGEST_RECORD
+            };
+            let found = match FUNCTIONS[kind].starts_with("text_") {
+                true => texts.find(fits),
+                false => calls.find(fits),
+            };
+            let (call, mut outcome) = found.expect("random calls have no end");
             let last = part.places(&outcome) - 1;
             let place = match turn {
                 0 => 0,
@@ -200,6 +204,14 @@ mod tests {
             "why_run Answer",
             "why_run State",
             "why_run Reasons",
+            "text_read Answer",
+            "text_read Bytes",
+            "text_write Answer",
+            "text_write Bytes",
+            "text_line_of_rule Answer",
+            "text_name_of_signal Answer",
+            "text_name_of_clock Answer",
+            "text_name_of_location Answer",
         ];
         assert_eq!(named, expected);
     }
@@ -208,7 +220,7 @@ mod tests {
     fn the_file_is_short() {
         for seed in 0..10 {
             let file = wrong(4, seed);
-            assert!(file.len() <= 50_000, "{}", file.len());
+            assert!(file.len() <= 55_000, "{}", file.len());
         }
     }
 }

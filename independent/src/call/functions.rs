@@ -90,6 +90,12 @@ calls! {
         reading Byte, file Policy, marks Bytes, state Numbers before,
         events Bytes, reasons Longs before, ticks Table, rests Table,
         prepared Bytes, work Work;
+    TextRead "text_read": text Bytes, file Policy before;
+    TextWrite "text_write": file Policy, text Bytes before;
+    TextLineOfRule "text_line_of_rule": text Bytes, number Word;
+    TextNameOfSignal "text_name_of_signal": text Bytes, number Word;
+    TextNameOfClock "text_name_of_clock": text Bytes, number Word;
+    TextNameOfLocation "text_name_of_location": text Bytes, number Word;
 }
 
 /// Declares the kinds of what a function is given: as it stands in a call, as
@@ -118,7 +124,7 @@ kinds! {
     Word: u32;
     /// A policy, or the slice for one.
     Policy: Vec<u8>;
-    /// Marks, events, the text of a wave, or a slice for them.
+    /// Marks, events, the text of a wave or of a policy, or a slice for them.
     Bytes: Vec<u8>;
     /// A state, or what else is lent as numbers of 16 bits.
     Numbers: Vec<u16>;

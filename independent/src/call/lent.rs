@@ -12,6 +12,8 @@ impl Call {
             Call::WaveWrite { text, .. } => text,
             Call::WaveRead { events, .. } => events,
             Call::Clean { cleaned, .. } => cleaned,
+            Call::TextRead { file, .. } => file,
+            Call::TextWrite { text, .. } => text,
             _ => &[],
         }
     }

@@ -2,6 +2,7 @@
 
 use super::Call;
 use crate::engine::Engine;
+use crate::text::Sought;
 use crate::why::Told;
 
 /// An answer and the later contents of what was lent for writing.
@@ -9,8 +10,8 @@ use crate::why::Told;
 pub struct Outcome {
     pub answer: u64,
     /// The marks of both prepares, the released events of run, the file of join,
-    /// the text of the wave writer, the events of its reader, the cleaned file;
-    /// otherwise empty.
+    /// the text of the wave writer, the events of its reader, the cleaned file,
+    /// the file of a text, the text of a file; otherwise empty.
     pub bytes: Vec<u8>,
     /// The state of output and both runs, the index, the states of the bays, the
     /// station of a meter; otherwise empty.
@@ -94,6 +95,20 @@ impl Call {
                     work: &mut work.clone(),
                 };
                 engine.why_run(basis, &mut numbers, events, told)
+            }
+            Call::TextRead { text, .. } => engine.text_read(text, &mut bytes),
+            Call::TextWrite { .. } => engine.text_write(file, &mut bytes),
+            Call::TextLineOfRule { text, number } => {
+                engine.text_place(Sought::LineOfRule, text, *number)
+            }
+            Call::TextNameOfSignal { text, number } => {
+                engine.text_place(Sought::NameOfSignal, text, *number)
+            }
+            Call::TextNameOfClock { text, number } => {
+                engine.text_place(Sought::NameOfClock, text, *number)
+            }
+            Call::TextNameOfLocation { text, number } => {
+                engine.text_place(Sought::NameOfLocation, text, *number)
             }
         };
         Outcome {

@@ -26,7 +26,7 @@ impl fmt::Display for Call {
                 }
             }
         }
-        if let Call::WaveRead { text, .. } = self {
+        if let Some(text) = self.text() {
             writeln!(out, "text in letters {:?}", String::from_utf8_lossy(text))?;
         }
         Ok(())

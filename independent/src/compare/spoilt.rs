@@ -10,6 +10,7 @@ mod indexes;
 mod joins;
 mod meter;
 mod seen;
+mod texts;
 mod waves;
 mod why;
 
@@ -18,6 +19,7 @@ use crate::call::Work;
 use crate::engine::{Engine, Model};
 use crate::index::Indexed;
 use crate::meter::Lent;
+use crate::text::Sought;
 use crate::why::Told;
 pub use faults::{Fault, FAULTS};
 
@@ -63,6 +65,9 @@ impl Engine for Spoilt {
         clean::clean(reading: u8, file: &[u8], cleaned: &mut [u8], struck: &mut [u8]);
         why::why(basis: Basis, state: &[u16], x: u8, y: u8);
         why::why_run(basis: Basis, state: &mut [u16], events: &[u8], told: Told);
+        texts::text_read(text: &[u8], file: &mut [u8]);
+        texts::text_write(file: &[u8], text: &mut [u8]);
+        texts::text_place(sought: Sought, text: &[u8], number: u32);
     }
 
     fn ticks(&mut self, milliseconds: u32, tick_length: u32, up: u8) -> u64 {

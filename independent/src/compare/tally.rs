@@ -6,7 +6,7 @@ use crate::engine::{found_in, refusal_in};
 use crate::laws::LawTally;
 use crate::meter::transfers::MeterTally;
 use crate::reading::READINGS;
-use crate::refusal::LAST_REFUSAL;
+use std::collections::BTreeMap;
 use std::fmt;
 
 /// What has been compared so far.
@@ -14,8 +14,8 @@ use std::fmt;
 pub struct Tally {
     pub groups: u64,
     pub calls: u64,
-    /// For each function and each refusal, 0 for none.
-    pub answers: [[u64; LAST_REFUSAL + 1]; FUNCTIONS.len()],
+    /// How often each function gave each refusal, 0 for none.
+    pub answers: BTreeMap<(usize, u8), u64>,
     /// Events that successful runs released otherwise than they were given.
     pub edited: u64,
     pub forwarded: u64,
@@ -32,9 +32,9 @@ pub struct Tally {
 
 impl Tally {
     pub fn count(&mut self, call: &Call, answer: u64, bytes: &[u8]) {
-        let refusal = usize::from(refusal_in(answer));
+        let refusal = refusal_in(answer);
         self.calls += 1;
-        self.answers[call.kind()][refusal] += 1;
+        *self.answers.entry((call.kind(), refusal)).or_default() += 1;
         for (reading, calls) in READINGS.iter().zip(&mut self.readings) {
             *calls += u64::from(call.reading() == Some(reading.number()));
         }
@@ -57,17 +57,37 @@ impl Tally {
     }
 }
 
+impl Tally {
+    /// How many texts of policies have been read.
+    pub fn texts(&self) -> u64 {
+        let read = FUNCTIONS.iter().position(|&name| name == "text_read");
+        let of_reader = |((kind, _), count): (&(usize, u8), &u64)| match Some(*kind) == read {
+            true => *count,
+            false => 0,
+        };
+        self.answers.iter().map(of_reader).sum()
+    }
+
+    /// What the functions that were called gave.
+    pub fn answers(&self) -> String {
+        let mut lines = "answers as refusal:count, 0 for none\n".to_string();
+        for (kind, name) in FUNCTIONS.iter().enumerate() {
+            let given = self.answers.range((kind, 0)..(kind + 1, 0));
+            let words: Vec<String> = given
+                .map(|((_, refusal), count)| format!("{refusal}:{count}"))
+                .collect();
+            if !words.is_empty() {
+                lines += &format!("  {name} {}\n", words.join(" "));
+            }
+        }
+        lines
+    }
+}
+
 impl fmt::Display for Tally {
     fn fmt(&self, out: &mut fmt::Formatter) -> fmt::Result {
         writeln!(out, "groups {} calls {}", self.groups, self.calls)?;
-        writeln!(out, "answers as refusal:count, 0 for none")?;
-        for (name, counts) in FUNCTIONS.iter().zip(&self.answers) {
-            let seen = counts.iter().enumerate().filter(|(_, &count)| count > 0);
-            let words: Vec<String> = seen
-                .map(|(number, count)| format!("{number}:{count}"))
-                .collect();
-            writeln!(out, "  {name} {}", words.join(" "))?;
-        }
+        write!(out, "{}", self.answers())?;
         writeln!(
             out,
             "under reading 1: {}, under reading 2: {}",

@@ -1,8 +1,9 @@
 //! Which parts of an outcome a record has, by the kind of its call.
 
-/// Both prepares, run, join, both functions of waves and clean.
+/// Both prepares, run, join, both functions of waves, clean, and the reader and
+/// the writer of texts.
 pub fn writes_bytes(kind: usize) -> bool {
-    [0, 3, 4, 6, 7, 17, 18].contains(&kind)
+    [0, 3, 4, 6, 7, 17, 18, 22, 23].contains(&kind)
 }
 
 /// Clean.

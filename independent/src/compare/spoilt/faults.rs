@@ -101,4 +101,24 @@ faults! {
     StateBeforeRoom
     ReasonsPastTheEvents
     EventsBeforeMarks
+    TextLinesFromZero
+    TextLineCutToTwoBytes
+    TextReturnsAreNoBlanks
+    TextSignsNeedBlanks
+    TextCapitalsTaken
+    TextZerosRefused
+    TextNumberWrapped
+    TextLocationNotAgain
+    TextStatesBeforeLines
+    TextOpenHighIsANumber
+    TextFileOnRefusal
+    TextPastTheFile
+    TextOutputsFirst
+    TextLowOfNothing
+    TextEveryLocationNamed
+    TextWithoutParagraphs
+    TextRulesFromOne
+    TextLetterIsAName
+    TextNumberCutToOneByte
+    TextNumberBeforeText
 }
