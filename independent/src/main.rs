@@ -56,7 +56,7 @@ const USAGE: &str = "usage:
   independent compare SECONDS SEED [trace]   (needs the feature `library`)
   independent rehearse SECONDS SEED
   independent texts COUNT SEED   (of the library, with the feature `library`)
-  independent program enforce|wave|why|clean SECONDS SEED WORD...   (the words run it)
+  independent program enforce|wave|why|clean|compile|show SECONDS SEED WORD...   (the words run it)
   independent prints enforce|wave|why [READING] < INPUT
   independent show SEED GROUP
   independent vectors COUNT SEED > FILE
@@ -173,6 +173,8 @@ fn compare_program(name: &str, words: &[&str], seconds: u64, seed: u64) -> Resul
     let goes_on = |_| began.elapsed() < Duration::from_secs(seconds);
     let (runs, refused) = match name {
         "clean" => program::folder::compare(&program::clean::TOPIC, words, seed, goes_on)?,
+        "compile" => program::folder::compare(&program::texts::COMPILE, words, seed, goes_on)?,
+        "show" => program::folder::compare(&program::texts::SHOW, words, seed, goes_on)?,
         _ => program::compare(program(name)?, words, seed, goes_on)?,
     };
     println!("{runs} runs, of which refused {refused}; no difference");

@@ -1,12 +1,14 @@
 //! What the programs `enforce`, `wave` and `why` print for an input, by the
 //! paper, and a comparison of a program with that on random inputs. What the
-//! program `clean` does with files is in `program/clean`.
+//! programs `clean`, `compile` and `show` do with files is in `program/clean` and
+//! `program/texts`.
 
 pub mod clean;
 pub mod folder;
 mod inputs;
 mod ran;
 mod run;
+pub mod texts;
 mod words;
 
 use crate::hex::hex;
