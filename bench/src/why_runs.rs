@@ -52,7 +52,7 @@ fn stream(ready: &Ready) -> (Vec<u8>, usize) {
     let mut events = Vec::new();
     for place in 0..EVENTS {
         let wanted = place % APART == APART - 1;
-        let all = (0..16).map(|event: u8| (event + place as u8) % 16);
+        let all = (0..16).map(|event: u8| event.wrapping_add(place as u8) % 16);
         let mut all = all.map(|event| event & 3 | (event >> 2) << 4);
         let first = all.clone().next().expect("there are sixteen");
         let event = all
