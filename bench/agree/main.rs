@@ -12,12 +12,14 @@ mod model {
     pub mod call;
     pub mod cases;
     pub mod clean;
+    #[allow(dead_code)]
     pub mod compare;
     pub mod damage;
     pub mod enforce;
     pub mod engine;
     pub mod events;
     pub mod graph;
+    pub mod handwriting;
     #[allow(dead_code)]
     pub mod hex;
     pub mod index;
@@ -30,10 +32,12 @@ mod model {
     pub mod policy;
     pub mod random;
     pub mod reading;
+    #[allow(dead_code)]
     pub mod refusal;
     pub mod rules;
     pub mod spoil;
     pub mod subject;
+    pub mod text;
     pub mod ticks;
     pub mod waves;
     pub mod why;
@@ -52,6 +56,7 @@ use meter::Lent;
 // The modules of the model name each other from the root.
 use model::*;
 use std::process::ExitCode;
+use text::Sought;
 use why::Told;
 
 const USAGE: &str = "usage: agree GROUPS SEED\n       agree cleanings";
@@ -113,6 +118,8 @@ impl Engine for Side<'_> {
         join(a: &[u8], b: &[u8], out: &mut [u8]);
         wave_write(file: &[u8], events: &[u8], text: &mut [u8]);
         wave_read(file: &[u8], text: &[u8], events: &mut [u8]);
+        text_read(text: &[u8], file: &mut [u8]);
+        text_write(file: &[u8], text: &mut [u8]);
     }
 
     // What follows is not measured, so no program here has any of it.
@@ -132,5 +139,6 @@ impl Engine for Side<'_> {
         clean(reading: u8, file: &[u8], cleaned: &mut [u8], struck: &mut [u8]);
         why(basis: Basis, state: &[u16], x: u8, y: u8);
         why_run(basis: Basis, state: &mut [u16], events: &[u8], told: Told);
+        text_place(sought: Sought, text: &[u8], number: u32);
     }
 }

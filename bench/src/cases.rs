@@ -4,6 +4,7 @@ use crate::cleanings::CLEANED;
 use crate::file::Policy;
 use crate::policies;
 use crate::streams::{Edits, Stream, Wave, STREAMS, WAVES};
+use crate::texts::{Text, TEXTS};
 use crate::work::{CallWork, CleanWork, HalfWork, Work};
 
 /// Long enough that the one check of the file is a small part of a run, and
@@ -91,10 +92,30 @@ pub fn all() -> Vec<Case> {
         join("the largest", policies::largest_pair()),
     ];
     let waves = WAVES.iter().flat_map(|wave| [write(wave), read(wave)]);
+    let written = [
+        case(
+            "text writer",
+            "small",
+            CallWork::text_write(&policies::short()),
+        ),
+        case(
+            "text writer",
+            "the largest",
+            CallWork::text_write(&policies::long()),
+        ),
+        case(
+            "text writer",
+            "no room for the last byte",
+            CallWork::text_write_refused(&policies::long()),
+        ),
+    ];
+    let texts = TEXTS.iter().map(read_text);
     runs.chain(halves)
         .chain(prepares)
         .chain(joins)
         .chain(waves)
+        .chain(written)
+        .chain(texts)
         .collect()
 }
 
@@ -136,6 +157,10 @@ fn write(wave: &Wave) -> Case {
 fn read(wave: &Wave) -> Case {
     let work = CallWork::wave_read(&policies::short(), wave.events(TICKS));
     case("wave reader, an event", wave.name, work)
+}
+
+fn read_text(text: &Text) -> Case {
+    case("text reader", text.name, CallWork::text_read(text.bytes()))
 }
 
 fn case(function: &str, what: &str, work: impl Work + 'static) -> Case {
@@ -194,15 +219,26 @@ mod tests {
         fn wave_read(&self, _: &[u8], _: &[u8], _: &mut [u8]) -> u64 {
             NOTHING_DONE
         }
+
+        fn text_read(&self, _: &[u8], _: &mut [u8]) -> u64 {
+            NOTHING_DONE
+        }
+
+        fn text_write(&self, _: &[u8], _: &mut [u8]) -> u64 {
+            NOTHING_DONE
+        }
     }
 
-    /// But for the policy all of whose states die: it has its marks and the
-    /// refusal 11.
+    /// But for the policy all of whose states die, which has its marks and the
+    /// refusal 11, and for what says so.
     #[test]
-    fn nothing_measured_is_refused() {
+    fn nothing_else_that_is_measured_is_refused() {
         for mut case in all() {
             let expected = match case.name.as_str() {
                 "prepare: all die" => 11,
+                "text writer: no room for the last byte" => 14,
+                "text reader: refused in the last line" => 31,
+                "text reader: refused in the first line" => 30,
                 _ => 0,
             };
             let outcome = outcome_of(case.work.as_mut(), &Plain);

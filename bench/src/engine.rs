@@ -31,6 +31,12 @@ pub trait Engine {
 
     /// refusal | events << 8
     fn wave_read(&self, file: &[u8], text: &[u8], events: &mut [u8]) -> u64;
+
+    /// refusal | line << 8 | length << 40
+    fn text_read(&self, text: &[u8], file: &mut [u8]) -> u64;
+
+    /// refusal | length << 8
+    fn text_write(&self, file: &[u8], text: &mut [u8]) -> u64;
 }
 
 /// The refusal in an answer; 0 for none.
@@ -38,7 +44,8 @@ pub fn refusal_in(answer: u64) -> u8 {
     answer as u8
 }
 
-/// What stands above the refusal in an answer of all functions but prepare.
+/// What stands above the refusal in an answer of all functions but prepare and
+/// the reader of texts.
 pub fn found_in(answer: u64) -> usize {
     (answer >> 8) as usize
 }
@@ -85,6 +92,17 @@ impl Engine for Plain {
 
     fn wave_read(&self, file: &[u8], text: &[u8], events: &mut [u8]) -> u64 {
         packed(plain::wave_read(file, text, events).map(|count| count as u64))
+    }
+
+    fn text_read(&self, text: &[u8], file: &mut [u8]) -> u64 {
+        match plain::text_read(text, file) {
+            Ok(length) => (length as u64) << 40,
+            Err((refusal, line)) => u64::from(refusal.number()) | (line as u64) << 8,
+        }
+    }
+
+    fn text_write(&self, file: &[u8], text: &mut [u8]) -> u64 {
+        packed(plain::text_write(file, text).map(|length| length as u64))
     }
 }
 

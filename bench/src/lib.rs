@@ -28,6 +28,7 @@ mod random;
 mod ready;
 pub mod report;
 pub mod streams;
+pub mod texts;
 pub mod why_runs;
 pub mod whys;
 pub mod work;

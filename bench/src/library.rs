@@ -85,6 +85,14 @@ impl Engine for Library {
     fn wave_read(&self, file: &[u8], text: &[u8], events: &mut [u8]) -> u64 {
         ask!(groovepawn_wave_read[][file, text, events][])
     }
+
+    fn text_read(&self, text: &[u8], file: &mut [u8]) -> u64 {
+        ask!(groovepawn_text_read[][text, file][])
+    }
+
+    fn text_write(&self, file: &[u8], text: &mut [u8]) -> u64 {
+        ask!(groovepawn_text_write[][file, text][])
+    }
 }
 
 /// The second engine of prepare.

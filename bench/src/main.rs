@@ -17,7 +17,8 @@ fn main() -> ExitCode {
 
 fn perform(words: &[&str]) -> Result<(), String> {
     match *words {
-        [] => measure_all(),
+        [] => measure_all(""),
+        ["rows", beginning] => measure_all(beginning),
         ["engines"] => compare_engines(""),
         ["engines", policy] => compare_engines(policy),
         ["indexed"] => compare_indexed(),
@@ -50,7 +51,7 @@ fn usage() -> String {
     let policies = PREPARED.iter().chain(&CLEANED);
     let policies: Vec<&str> = policies.map(|policy| policy.name).collect();
     format!(
-        "usage:\n  bench\n  bench engines [POLICY]\n  bench indexed\n  bench why [POLICY]\n  bench why_run\n  bench instructions plain|library TICKS [STREAM]\n  \
+        "usage:\n  bench\n  bench rows BEGINNING\n  bench engines [POLICY]\n  bench indexed\n  bench why [POLICY]\n  bench why_run\n  bench instructions plain|library TICKS [STREAM]\n  \
          bench instructions plain|library CALLS STREAM input|output\n  \
          bench instructions plain|library CALLS WAVE write|read\n  \
          bench instructions plain|library CALLS POLICY prepare\n  \
@@ -106,14 +107,16 @@ fn compare_why_run() -> Result<(), String> {
     Ok(())
 }
 
-fn measure_all() -> Result<(), String> {
+/// The rows whose names begin so.
+fn measure_all(beginning: &str) -> Result<(), String> {
     let (name, second) = second_side();
     if name == "plain" {
         println!("built without the library: the plain program against itself\n");
     }
     println!("{}", report::heading(name));
     let maker = Maker::new();
-    for mut case in cases::all() {
+    let rows = cases::all().into_iter();
+    for mut case in rows.filter(|case| case.name.starts_with(beginning)) {
         let mut sides: Vec<&dyn Engine> = vec![&Plain, second];
         if case.limit.is_some() {
             sides.push(&maker);

@@ -103,6 +103,14 @@ impl Engine for Maker {
     fn wave_read(&self, file: &[u8], text: &[u8], events: &mut [u8]) -> u64 {
         Plain.wave_read(file, text, events)
     }
+
+    fn text_read(&self, text: &[u8], file: &mut [u8]) -> u64 {
+        Plain.text_read(text, file)
+    }
+
+    fn text_write(&self, file: &[u8], text: &mut [u8]) -> u64 {
+        Plain.text_write(file, text)
+    }
 }
 
 fn packed(result: Result<u64, Refusal>) -> u64 {

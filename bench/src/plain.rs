@@ -19,6 +19,7 @@ mod refusal;
 mod rule;
 mod sets;
 mod state;
+mod texts;
 mod waves;
 
 #[cfg(test)]
@@ -28,4 +29,5 @@ pub use enforcer::{input, output, run, RunEnd};
 pub use join::join;
 pub use prepare::{prepare, Prepared};
 pub use refusal::Refusal;
+pub use texts::{text_read, text_write};
 pub use waves::{wave_read, wave_write};

@@ -8,7 +8,7 @@ mod run;
 
 use crate::engine::{Engine, State};
 
-pub use call::CallWork;
+pub use call::{text_of, CallWork};
 pub use clean::CleanWork;
 pub use halves::HalfWork;
 pub use run::RunWork;

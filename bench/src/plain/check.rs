@@ -110,7 +110,7 @@ fn check_locations(bytes: &[u8]) -> Result<(), Refusal> {
 }
 
 /// At most 64 x 1,002^4, which fits.
-fn count_states(locations: usize, ceilings: &[u16; MAX_CLOCKS]) -> usize {
+pub fn count_states(locations: usize, ceilings: &[u16; MAX_CLOCKS]) -> usize {
     ceilings.iter().fold(locations, |states, &ceiling| {
         states * (usize::from(ceiling) + 1)
     })

@@ -8,6 +8,17 @@ use crate::file::{Policy, LONGEST_FILE, MOST_STATES};
 /// change at each.
 const LONGEST_TEXT: usize = 497_013;
 
+/// More than any text of a policy has that is written.
+const LONGEST_POLICY_TEXT: usize = 39_420;
+
+/// The text of a policy as the plain program writes it.
+pub fn text_of(policy: &Policy) -> Vec<u8> {
+    let mut text = vec![FILLER; LONGEST_POLICY_TEXT];
+    let length = found_in(Plain.text_write(&policy.encode(), &mut text));
+    text.truncate(length);
+    text
+}
+
 pub struct CallWork {
     units: usize,
     ask: Box<Ask>,
@@ -59,6 +70,28 @@ impl CallWork {
         let ask =
             move |engine: &dyn Engine, events: &mut [u8]| engine.wave_read(&file, &text, events);
         CallWork::new(units, units, Box::new(ask))
+    }
+
+    /// The text of a policy.
+    pub fn text_write(policy: &Policy) -> CallWork {
+        CallWork::text_write_into(policy, LONGEST_POLICY_TEXT)
+    }
+
+    /// The same where there is a byte of room too few.
+    pub fn text_write_refused(policy: &Policy) -> CallWork {
+        CallWork::text_write_into(policy, text_of(policy).len() - 1)
+    }
+
+    fn text_write_into(policy: &Policy, room: usize) -> CallWork {
+        let file = policy.encode();
+        let ask = move |engine: &dyn Engine, text: &mut [u8]| engine.text_write(&file, text);
+        CallWork::new(1, room, Box::new(ask))
+    }
+
+    /// The file of a text.
+    pub fn text_read(text: Vec<u8>) -> CallWork {
+        let ask = move |engine: &dyn Engine, file: &mut [u8]| engine.text_read(&text, file);
+        CallWork::new(1, LONGEST_FILE, Box::new(ask))
     }
 
     pub fn call(&mut self, engine: &dyn Engine) -> u64 {
