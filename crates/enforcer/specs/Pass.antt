@@ -127,6 +127,12 @@ module _ (s : Place) (p : Policy) (marks : List ℕ) where
   pub went-as : {r : Rule} {n m : ℕ} {left rest : List ℕ} {found t : Bool} → n ≡ m → found ≡ t → Went r n left rest found → Went r m left rest t
   went-as {r} {n} {left = left} {rest = rest} {t = t} e d w = subst (λ (k : ℕ). Went r k left rest t) e (subst (λ (b : Bool). Went r n left rest b) d w)
 
+  pub went-not : {r : Rule} {n : ℕ} {left rest : List ℕ} → Took (looked stopped p s) r n left rest false → Went r n left rest false
+  went-not k = record { changed = k .changed; says = rw (← k .says) }
+
+  pub went-took : {r : Rule} {n : ℕ} {left rest : List ℕ} {found : Bool} → Took (looked stopped p s) r n left rest true → found ≡ leads s p marks r → Went r n left rest found
+  went-took k e = record { changed = k .changed; says = rw (← k .says) e }
+
   -- What the rule r takes of the first n sets; and it is found, if the rule leads to a marked place.
   pub record Gathers (r : Rule) (n : ℕ) (left rest found more : List ℕ) : Type 0 where
     pub taken : Changed (λ x. bitXor (getD left x 0) (takes (looked stopped p s) r x (getD left x 0))) n left rest
@@ -288,7 +294,7 @@ module _ (s : Place) (p : Policy) where
   turned-as {r} {left = left} {rest = rest} {some = some} {to = to} e w = subst (λ (k : ℕ). RuleTurned r k left rest some to) e w
 
   pub turned-not : {r : Rule} {n : ℕ} {left rest : List ℕ} → Took (looked stopped p s) r n left rest false → RuleTurned r n left rest false 0
-  turned-not k = record { went = λ marks. record { changed = k .changed; says = rw (← k .says) }; below = λ q. absurd (false≢true q); nowhere = λ q. refl }
+  turned-not k = record { went = λ marks. went-not s p marks k; below = λ q. absurd (false≢true q); nowhere = λ q. refl }
 
   pub turned-took : {r : Rule} {n : ℕ} {left rest : List ℕ} {some : Bool} {to : ℕ} → Took (looked stopped p s) r n left rest true → Led r some to → RuleTurned r n left rest some to
   turned-took k w = record { went = λ marks. record { changed = k .changed; says = rw (← k .says, w .mark marks) }; below = w .below; nowhere = w .nowhere }

@@ -154,3 +154,14 @@ pub(crate) fn reaches(
         DecidedBy::At(at) => leads(file, layout, marks, state, at),
     }
 }
+
+// The event 0, 0 takes the state to a marked one. Only prepare asks this, so that the compiler lays it into the loop over the states.
+pub(crate) fn idles(file: &[u8], layout: Layout, here: Here, marks: &[u8], state: State) -> bool
+    requires { ⌜ Ready (now file) layout here (now marks) state ⌝ }
+    ensures { λ r. ⌜ r ≡ reaches (policyOf (layout .reading) (now (file .entry))) (now (marks .entry)) (place (layout .clocks) state) 0 0 ⌝ }
+{
+    match rule_of(file, layout, here, state, 0, 0) {
+        DecidedBy::Nothing => false,
+        DecidedBy::At(at) => leads(file, layout, marks, state, at),
+    }
+}

@@ -1,8 +1,8 @@
 // What a rule takes of what the rules before it left, and where it leads with that.
 use crate::lead::To;
 use crate::lead::held;
-use crate::lead::is_marked;
 use crate::lead::kept;
+use crate::lead::leads;
 use crate::lead::next_of;
 use crate::reach::Here;
 use crate::state::State;
@@ -117,7 +117,7 @@ pub fn way_by(
     next_of(file, layout, state, at)
 }
 
-// Takes what the rule at `at` takes, and says whether that is something and the rule leads to a marked state.
+// Takes what the rule at `at` takes, and says whether that is something and the rule leads to a marked state. Prepare asks this of every rule of every state: it is written out, as `gather_by` is, so that the compiler lays it into the loop there and copies nothing for it.
 pub(crate) fn go_by(
     file: &[u8],
     layout: Layout,
@@ -131,8 +131,17 @@ pub(crate) fn go_by(
     requires { ⌜ Ready (now file) layout here (now marks) state × RuleAt (now file) layout (state .location) at × (inputs ≤ 16) × (length (now left) ≡ 16) ⌝ }
     ensures { λ r. ⌜ Went (place (layout .clocks) state) (policyOf (layout .reading) (now (file .entry))) (now (marks .entry)) (ruleFrom (layout .clocks) (now (file .entry)) at) inputs (now (left .entry)) (now (left .exit)) r ⌝ }
 {
-    let to = way_by(file, layout, here, state, inputs, left, at);
-    is_marked(marks, to)
+    if !held(file, layout, here, state, at) {
+        return false;
+    }
+    let care = byte_within(file, at + 1);
+    let value = byte_within(file, at + 2);
+    let set = outs(byte_within(file, at + 3), byte_within(file, at + 4));
+    if !is_left(left, inputs, care, value, set) {
+        return false;
+    }
+    take(left, inputs, care, value, set);
+    leads(file, layout, marks, state, at)
 }
 
 // What the rule at `at` takes of what is left with x.

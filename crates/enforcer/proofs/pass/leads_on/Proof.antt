@@ -33,12 +33,12 @@ counted c =
     let k = c .before .before .before .before .before .before .pre .standing .laid in
     (rw (c .before .values .ensures) (laid-inputs k), rw (c .values2 .ensures) (laid-outputs k))
 
-reaches-requires : tie.Need-reaches-requires Inv-loop μ-loop
-reaches-requires c κs = c .before .before .pre
+idles-requires : tie.Need-idles-requires Inv-loop μ-loop
+idles-requires c κs = c .before .before .pre
 
 returns : tie.Need-returns Inv-loop μ-loop
 unfolding mayStand
-returns c = sym (some-has _ _ 0 (pow-pos _) (some-has _ _ 0 (pow-pos _) (sym (c .before .reaches .ensures) ∙ c .if1 .taken)))
+returns c = sym (some-has _ _ 0 (pow-pos _) (some-has _ _ 0 (pow-pos _) (sym (c .before .idles .ensures) ∙ c .if1 .taken)))
 
 values-requires : tie.Need-values-requires Inv-loop μ-loop
 values-requires c κs = omega (arith, laid-limits (c .before .before .before .before .pre .standing .laid))
@@ -122,7 +122,7 @@ leads-on-spec =
     (tie.spec
     Inv-loop
     μ-loop
-    reaches-requires
+    idles-requires
     returns
     values-requires
     values-requires-2
