@@ -20,7 +20,7 @@ use Rattle.enforcer.specs.Tick.{mayStand}
 use Rattle.choice.specs.Sets.{agreed, cond-same, has, has-or, has-some, has-not-empty, allBelow}
 use Rattle.choice.specs.Outs.{outs}
 use Rattle.enforcer.specs.Ways.{room, holds, takes, leads, gathered, allowed}
-use Rattle.enforcer.specs.WaysLaws.{gathered-keeps, gathered-own, allowed-any}
+use Rattle.enforcer.specs.WaysLaws.{gathered-keeps, gathered-empty, gathered-own, allowed-any}
 use Rattle.choice.specs.Changed.{Changed, changed-one, changed-by, changed-not}
 
 -- No number below n passes if none does.
@@ -224,24 +224,12 @@ module _ (s : Place) (p : Policy) (marks : List ℕ) where
 
   -- After the last rule.
   pub gathering-done : {found left : List ℕ} → Gathering [] left found → (x : ℕ) → getD found x 0 ≡ allowed p marks s x
-  unfolding gathered allowed takes
+  unfolding gathered allowed
   gathering-done {found} {left} g x = go (ltb x (inputValues p)) refl
     where
       go : (t : Bool) → ltb x (inputValues p) ≡ t → getD found x 0 ≡ allowed p marks s x
       go true e = sym (g .within x (ltb-true _ _ e))
-      go false e = g .past x (ltb-false _ _ e) ∙ sym (rw e (empty (p .rules)))
-        where
-          takes-none : (r : Rule) → takes (looked stopped p s) r x 0 ≡ 0
-          takes-none r = cases (holds (looked stopped p s) r) (eqb (bitAnd x (r .inCare)) (r .inValue))
-            where
-              cases : (a b : Bool) → cond a (cond b (bitAnd 0 (outs (r .outCare) (r .outValue))) 0) 0 ≡ 0
-              cases true true = refl
-              cases true false = refl
-              cases false b = refl
-
-          empty : (rs : List Rule) → gathered s p marks rs x 0 0 ≡ 0
-          empty [] = refl
-          empty (r ∷ rs) = rw (takes-none r) (ap (gathered s p marks rs x 0) (cond-same (leads s p marks r) 0) ∙ empty rs)
+      go false e = g .past x (ltb-false _ _ e) ∙ sym (rw e (gathered-empty s p marks (p .rules) x 0))
 
   -- Nothing was found: no event leads to a marked place.
   pub gathering-nothing : WellFormed p → {left : List ℕ} → Gathering [] left (replicate 16 0) → someBelow (mayStand p marks s) (inputValues p) ≡ false

@@ -1,4 +1,4 @@
--- One row, x alone, by a pass over the rules: what is known before the first, after each, and after the last.
+-- One row, x alone, by a pass over the rules: what is known before the first, after each, and after the last, or as soon as nothing is left.
 use mathlib.Core.Path.{_≡_, refl, sym, ap, _∙_}
 use mathlib.Core.Bool.{Bool, true, false, cond}
 use mathlib.Core.List.{List, [], _∷_}
@@ -9,7 +9,7 @@ use Rattle.policy.specs.Sound.{WellFormed}
 use Rattle.policy.specs.Own.{own}
 use Rattle.choice.specs.Sets.{allBelow}
 use Rattle.enforcer.specs.Ways.{takes, leads, gathered, row}
-use Rattle.enforcer.specs.WaysLaws.{gathered-own}
+use Rattle.enforcer.specs.WaysLaws.{gathered-empty, gathered-own}
 
 module _ (s : Place) (p : Policy) (marks : List ℕ) (x : ℕ) where
   -- What is known with the rules rs still to come.
@@ -33,3 +33,7 @@ module _ (s : Place) (p : Policy) (marks : List ℕ) (x : ℕ) where
   pub rowing-done : {left found : ℕ} → Rowing [] left found → found ≡ row p marks s x
   unfolding gathered
   rowing-done g = sym (g .is)
+
+  -- With nothing left the rest of the rules need not be looked at.
+  pub rowing-empty : {rs : List Rule} {left found : ℕ} → Rowing rs left found → left ≡ 0 → found ≡ row p marks s x
+  rowing-empty {rs} {found = found} g e = sym (g .is ∙ rw e (gathered-empty s p marks rs x found))

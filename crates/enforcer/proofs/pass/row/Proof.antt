@@ -9,7 +9,7 @@ use Rattle.policy.specs.File.{rulesFrom, policyOf}
 use Rattle.enforcer.specs.State.{place}
 use Rattle.enforcer.specs.Laid.{laid-limits, laid-well, laid-outputs}
 use Rattle.choice.specs.Sets.{allBelow}
-use Rattle.enforcer.specs.Rowing.{Rowing, rowing-start, rowing-more, rowing-done}
+use Rattle.enforcer.specs.Rowing.{Rowing, rowing-start, rowing-more, rowing-empty, rowing-done}
 use Rattle.enforcer.specs.RuleAhead.{Ahead, own-here, own-ahead, laid-short, ahead-first, ahead-rule, ahead-rest, none-ahead}
 use Rattle.enforcer.proofs.pass.row.Statement.{statement}
 use Rattle.enforcer.proofs.pass.row.Tie as tie
@@ -65,9 +65,17 @@ kept-requires c κs =
     let s = c .before .before .before .before .before .before .before .before .before .before in
     (s .pre .standing, ahead-rule (s .pre .standing .laid) (c .before .before .loop .inv .0) (c .before .loop-test .taken))
 
+returns : tie.Need-returns Inv-loop μ-loop
+returns c =
+    let b = c .before in
+    let i = b .before .before in
+    let k = i .before .before .before .before .before .before .before .before .before .pre .standing .laid in
+    let g = i .before .loop .inv in
+    rowing-empty _ _ _ _ (rowing-more _ _ _ _ (rw (ahead-first k (g .0) (i .loop-test .taken)) at (g .1)) (b .before .takes .ensures) (b .kept .ensures)) (c .if1 .taken)
+
 add-at-2 : tie.Need-add-at-2 Inv-loop μ-loop
 add-at-2 c =
-    let i = c .before .before in
+    let i = c .before .before .before in
     let k = i .before .before .before .before .before .before .before .before .before .pre .standing .laid in
     omega (arith, laid-short k, ahead-rest k (i .before .loop .inv .0) (i .loop-test .taken) .ends)
 
@@ -79,14 +87,15 @@ loop-less c = search needs
 
 loop-again : tie.Need-loop-again Inv-loop μ-loop
 loop-again c =
-    let i = c .before .before in
+    let b = c .before in
+    let i = b .before .before in
     let k = i .before .before .before .before .before .before .before .before .before .pre .standing .laid in
     let g = i .before .loop .inv in
     let m = i .loop-test .taken in
-    (ahead-rest k (g .0) m, rowing-more _ _ _ _ (rw (ahead-first k (g .0) m) at (g .1)) (c .before .takes .ensures) (c .kept .ensures))
+    (ahead-rest k (g .0) m, rowing-more _ _ _ _ (rw (ahead-first k (g .0) m) at (g .1)) (b .before .takes .ensures) (b .kept .ensures))
 
-returns : tie.Need-returns Inv-loop μ-loop
-returns c =
+returns-2 : tie.Need-returns-2 Inv-loop μ-loop
+returns-2 c =
     let l = c .before .loop in
     rowing-done _ _ _ _ (rw (none-ahead _ _ _ (l .ahead) (omega arith)) at (l .inv .1))
 
@@ -104,8 +113,9 @@ row-spec =
     loop-holds
     takes-requires
     kept-requires
+    returns
     add-at-2
     sub-ahead
     loop-less
     loop-again
-    returns)
+    returns-2)
