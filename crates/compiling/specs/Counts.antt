@@ -1,7 +1,7 @@
 -- The bytes of a file before its rules, by what the code has of the lines.
-use mathlib.Core.Path.{_≡_, refl, ap, sym, subst, _∙_}
+use mathlib.Core.Path.{_≡_, ap, subst, _∙_}
 use mathlib.Core.List.{List, [], _∷_, _++_, append-assoc}
-use Prim.Native.Nat.{ℕ, zero, suc, _+_, _-_, _*_, _/_, _%_, _≤_, _<_}
+use Prim.Native.Nat.{ℕ, suc, _+_, _-_, _/_, _%_, _≤_, _<_}
 use native.Mathlib.Omega.{arith}
 use lib.ListN.{length, getD, take, drop}
 use lib.Seq.{drop-cons, length-take-le}
@@ -9,9 +9,9 @@ use Rattle.policy.specs.Rules.{Rule}
 use Rattle.policy.specs.Bytes.{pairBytes, pairsBytes, countsBytes}
 use Rattle.texts.specs.Wrote.{Wrote}
 use Rattle.texts.specs.WroteLaws.{wrote-then}
+use Rattle.wording.specs.Words.{Line}
 use Rattle.wording.specs.Reader.{policyFrom}
 use Rattle.declarations.specs.Table.{draftOf, Fit}
-use Rattle.declarations.specs.Fresh.{spans-long}
 use Rattle.declarations.specs.SignalLine.{inputs-long, outputs-long}
 use Rattle.declarations.specs.declared.table.Table.{Table}
 
@@ -23,14 +23,13 @@ countsOf t count =
 pub ceilings-long : {text : List ℕ} {t : Table} → Fit text t → length (take (t .clocks) (t .ceilings)) ≡ t .clocks
 ceilings-long {t = t} f = length-take-le (t .clocks) (t .ceilings) (omega (arith, f .clocks, f .ceilings-long))
 
-pub counts-are : {text : List ℕ} {t : Table} (f : Fit text t) (rules : List Rule) (count : ℕ) → length rules ≡ count →
-    countsBytes (policyFrom 1 (draftOf text t rules)) ≡ countsOf t count
+pub counts-are : {text : List ℕ} {t : Table} (f : Fit text t) (places : Line) (rules : List Rule) (count : ℕ) → length places ≡ t .places → length rules ≡ count →
+    countsBytes (policyFrom 1 (draftOf text places t rules)) ≡ countsOf t count
 unfolding countsBytes policyFrom
-counts-are {text} {t} f rules count e =
-    let a = inputs-long f rules in
-    let b = outputs-long f rules in
+counts-are {t = t} f places rules count d e =
+    let a = inputs-long f in
+    let b = outputs-long f in
     let c = ceilings-long f in
-    let d = spans-long text (t .pstarts) (t .pends) 0 (t .places) in
     (λ i.
     (a i ∷ take (t .inputs) (t .tags)) ++ ((b i ∷ take (t .signals - t .inputs) (drop (t .inputs) (t .tags)))
     ++ ((c i ∷ pairsBytes (take (t .clocks) (t .ceilings))) ++ ((d i ∷ take (t .places) (t .left)) ++ pairBytes (e i)))))

@@ -1,8 +1,8 @@
 -- What the reader answers, for any bytes, and that one answer alone meets it.
 use mathlib.Core.Path.{_≡_, refl, ap, sym, subst, _∙_}
-use mathlib.Core.Bool.{Bool, true, false, cond}
+use mathlib.Core.Bool.{Bool, cond}
 use mathlib.Core.List.{List, _++_}
-use Prim.Native.Nat.{ℕ, zero, suc, _+_, _-_, _*_, _≤_, _<_}
+use Prim.Native.Nat.{ℕ, zero, suc, _+_, _*_, _≤_, _<_}
 use native.Mathlib.Nat.{mul-le-mul}
 use native.Mathlib.Omega.{arith}
 use lib.Dec.{leb}
@@ -10,9 +10,9 @@ use lib.ListN.{length, getD, take, drop, length-append}
 use lib.Seq.{getD-take}
 use borrow.Author.Tests.{le-leb, lt-leb}
 use Rattle.streams.specs.Answer.{_orElse_, unless}
-use Rattle.policy.specs.Rules.{Rule, Policy}
+use Rattle.policy.specs.Rules.{Policy}
 use Rattle.policy.specs.File.{ruleSize}
-use Rattle.policy.specs.Number.{statesOf, values, states}
+use Rattle.policy.specs.Number.{statesOf, states}
 use Rattle.policy.specs.Check.{refusalOf}
 use Rattle.policy.specs.Checked.{ceiling-at}
 use Rattle.policy.specs.Bytes.{bytesOf, countsBytes, rulesBytes}
@@ -24,7 +24,6 @@ use Rattle.wording.specs.Reader.{Draft, empty, FromText, stops, reads, readLine
 use Rattle.wording.specs.Good.{Good, all-good, good-nearly}
 use Rattle.wording.specs.Given.{good-refusal}
 use Rattle.declarations.specs.Table.{draftOf, Fit}
-use Rattle.declarations.specs.Fresh.{spans-long}
 use Rattle.declarations.specs.SignalLine.{inputs-long, outputs-long}
 use Rattle.declarations.specs.declared.table.Table.{Table}
 use Rattle.compiling.specs.Lines.{Held}
@@ -58,15 +57,16 @@ read-one w v = (w .says ∙ sym (v .says), w .writes ∙ sym (v .writes))
 pub record Got (text : List ℕ) (r : Said) : Type 0 where
   pub draft : Draft
   pub lines : readLines 1 empty (linesOf text) ≡ reads draft
-  pub same : draft ≡ draftOf text (r .table) (draft .rules)
+  pub same : draft ≡ draftOf text (draft .places) (r .table) (draft .rules)
   pub many : length (draft .rules) ≡ r .count
+  pub named : length (draft .places) ≡ r .table .places
 
 pub got : {text : List ℕ} {r : Said} → Held text r (readLines 1 empty (linesOf text)) → r .refusal ≡ 0 → Got text r
 got {text} {r} h z = go (readLines 1 empty (linesOf text)) refl h
   where
     go : (x : FromText Draft) → readLines 1 empty (linesOf text) ≡ x → Held text r x → Got text r
     go (stops n line) e k = absurd (omega (arith, k .0, k .2))
-    go (reads d) e k = record { draft = d; lines = e; same = k .1; many = k .2 }
+    go (reads d) e k = record { draft = d; lines = e; same = k .1; many = k .2; named = k .3 }
 
 module _ (text before : List ℕ) where
   promised : {x : FromText (List ℕ)} → fitted before (fileFromText text) ≡ x → {r : ReadText} {after : List ℕ} → r ≡ answered x → after ≡ filled before x → ReadTextPromise text before r after
@@ -94,16 +94,13 @@ module _ (text before : List ℕ) where
     p = policyFrom 1 (g .draft)
 
     abbrev q : Policy
-    q = policyFrom 1 (draftOf text t (g .draft .rules))
+    q = policyFrom 1 (draftOf text (g .draft .places) t (g .draft .rules))
 
     good : Good (g .draft)
     good = all-good (linesOf text) (g .draft) (g .lines)
 
     same-policy : p ≡ q
     same-policy = ap (policyFrom 1) (g .same)
-
-    places-long : length (draftOf text t (g .draft .rules) .places) ≡ t .places
-    places-long = spans-long text (t .pstarts) (t .pends) 0 (t .places)
 
     -- The ceilings are those that the check takes.
     pub ceilings-fit : (i : ℕ) → i < t .clocks → getD (t .ceilings) i 0 ≤ 1001
@@ -130,7 +127,7 @@ module _ (text before : List ℕ) where
     own-is =
         good-refusal (g .draft) good
         ∙ ap (λ (x : Policy). unless (leb 1 (x .locations)) 2 orElse unless (leb (states x) 65536) 9) same-policy
-        ∙ (λ i. unless (leb 1 (places-long i)) 2 orElse unless (leb (statesOf (take (t .clocks) (t .ceilings)) (ceilings-long f i) (places-long i)) 65536) 9)
+        ∙ (λ i. unless (leb 1 (g .named i)) 2 orElse unless (leb (statesOf (take (t .clocks) (t .ceilings)) (ceilings-long f i) (g .named i)) 65536) 9)
         ∙ ap (λ (n : ℕ). unless (leb 1 (t .places)) 2 orElse unless (leb n 65536) 9) (states-taken (t .clocks) (omega arith))
 
     file-is : fileFromText text ≡ passed (refusalOf (bytesOf p)) (bytesOf p)
@@ -145,10 +142,10 @@ module _ (text before : List ℕ) where
     unfolding policyFrom
     file-long =
         let n = nearly-length p (good-nearly 1 (g .draft) good) in
-        let i = ap (λ (x : Policy). length (x .inputs)) same-policy ∙ inputs-long f (g .draft .rules) in
-        let o = ap (λ (x : Policy). length (x .outputs)) same-policy ∙ outputs-long f (g .draft .rules) in
+        let i = ap (λ (x : Policy). length (x .inputs)) same-policy ∙ inputs-long f in
+        let o = ap (λ (x : Policy). length (x .outputs)) same-policy ∙ outputs-long f in
         let c = ap (λ (x : Policy). length (x .ceilings)) same-policy ∙ ceilings-long f in
-        let l = ap (λ (x : Policy). x .locations) same-policy ∙ places-long in
+        let l = ap (λ (x : Policy). x .locations) same-policy ∙ g .named in
         let body : length (p .rules) * ruleSize (length (p .ceilings)) ≡ r .count * (7 + 4 * t .clocks) = (λ j. g .many j * ruleSize (c j)) in
         omega (arith, n, i, o, c, l, body, f .order)
 
@@ -173,14 +170,14 @@ module _ (text before : List ℕ) where
     pub counts-room : fileLength ≤ length before → length (countsOf t (r .count)) + length (rulesBytes (g .draft .rules)) ≤ length before
     unfolding bytesOf policyFrom
     counts-room h =
-        let c = ap (λ (x : Policy). length (countsBytes x)) same-policy ∙ ap length (counts-are f (g .draft .rules) (r .count) (g .many)) in
+        let c = ap (λ (x : Policy). length (countsBytes x)) same-policy ∙ ap length (counts-are f (g .draft .places) (g .draft .rules) (r .count) (g .named) (g .many)) in
         omega (arith, file-long, length-append (countsBytes p) (rulesBytes (g .draft .rules)), c)
 
     pub read-whole : {n : ℕ} → n ≡ ownRefusal → n ≡ 0 → fileLength ≤ length before → {middle after : List ℕ} {from end : ℕ} → Wrote before 0 (countsOf t (r .count)) from middle →
         Wrote middle from (rulesBytes (g .draft .rules)) end after → ReadTextPromise text before (record { refusal = 0; line = 0; length = end }) after
     unfolding bytesOf policyFrom
     read-whole e z h {after = after} {end = end} w v =
-        let c = ap countsBytes same-policy ∙ counts-are f (g .draft .rules) (r .count) (g .many) in
+        let c = ap countsBytes same-policy ∙ counts-are f (g .draft .places) (g .draft .rules) (r .count) (g .named) (g .many) in
         let both : Wrote before 0 (bytesOf p) end after = subst (λ (b : List ℕ). Wrote before 0 (b ++ rulesBytes (g .draft .rules)) end after) (sym c) (wrote-then (omega arith) w v) in
         let y : 0 + length (bytesOf p) ≡ length (bytesOf p) = omega arith in
         let long = both .next ∙ y in

@@ -1,18 +1,17 @@
 -- A rule's line, by what the code has of the lines before it.
 use mathlib.Core.Path.{_≡_, refl, ap, sym, _∙_}
-use mathlib.Core.Bool.{Bool, true, false, cond}
+use mathlib.Core.Bool.{Bool, true, false}
 use mathlib.Core.List.{List, [], _∷_, _++_}
-use mathlib.Core.Option.{Option, none, some}
-use Prim.Native.Nat.{ℕ, zero, suc, _+_, _-_, _≤_, _<_}
+use Prim.Native.Nat.{ℕ, zero, suc, _+_, _≤_, _<_}
 use native.Mathlib.Omega.{arith}
 use lib.Dec.{ltb}
-use lib.ListN.{length, take, drop}
+use lib.ListN.{length, take}
 use lib.Seq.{length-take-le}
 use borrow.Author.Tests.{ltb-true}
-use Rattle.streams.specs.Answer.{Answer, refused, gives, answer, unless, _orElse_}
+use Rattle.streams.specs.Answer.{Answer, gives, answer, unless, _orElse_}
 use Rattle.policy.specs.Rules.{Rule}
 use Rattle.policy.specs.Check.{boundsGood}
-use Rattle.wording.specs.Words.{Word, Line}
+use Rattle.wording.specs.Words.{Line}
 use Rattle.wording.specs.Names.{_andThen_, must, through}
 use Rattle.wording.specs.Reader.{Draft, Begun, Scope, scope, tags, bare, ruleWord, ends, ruleOf, addRule, ruleLine}
 use Rattle.words.specs.Spans.{spans, placeBelow}
@@ -31,31 +30,31 @@ abbrev pub ruleSaid : Table → Parsed → Rule
 ruleSaid t p = ruleBy (t .inputs) (t .source) (begunOf (t .clocks) p)
 
 -- What the lines have said with it.
-abbrev pub ruled : List ℕ → Table → List Rule → Parsed → Draft
-ruled text t rules p = draftOf text (atPlace t (t .source)) (rules ++ (ruleSaid t p ∷ []))
+abbrev pub ruled : List ℕ → Line → Table → List Rule → Parsed → Draft
+ruled text places t rules p = draftOf text places (atPlace t (t .source)) (rules ++ (ruleSaid t p ∷ []))
 
-module _ {text : List ℕ} {t : Table} (f : Fit text t) (rules : List Rule) where
+module _ {text : List ℕ} {t : Table} (f : Fit text t) (places : Line) (rules : List Rule) where
   abbrev d : Draft
-  d = draftOf text t rules
+  d = draftOf text places t rules
 
   pub scope-is :
       {tags′ : List ℕ} → tags′ ≡ take (t .signals) (t .tags) →
-      scopeOf text tags′ (t .starts) (t .ends) (t .cstarts) (t .cends) (t .clocks) (spans text (t .pstarts) (t .pends) 0 (t .places)) ≡ scope d
+      scopeOf text tags′ (t .starts) (t .ends) (t .cstarts) (t .cends) (t .clocks) places ≡ scope d
   scope-is e =
       let long : length (take (t .signals) (t .tags)) ≡ t .signals = length-take-le (t .signals) (t .tags) (omega (arith, f .tags-long, f .outputs, f .inputs)) in
       let size = ap length e ∙ long in
-      let letters = e ∙ sym (tags-whole f rules) in
+      let letters = e ∙ sym (tags-whole f places rules) in
       (λ i. record { letters = letters i; names = spans text (t .starts) (t .ends) 0 (size i); clocks = d .clocks; places = d .places })
 
   clocks-long : length (d .clocks) ≡ t .clocks
   clocks-long = spans-long text (t .cstarts) (t .cends) 0 (t .clocks)
 
   rule-is : (b : Begun) → ruleBy (t .inputs) (t .source) b ≡ ruleOf d (t .source) b
-  rule-is b = ap (λ (n : ℕ). ruleBy n (t .source) b) (sym (inputs-long f rules)) ∙ rule-by d (t .source) b
+  rule-is b = ap (λ (n : ℕ). ruleBy n (t .source) b) (sym (inputs-long f)) ∙ rule-by d (t .source) b
 
-  added : (p : Parsed) → addRule d (ruleOf d (t .source) (begunOf (t .clocks) p)) ≡ ruled text t rules p
+  added : (p : Parsed) → addRule d (ruleOf d (t .source) (begunOf (t .clocks) p)) ≡ ruled text places t rules p
   unfolding addRule
-  added p = ap (λ (r : Rule). draftOf text (atPlace t (t .source)) (rules ++ (r ∷ []))) (sym (rule-is (begunOf (t .clocks) p)))
+  added p = ap (λ (r : Rule). draftOf text places (atPlace t (t .source)) (rules ++ (r ∷ []))) (sym (rule-is (begunOf (t .clocks) p)))
 
   pub rule-nowhere : (l : Line) (x : Draft) → 64 ≤ t .source → answer 30 x ≡ ruleLine d l (placeBelow 64 (t .source))
   unfolding ruleLine
@@ -90,11 +89,11 @@ module _ {text : List ℕ} {t : Table} (f : Fit text t) (rules : List Rule) wher
     pub rule-tested : {q count : ℕ} → s .refusal ≡ 0 → length rules ≡ count →
         q ≡ (unless (ends (begunOf (t .clocks) (s .parsed)) (partOf (s .parsed .part) (s .parsed .clock))) 30
         orElse (unless (boundsGood (take (t .clocks) (t .ceilings)) (boundsOf (t .clocks) (s .parsed .low) (s .parsed .high))) 7 orElse unless (ltb count 256) 33)) →
-        answer q (ruled text t rules (s .parsed)) ≡ ruleLine d l (placeBelow 64 (t .source))
+        answer q (ruled text places t rules (s .parsed)) ≡ ruleLine d l (placeBelow 64 (t .source))
     rule-tested {q} {count} z long e =
         let b = begunOf (t .clocks) (s .parsed) in
-        ap (λ (n : ℕ). answer n (ruled text t rules (s .parsed))) (e ∙ ap (λ (n : ℕ). unless (ends b (b .part)) 30 orElse (unless (boundsGood (d .ceilings) (b .bounds)) 7 orElse unless (ltb n 256) 33)) (sym long))
-        ∙ tests (ends b (b .part)) (boundsGood (d .ceilings) (b .bounds)) (ltb (length rules) 256) (ruled text t rules (s .parsed))
+        ap (λ (n : ℕ). answer n (ruled text places t rules (s .parsed))) (e ∙ ap (λ (n : ℕ). unless (ends b (b .part)) 30 orElse (unless (boundsGood (d .ceilings) (b .bounds)) 7 orElse unless (ltb n 256) 33)) (sym long))
+        ∙ tests (ends b (b .part)) (boundsGood (d .ceilings) (b .bounds)) (ltb (length rules) 256) (ruled text places t rules (s .parsed))
         ∙ ap (λ (x : Draft). must (ends b (b .part)) 30 (must (boundsGood (d .ceilings) (b .bounds)) 7 (must (ltb (length rules) 256) 33 (gives x)))) (sym (added (s .parsed)))
         ∙ ap (λ (n : ℕ). answer n b andThen after) (sym z)
         ∙ sym line-is

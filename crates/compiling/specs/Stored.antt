@@ -2,19 +2,19 @@
 use mathlib.Core.Path.{_≡_, refl, ap, sym, subst, _∙_}
 use mathlib.Core.Bool.{Bool, true, false}
 use mathlib.Core.List.{List, [], _∷_, _++_, append-assoc, append-nil}
-use Prim.Native.Nat.{ℕ, zero, suc, _+_, _-_, _≤_, _<_}
+use Prim.Native.Nat.{ℕ, zero, suc, _+_, _≤_, _<_}
 use native.Mathlib.Omega.{arith}
-use lib.ListN.{length, take, drop, length-append}
+use lib.ListN.{length, drop, length-append}
 use Rattle.streams.specs.Answer.{Answer, refused, gives, answer}
 use Rattle.policy.specs.Rules.{Rule}
 use Rattle.policy.specs.Bytes.{ruleBytes, rulesBytes}
 use Rattle.texts.specs.Wrote.{Wrote}
 use Rattle.texts.specs.WroteLaws.{wrote-none, wrote-then}
 use Rattle.wording.specs.Words.{Line, linesOf}
-use Rattle.wording.specs.Kept.{Keeps, kept}
+use Rattle.wording.specs.Kept.{kept}
 use Rattle.wording.specs.RuleLines.{isRule}
 use Rattle.wording.specs.InOrder.{none-added, one-added, added}
-use Rattle.wording.specs.Reader.{Draft, empty, FromText, stops, reads, proceed, readLine, readLines}
+use Rattle.wording.specs.Reader.{Draft, empty, reads, proceed, readLine, readLines}
 use Rattle.words.specs.Lex.{NextLine}
 use Rattle.declarations.specs.Table.{draftOf}
 use Rattle.declarations.specs.declared.table.Table.{Table}
@@ -78,16 +78,16 @@ with-rule zero rules x = append-nil rules
 with-rule (suc n) rules x = refl
 
 -- Up to `at`, the rules stand from `from` on.
-pub record Storing (text before : List ℕ) (from : ℕ) (t : Table) (count at next : ℕ) (now : List ℕ) : Type 0 where
+pub record Storing (text before : List ℕ) (from : ℕ) (places : Line) (t : Table) (count at next : ℕ) (now : List ℕ) : Type 0 where
   pub rules : List Rule
   pub passed : ℕ
-  pub sofar : Sofar text t rules count passed at
+  pub sofar : Sofar text places t rules count passed at
   pub wrote : Wrote before from (rulesBytes rules) next now
   pub same : length now ≡ length before
 
-pub storing-start : (text before : List ℕ) (from : ℕ) (t : Table) → draftOf text t [] ≡ empty → Storing text before from t 0 0 from before
+pub storing-start : (text before : List ℕ) (from : ℕ) (places : Line) (t : Table) → draftOf text places t [] ≡ empty → Storing text before from places t 0 0 from before
 unfolding rulesBytes
-storing-start text before from t e = record { rules = []; passed = 0; sofar = before-lines text t e; wrote = wrote-none before from; same = refl }
+storing-start text before from places t e = record { rules = []; passed = 0; sofar = before-lines text places t e; wrote = wrote-none before from; same = refl }
 
 -- The text is one that is read, and there is room for its rules.
 abbrev pub Stores : List ℕ → ℕ → ℕ → Type 0
@@ -97,16 +97,16 @@ pub same-draft : (text : List ℕ) {d e : Draft} → readLines 1 empty (linesOf 
 same-draft text {d = d} {e = e} a b = let s : reads d ≡ reads e = sym a ∙ b in (let t : d ≡ e = cc in t)
 
 module _ {text : List ℕ} {d : Draft} (whole : readLines 1 empty (linesOf text) ≡ reads d) {before : List ℕ} {from : ℕ} (room : from + length (rulesBytes (d .rules)) ≤ length before)
-    {t : Table} {count at next : ℕ} {now : List ℕ} (s : Storing text before from t count at next now) where
+    {places : Line} {t : Table} {count at next : ℕ} {now : List ℕ} (s : Storing text before from places t count at next now) where
   pub storing-end : length text ≤ at → Wrote before from (rulesBytes (d .rules)) next now
   storing-end h =
-      let e : reads (draftOf text t (s .rules)) ≡ reads d = sym (lines-end (s .sofar) h) ∙ whole in
-      let same : draftOf text t (s .rules) ≡ d = cc in
+      let e : reads (draftOf text places t (s .rules)) ≡ reads d = sym (lines-end (s .sofar) h) ∙ whole in
+      let same : draftOf text places t (s .rules) ≡ d = cc in
       subst (λ (x : Draft). Wrote before from (rulesBytes (x .rules)) next now) same (s .wrote)
 
-  module _ {end : ℕ} (l : NextLine text at end) (h : at < length text) {r : Taken} (k : Took text end at t count r) where
+  module _ {end : ℕ} (l : NextLine text at end) (h : at < length text) {r : Taken} {names : Line} (k : Took text places end at t count r names) where
     after : Draft
-    after = draftOf text (r .table) (takenRules (s .rules) r)
+    after = draftOf text names (r .table) (takenRules (s .rules) r)
 
     rest : List Line
     rest = linesOf (drop (end + 1) text)
@@ -137,7 +137,7 @@ module _ {text : List ℕ} {d : Draft} (whole : readLines 1 empty (linesOf text)
         omega (arith, long, room, s .same, s .wrote .next, length-append (rulesBytes (s .rules) ++ takenBytes r) (rulesBytes (more .0)), length-append (rulesBytes (s .rules)) (takenBytes r))
 
     pub storing-on : from ≤ length before → {to : ℕ} → drop (end + 1) text ≡ drop to text → {q : ℕ} {then : List ℕ} → Wrote now next (takenBytes r) q then → length then ≡ length now →
-        Storing text before from (r .table) (count + r .rule) to q then
+        Storing text before from names (r .table) (count + r .rule) to q then
     storing-on fits e {q} {then} w long =
         record {
           rules = takenRules (s .rules) r;

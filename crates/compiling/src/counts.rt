@@ -50,7 +50,7 @@ fn put_ceilings(out: &mut [u8], at: usize, ceilings: [u16; 4], clocks: usize) ->
 }
 
 // All sections but the rules, and the number of these.
-pub fn put_counts(text: &[u8], out: &mut [u8], table: Table, count: usize) -> usize
+pub(crate) fn put_counts(text: &[u8], out: &mut [u8], table: Table, count: usize) -> usize
     requires { ⌜ (count ≤ 256) × (6 + table .signals + 2 * table .clocks + table .places ≤ length (now out)) × Fit (now text) table ⌝ }
     ensures { λ r. ⌜ Wrote (now (out .entry)) 0 (countsOf table count) r (now (out .exit)) ⌝ }
 {

@@ -19,7 +19,7 @@ ghost use lib.ListN.{length};
 ghost use Rattle.policy.specs.File.{part};
 ghost use Rattle.policy.specs.Rules.{Rule};
 ghost use Rattle.wording.specs.Words.{wordsOf};
-ghost use Rattle.declarations.specs.Table.{draftOf, lineSaid, Fit};
+ghost use Rattle.declarations.specs.Table.{placeNames, draftOf, lineSaid, Fit, Placed};
 ghost use Rattle.compiling.specs.Line.{behind, Took};
 
 // A refusal, or 0 and what the lines with one more have said. `rule` is 1 where the line is a rule, which `parsed` holds, else 0.
@@ -31,12 +31,20 @@ pub struct Taken {
 }
 
 // The words from `at` to `end`, which stand behind the word k: one of the first five of the language.
-fn words_behind(text: &[u8], end: usize, at: usize, table: Table, k: usize) -> Lined
-    requires { ⌜ (at ≤ end) × (end ≤ length (now text)) × (k < 5) × Fit (now text) table ⌝ }
-    ensures { λ r. ⌜ ((rules : List Rule) → lineSaid (now (text .entry)) rules r ≡ behind k (draftOf (now (text .entry)) table rules) (wordsOf (part (now (text .entry)) at (end - at)))) × Fit (now (text .entry)) (r .table) ⌝ }
+fn words_behind(
+    text: &[u8],
+    end: usize,
+    at: usize,
+    pstarts: &mut [usize],
+    pends: &mut [usize],
+    table: Table,
+    k: usize,
+) -> Lined
+    requires { ⌜ (at ≤ end) × (end ≤ length (now text)) × (k < 5) × Fit (now text) table × Placed (now text) (now pstarts) (now pends) table ⌝ }
+    ensures { λ r. ⌜ ((rules : List Rule) → lineSaid (now (text .entry)) (placeNames (now (text .entry)) (now (pstarts .exit)) (now (pends .exit)) (r .table)) rules r ≡ behind k (draftOf (now (text .entry)) (placeNames (now (text .entry)) (now (pstarts .entry)) (now (pends .entry)) table) table rules) (wordsOf (part (now (text .entry)) at (end - at)))) × Fit (now (text .entry)) (r .table) × Placed (now (text .entry)) (now (pstarts .exit)) (now (pends .exit)) (r .table) ⌝ }
 {
     if k == 3 {
-        return location_line(text, end, at, table);
+        return location_line(text, end, at, pstarts, pends, table);
     }
     let few = few_words(text, end, at);
     if k == 0 {
@@ -48,13 +56,21 @@ fn words_behind(text: &[u8], end: usize, at: usize, table: Table, k: usize) -> L
     if k == 2 {
         return clock_line(text, few, table);
     }
-    at_line(text, few, table)
+    at_line(text, few, pstarts, pends, table)
 }
 
 // The line from `at` to `end`, after `count` rules.
-pub fn read_line(text: &[u8], end: usize, at: usize, table: Table, count: usize) -> Taken
-    requires { ⌜ (at ≤ end) × (end ≤ length (now text)) × Fit (now text) table ⌝ }
-    ensures { λ r. ⌜ Took (now (text .entry)) end at table count r ⌝ }
+pub(crate) fn read_line(
+    text: &[u8],
+    end: usize,
+    at: usize,
+    pstarts: &mut [usize],
+    pends: &mut [usize],
+    table: Table,
+    count: usize,
+) -> Taken
+    requires { ⌜ (at ≤ end) × (end ≤ length (now text)) × Fit (now text) table × Placed (now text) (now pstarts) (now pends) table ⌝ }
+    ensures { λ r. ⌜ Took (now (text .entry)) (placeNames (now (text .entry)) (now (pstarts .entry)) (now (pends .entry)) table) end at table count r (placeNames (now (text .entry)) (now (pstarts .exit)) (now (pends .exit)) (r .table)) × Placed (now (text .entry)) (now (pstarts .exit)) (now (pends .exit)) (r .table) ⌝ }
 {
     let first = word_in(text, end, at);
     let a = first.start;
@@ -70,7 +86,7 @@ pub fn read_line(text: &[u8], end: usize, at: usize, table: Table, count: usize)
     }
     let k = keyword(&text[a..b]);
     if k < 5 {
-        let lined = words_behind(text, end, b, table, k);
+        let lined = words_behind(text, end, b, pstarts, pends, table, k);
         let declared = lined.table;
         return Taken {
             refusal: lined.refusal,
@@ -79,7 +95,7 @@ pub fn read_line(text: &[u8], end: usize, at: usize, table: Table, count: usize)
             table: declared,
         };
     }
-    let step = rule_line(text, end, at, table, count);
+    let step = rule_line(text, end, at, pstarts, pends, table, count);
     let parsed = step.parsed;
     let mut t = table;
     t.stage = 5;

@@ -5,9 +5,10 @@ use words::words::line_end;
 ghost use mathlib.Core.Path.{_≡_};
 ghost use mathlib.Core.List.{List, []};
 ghost use Prim.Native.Nat.{ℕ, _+_, _≤_, _<_};
+ghost use lib.ListN.{length};
 ghost use Rattle.wording.specs.Words.{linesOf};
 ghost use Rattle.wording.specs.Reader.{empty, readLines};
-ghost use Rattle.declarations.specs.Table.{draftOf, Fit};
+ghost use Rattle.declarations.specs.Table.{placeNames, draftOf, Fit, Placed};
 ghost use Rattle.compiling.specs.Lines.{Held};
 
 // A refusal and its line; or 0, and what all lines have said, with how many rules.
@@ -19,8 +20,8 @@ pub struct Said {
 }
 
 // Before the first line.
-pub fn unread() -> Table
-    ensures { λ r. ⌜ ((text : List ℕ) → draftOf text r [] ≡ empty) × ((text : List ℕ) → Fit text r) ⌝ }
+pub(crate) fn unread() -> Table
+    ensures { λ r. ⌜ ((text starts ends : List ℕ) → draftOf text (placeNames text starts ends r) r [] ≡ empty) × ((text : List ℕ) → Fit text r) × ((text starts ends : List ℕ) → length starts ≡ 64 → length ends ≡ 64 → Placed text starts ends r) ⌝ }
 {
     Table {
         tags: [0; 8],
@@ -29,8 +30,6 @@ pub fn unread() -> Table
         cstarts: [0; 4],
         cends: [0; 4],
         ceilings: [0; 4],
-        pstarts: [0; 64],
-        pends: [0; 64],
         left: [0; 64],
         inputs: 0,
         signals: 0,
@@ -49,7 +48,9 @@ pub fn next_line(end: usize, length: usize) -> usize
     if end < length { end + 1 } else { length }
 }
 
-pub fn read_lines(text: &[u8]) -> Said
+// The slices are for the places of the locations' names.
+pub fn read_lines(text: &[u8], pstarts: &mut [usize], pends: &mut [usize]) -> Said
+    requires { ⌜ (length (now pstarts) ≡ 64) × (length (now pends) ≡ 64) ⌝ }
     ensures { λ r. ⌜ Held (now (text .entry)) r (readLines 1 empty (linesOf (now (text .entry)))) × Fit (now (text .entry)) (r .table) × (r .count ≤ 256) ⌝ }
 {
     let mut table = unread();
@@ -58,7 +59,7 @@ pub fn read_lines(text: &[u8]) -> Said
     let mut at = 0;
     while at < text.len() {
         let end = line_end(text, at);
-        let taken = read_line(text, end, at, table, count);
+        let taken = read_line(text, end, at, pstarts, pends, table, count);
         if taken.refusal != 0 {
             return Said {
                 refusal: taken.refusal,

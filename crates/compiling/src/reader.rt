@@ -44,7 +44,9 @@ fn file_length(signals: usize, clocks: usize, places: usize, count: usize) -> us
 pub fn read(text: &[u8], out: &mut [u8]) -> ReadText
     ensures { λ r. ⌜ ReadTextPromise (now (text .entry)) (now (out .entry)) r (now (out .exit)) ⌝ }
 {
-    let said = read_lines(text);
+    let mut pstarts = [0usize; 64];
+    let mut pends = [0usize; 64];
+    let said = read_lines(text, &mut pstarts, &mut pends);
     if said.refusal != 0 {
         return ReadText {
             refusal: said.refusal,
@@ -75,6 +77,6 @@ pub fn read(text: &[u8], out: &mut [u8]) -> ReadText
     ReadText {
         refusal: 0,
         line: 0,
-        length: store_lines(text, out, from),
+        length: store_lines(text, out, from, &mut pstarts, &mut pends),
     }
 }

@@ -17,7 +17,7 @@ ghost use Rattle.wording.specs.Reader.{bare, ruleWord, ruleLine};
 ghost use Rattle.words.specs.Spans.{spans, Within, placeBelow};
 ghost use Rattle.conditions.specs.Steps.{stepSaid, Masked};
 ghost use Rattle.conditions.specs.Conditions.{scopeOf};
-ghost use Rattle.declarations.specs.Table.{draftOf, Fit};
+ghost use Rattle.declarations.specs.Table.{placeNames, draftOf, Fit, Placed};
 ghost use Rattle.compiling.specs.RuleLine.{ruled};
 
 // All words of the line, where only the first `signals` tags are declared.
@@ -56,9 +56,17 @@ fn words_by(
 }
 
 // The rule of the line from `at` to `end`, as the next after `count` rules.
-pub fn rule_line(text: &[u8], end: usize, at: usize, table: Table, count: usize) -> Step
-    requires { ⌜ (at ≤ end) × (end ≤ length (now text)) × Fit (now text) table ⌝ }
-    ensures { λ r. ⌜ ((rules : List Rule) → length rules ≡ count → answer (r .refusal) (ruled (now (text .entry)) table rules (r .parsed)) ≡ ruleLine (draftOf (now (text .entry)) table rules) (wordsOf (part (now (text .entry)) at (end - at))) (placeBelow 64 (table .source))) × Masked (r .parsed) × (r .refusal ≡ 0 → (table .source < 64) × (count < 256)) ⌝ }
+pub(crate) fn rule_line(
+    text: &[u8],
+    end: usize,
+    at: usize,
+    pstarts: &[usize],
+    pends: &[usize],
+    table: Table,
+    count: usize,
+) -> Step
+    requires { ⌜ (at ≤ end) × (end ≤ length (now text)) × Fit (now text) table × Placed (now text) (now pstarts) (now pends) table ⌝ }
+    ensures { λ r. ⌜ ((rules : List Rule) → length rules ≡ count → answer (r .refusal) (ruled (now (text .entry)) (placeNames (now (text .entry)) (now (pstarts .entry)) (now (pends .entry)) table) table rules (r .parsed)) ≡ ruleLine (draftOf (now (text .entry)) (placeNames (now (text .entry)) (now (pstarts .entry)) (now (pends .entry)) table) table rules) (wordsOf (part (now (text .entry)) at (end - at))) (placeBelow 64 (table .source))) × Masked (r .parsed) × (r .refusal ≡ 0 → (table .source < 64) × (count < 256)) ⌝ }
 {
     if 64 <= table.source {
         return Step {
@@ -71,8 +79,6 @@ pub fn rule_line(text: &[u8], end: usize, at: usize, table: Table, count: usize)
     let ends = table.ends;
     let cstarts = table.cstarts;
     let cends = table.cends;
-    let pstarts = table.pstarts;
-    let pends = table.pends;
     let step = words_by(
         text,
         &tags,
@@ -82,8 +88,8 @@ pub fn rule_line(text: &[u8], end: usize, at: usize, table: Table, count: usize)
         &cstarts,
         &cends,
         table.clocks,
-        &pstarts,
-        &pends,
+        pstarts,
+        pends,
         table.places,
         &text[at..end],
     );

@@ -47,8 +47,15 @@ fn put_taken(out: &mut [u8], at: usize, taken: Taken) -> usize
 }
 
 // The text is one that is read, and there is room for its rules.
-pub fn store_lines(text: &[u8], out: &mut [u8], from: usize) -> usize
+pub(crate) fn store_lines(
+    text: &[u8],
+    out: &mut [u8],
+    from: usize,
+    pstarts: &mut [usize],
+    pends: &mut [usize],
+) -> usize
     requires { ⌜ Stores (now text) from (length (now out)) ⌝ }
+    requires { ⌜ (length (now pstarts) ≡ 64) × (length (now pends) ≡ 64) ⌝ }
     ensures { λ r. ⌜ ((d : Draft) → readLines 1 empty (linesOf (now (text .entry))) ≡ reads d → Wrote (now (out .entry)) from (rulesBytes (d .rules)) r (now (out .exit))) ⌝ }
 {
     let mut table = unread();
@@ -57,7 +64,7 @@ pub fn store_lines(text: &[u8], out: &mut [u8], from: usize) -> usize
     let mut at = 0;
     while at < text.len() {
         let end = line_end(text, at);
-        let taken = read_line(text, end, at, table, count);
+        let taken = read_line(text, end, at, pstarts, pends, table, count);
         next = put_taken(out, next, taken);
         table = taken.table;
         count += taken.rule;

@@ -1,25 +1,23 @@
 -- A clock's line, by what was found of it.
 use mathlib.Core.Path.{_≡_, refl, ap, sym, _∙_}
-use mathlib.Core.Bool.{Bool, true, false, cond}
+use mathlib.Core.Bool.{Bool, true, false}
 use mathlib.Core.List.{List, [], _∷_, _++_}
-use mathlib.Core.Option.{Option, none, some}
 use Prim.Native.Nat.{ℕ, zero, suc, _+_, _-_, _≤_, _<_}
 use native.Mathlib.Omega.{arith}
 use lib.Dec.{leb, ltb}
-use lib.ListN.{length, take, drop, set, length-set}
+use lib.ListN.{length, set, length-set}
 use borrow.Author.Tests.{lt-ltb, le-ltb, le-leb, lt-leb, ltb-true}
 use Rattle.streams.specs.Answer.{Answer, refused, gives, answer, unless, _orElse_}
 use Rattle.policy.specs.Rules.{Rule}
 use Rattle.policy.specs.Check.{ceilingGood}
 use Rattle.policy.specs.File.{part}
 use Rattle.wording.specs.Words.{Word, Line}
-use Rattle.wording.specs.Names.{find, isName, must, free, numbered, _andThen_}
+use Rattle.wording.specs.Names.{find, isName, must, _andThen_}
 use Rattle.words.specs.Counted.{numberOf, numbered-then}
-use Rattle.words.specs.Spans.{spans, Within}
 use Rattle.wording.specs.Reader.{Draft, clockLine}
 use Rattle.words.specs.Firsts.{Shaped}
-use Rattle.declarations.specs.Fresh.{nameRefusal, refuse, clock-new, spans-long, spans-more, within-more, take-more}
-use Rattle.declarations.specs.Table.{draftOf, lineSaid, Fit}
+use Rattle.declarations.specs.Fresh.{nameRefusal, refuse, clock-new, spans-more, within-more, take-more}
+use Rattle.declarations.specs.Table.{draftOf, Fit}
 use Rattle.declarations.specs.declared.table.Table.{Table}
 
 abbrev pub withClock : Draft → Word → ℕ → Draft
@@ -126,8 +124,6 @@ moreClock t a b c =
       cstarts = set (t .cstarts) (t .clocks) a;
       cends = set (t .cends) (t .clocks) b;
       ceilings = set (t .ceilings) (t .clocks) c;
-      pstarts = t .pstarts;
-      pends = t .pends;
       left = t .left;
       inputs = t .inputs;
       signals = t .signals;
@@ -138,9 +134,9 @@ moreClock t a b c =
     }
 
 module _ {text : List ℕ} {t : Table} (f : Fit text t) (a b c : ℕ) (h : t .clocks < 4) where
-  pub clock-more : (rules : List Rule) → draftOf text (moreClock t a b c) rules ≡ withClock (draftOf text t rules) (part text a (b - a)) c
-  clock-more rules =
-      let d = draftOf text t rules in
+  pub clock-more : (places : Line) (rules : List Rule) → draftOf text places (moreClock t a b c) rules ≡ withClock (draftOf text places t rules) (part text a (b - a)) c
+  clock-more places rules =
+      let d = draftOf text places t rules in
       let names = spans-more text (t .cstarts) (t .cends) (t .clocks) a b (omega (arith, f .cstarts-long)) (omega (arith, f .cends-long)) in
       let tops = take-more (t .ceilings) (t .clocks) c (omega (arith, f .ceilings-long)) in
       (λ i. record { inputs = d .inputs; outputs = d .outputs; names = d .names; clocks = names i; ceilings = tops i; places = d .places; left = d .left; rules = rules; stage = 3; source = d .source })
@@ -160,12 +156,9 @@ module _ {text : List ℕ} {t : Table} (f : Fit text t) (a b c : ℕ) (h : t .cl
         cstarts-long = length-set (t .cstarts) (t .clocks) a ∙ f .cstarts-long;
         cends-long = length-set (t .cends) (t .clocks) b ∙ f .cends-long;
         ceilings-long = length-set (t .ceilings) (t .clocks) c ∙ f .ceilings-long;
-        pstarts-long = f .pstarts-long;
-        pends-long = f .pends-long;
         left-long = f .left-long;
         names = f .names;
         clock-names = within-more text (t .cstarts) (t .cends) (t .clocks) a b (omega (arith, f .cstarts-long)) (omega (arith, f .cends-long)) (f .clock-names) o m;
-        place-names = f .place-names;
       }
 
 pub room-of : (c n : ℕ) → clockRefusal c n ≡ 0 → n < 4

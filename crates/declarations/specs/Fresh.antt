@@ -1,20 +1,20 @@
 -- New names and what is kept of them.
-use mathlib.Core.Path.{_≡_, refl, ap, sym, _∙_}
-use mathlib.Core.Bool.{Bool, true, false, cond}
+use mathlib.Core.Path.{_≡_, refl, ap, _∙_}
+use mathlib.Core.Bool.{Bool, true, false}
 use mathlib.Core.List.{List, [], _∷_, _++_}
 use mathlib.Core.Option.{Option, none, some}
 use Prim.Native.Nat.{ℕ, zero, suc, _+_, _-_, _≤_, _<_}
 use native.Mathlib.Omega.{arith}
-use lib.Dec.{leb, ltb}
-use lib.ListN.{length, getD, take, drop, set}
+use lib.Dec.{ltb}
+use lib.ListN.{length, getD, take, set}
 use lib.Seq.{getD-set-same, getD-set-other, take-suc-set}
 use borrow.Author.Tests.{lt-ltb, le-ltb, ltb-true, ltb-false}
-use Rattle.streams.specs.Answer.{Answer, refused, gives, answer}
+use Rattle.streams.specs.Answer.{Answer, refused}
 use Rattle.policy.specs.File.{part}
-use Rattle.wording.specs.Words.{Word, Line}
-use Rattle.wording.specs.Names.{find, isName, must, free}
+use Rattle.wording.specs.Words.{Line}
+use Rattle.wording.specs.Names.{must, free}
 use Rattle.words.specs.Spans.{spans, Within, placeBelow}
-use Rattle.wording.specs.Reader.{Draft, newName, newSignal}
+use Rattle.wording.specs.Reader.{Draft}
 
 -- 30: no name. 31: it is taken.
 abbrev pub nameRefusal : Bool → Option ℕ → Option ℕ → ℕ

@@ -1,24 +1,23 @@
 -- A location's line, by what was found of it.
 use mathlib.Core.Path.{_≡_, refl, ap, sym, _∙_}
-use mathlib.Core.Bool.{Bool, true, false, cond, _&&_}
+use mathlib.Core.Bool.{Bool, true, false, _&&_}
 use mathlib.Core.List.{List, [], _∷_, _++_}
-use mathlib.Core.Option.{Option, none, some}
-use Prim.Native.Nat.{ℕ, zero, suc, _+_, _-_, _≤_, _<_}
+use Prim.Native.Nat.{ℕ, _+_, _-_, _≤_, _<_}
 use native.Mathlib.Omega.{arith}
-use lib.Dec.{leb, ltb, eqb}
-use lib.ListN.{length, take, drop, set, length-set}
+use lib.Dec.{eqb}
+use lib.ListN.{length, set, length-set}
 use borrow.Author.Tests.{lt-ltb, le-ltb, le-leb, lt-leb, eq-eqb, ne-eqb}
-use Rattle.streams.specs.Answer.{Answer, refused, gives, answer}
+use Rattle.streams.specs.Answer.{refused, gives}
 use Rattle.policy.specs.Rules.{Rule}
 use Rattle.policy.specs.File.{part}
 use Rattle.wording.specs.Words.{Word, Line, wordsOf}
-use Rattle.wording.specs.Names.{find, is, isName, must, free}
-use Rattle.words.specs.Spans.{spans, Within, placeBelow}
+use Rattle.wording.specs.Names.{find, is, isName, must}
+use Rattle.words.specs.Spans.{placeBelow}
 use Rattle.wording.specs.Reader.{Draft, newPlace, locationLine}
 use Rattle.words.specs.Keywords.{keywords, keyword-is}
 use Rattle.words.specs.Firsts.{NextIn, in-none, in-word}
-use Rattle.declarations.specs.Fresh.{spans-long, spans-more, within-more, take-more}
-use Rattle.declarations.specs.Table.{draftOf, Fit}
+use Rattle.declarations.specs.Fresh.{spans-more, within-more, take-more}
+use Rattle.declarations.specs.Table.{placeNames, draftOf, Fit, Placed}
 use Rattle.declarations.specs.declared.table.Table.{Table}
 
 abbrev pub withPlace : Draft → Word → ℕ → Draft
@@ -75,8 +74,8 @@ module _ (d : Draft) (w : Word) (byte : ℕ) where
       place-given l m = rw (le-leb (d .stage) 4 h, named, e, le-ltb k n l, lt-ltb (length (d .places)) 64 m)
 
 -- A location more in the table.
-abbrev pub morePlace : Table → ℕ → ℕ → ℕ → Table
-morePlace t a b c =
+abbrev pub morePlace : Table → ℕ → Table
+morePlace t c =
     record {
       tags = t .tags;
       starts = t .starts;
@@ -84,8 +83,6 @@ morePlace t a b c =
       cstarts = t .cstarts;
       cends = t .cends;
       ceilings = t .ceilings;
-      pstarts = set (t .pstarts) (t .places) a;
-      pends = set (t .pends) (t .places) b;
       left = set (t .left) (t .places) c;
       inputs = t .inputs;
       signals = t .signals;
@@ -95,36 +92,42 @@ morePlace t a b c =
       source = t .source;
     }
 
-module _ {text : List ℕ} {t : Table} (f : Fit text t) (a b c : ℕ) (h : t .places < 64) where
-  pub place-more : (rules : List Rule) → draftOf text (morePlace t a b c) rules ≡ withPlace (draftOf text t rules) (part text a (b - a)) c
+module _ {text starts ends : List ℕ} {t : Table} (f : Fit text t) (p : Placed text starts ends t) (a b c : ℕ) (h : t .places < 64) where
+  pub place-more : (rules : List Rule) →
+      draftOf text (placeNames text (set starts (t .places) a) (set ends (t .places) b) (morePlace t c)) (morePlace t c) rules ≡ withPlace (draftOf text (placeNames text starts ends t) t rules) (part text a (b - a)) c
   place-more rules =
-      let d = draftOf text t rules in
-      let names = spans-more text (t .pstarts) (t .pends) (t .places) a b (omega (arith, f .pstarts-long)) (omega (arith, f .pends-long)) in
+      let d = draftOf text (placeNames text starts ends t) t rules in
+      let names = spans-more text starts ends (t .places) a b (omega (arith, p .starts-long)) (omega (arith, p .ends-long)) in
       let bytes = take-more (t .left) (t .places) c (omega (arith, f .left-long)) in
       (λ i. record { inputs = d .inputs; outputs = d .outputs; names = d .names; clocks = d .clocks; ceilings = d .ceilings; places = names i; left = bytes i; rules = rules; stage = 4; source = d .source })
 
-  pub fit-place : a ≤ b → b ≤ length text → Fit text (morePlace t a b c)
-  fit-place o m =
-      record {
-        inputs = f .inputs;
-        outputs = f .outputs;
-        order = f .order;
-        clocks = f .clocks;
-        places = omega arith;
-        first = λ k. absurd (omega arith);
-        tags-long = f .tags-long;
-        starts-long = f .starts-long;
-        ends-long = f .ends-long;
-        cstarts-long = f .cstarts-long;
-        cends-long = f .cends-long;
-        ceilings-long = f .ceilings-long;
-        pstarts-long = length-set (t .pstarts) (t .places) a ∙ f .pstarts-long;
-        pends-long = length-set (t .pends) (t .places) b ∙ f .pends-long;
-        left-long = length-set (t .left) (t .places) c ∙ f .left-long;
-        names = f .names;
-        clock-names = f .clock-names;
-        place-names = within-more text (t .pstarts) (t .pends) (t .places) a b (omega (arith, f .pstarts-long)) (omega (arith, f .pends-long)) (f .place-names) o m;
-      }
+pub fit-place : {text : List ℕ} {t : Table} → Fit text t → (c : ℕ) → t .places < 64 → Fit text (morePlace t c)
+fit-place {t = t} f c h =
+    record {
+      inputs = f .inputs;
+      outputs = f .outputs;
+      order = f .order;
+      clocks = f .clocks;
+      places = omega arith;
+      first = λ k. absurd (omega arith);
+      tags-long = f .tags-long;
+      starts-long = f .starts-long;
+      ends-long = f .ends-long;
+      cstarts-long = f .cstarts-long;
+      cends-long = f .cends-long;
+      ceilings-long = f .ceilings-long;
+      left-long = length-set (t .left) (t .places) c ∙ f .left-long;
+      names = f .names;
+      clock-names = f .clock-names;
+    }
+
+pub placed-more : {text starts ends : List ℕ} {t : Table} → Placed text starts ends t → (a b c : ℕ) → t .places < 64 → a ≤ b → b ≤ length text → Placed text (set starts (t .places) a) (set ends (t .places) b) (morePlace t c)
+placed-more {text} {starts} {ends} {t} p a b c h o m =
+    record {
+      starts-long = length-set starts (t .places) a ∙ p .starts-long;
+      ends-long = length-set ends (t .places) b ∙ p .ends-long;
+      names = within-more text starts ends (t .places) a b (omega (arith, p .starts-long)) (omega (arith, p .ends-long)) (p .names) o m;
+    }
 
 -- The three words, found one by one.
 module _ {text : List ℕ} {end at a b : ℕ} (n : NextIn text end at a b) where

@@ -1,10 +1,10 @@
 -- A signal's line, by what was found of it.
 use mathlib.Core.Path.{_≡_, refl, ap, sym, _∙_}
-use mathlib.Core.Bool.{Bool, true, false, cond}
+use mathlib.Core.Bool.{Bool, true, false}
 use mathlib.Core.List.{List, [], _∷_, _++_}
 use Prim.Native.Nat.{ℕ, zero, suc, _+_, _-_, _≤_, _<_}
 use native.Mathlib.Omega.{arith}
-use lib.Dec.{leb, ltb}
+use lib.Dec.{ltb}
 use lib.ListN.{length, take, drop, set, length-set, length-drop}
 use lib.Seq.{take-add, length-take-le, take-set-le, drop-set-add, take-suc-set}
 use borrow.Author.Tests.{lt-ltb, le-ltb, lt-leb, le-leb}
@@ -13,7 +13,7 @@ use Rattle.policy.specs.Rules.{Rule}
 use Rattle.policy.specs.File.{part}
 use Rattle.wording.specs.Words.{Word, Line}
 use Rattle.wording.specs.Names.{find, isName, must, _andThen_}
-use Rattle.words.specs.Spans.{spans, Within}
+use Rattle.words.specs.Spans.{spans}
 use Rattle.wording.specs.Reader.{Draft, tags, letter, withInput, withOutput, signalLine, inputLine, outputLine}
 use Rattle.words.specs.Firsts.{Shaped}
 use Rattle.declarations.specs.Fresh.{nameRefusal, refuse, signal-new, spans-more, within-more, take-more}
@@ -78,8 +78,6 @@ moreSignal t a b c inputs stage =
       cstarts = t .cstarts;
       cends = t .cends;
       ceilings = t .ceilings;
-      pstarts = t .pstarts;
-      pends = t .pends;
       left = t .left;
       inputs = inputs;
       signals = t .signals + 1;
@@ -108,20 +106,17 @@ module _ {text : List ℕ} {t : Table} (f : Fit text t) (a b c : ℕ) (h : t .si
         cstarts-long = f .cstarts-long;
         cends-long = f .cends-long;
         ceilings-long = f .ceilings-long;
-        pstarts-long = f .pstarts-long;
-        pends-long = f .pends-long;
         left-long = f .left-long;
         names = within-more text (t .starts) (t .ends) (t .signals) a b (omega (arith, f .starts-long)) (omega (arith, f .ends-long)) (f .names) l m;
         clock-names = f .clock-names;
-        place-names = f .place-names;
       }
 
 module _ {text : List ℕ} {t : Table} (f : Fit text t) (a b c : ℕ) where
   -- An input, before all outputs.
   module _ (h : t .inputs < 4) (s : t .stage ≤ 1) where
-    pub input-more : (rules : List Rule) → draftOf text (moreSignal t a b c (t .signals + 1) 1) rules ≡ withInput (draftOf text t rules) c (part text a (b - a))
-    input-more rules =
-        let d = draftOf text t rules in
+    pub input-more : (places : Line) (rules : List Rule) → draftOf text places (moreSignal t a b c (t .signals + 1) 1) rules ≡ withInput (draftOf text places t rules) c (part text a (b - a))
+    input-more places rules =
+        let d = draftOf text places t rules in
         let same = f .first s in
         let names = names-more f a b c (omega (arith, same)) in
         let ins : take (t .signals + 1) (set (t .tags) (t .signals) c) ≡ take (t .inputs) (t .tags) ++ (c ∷ []) =
@@ -138,9 +133,9 @@ module _ {text : List ℕ} {t : Table} (f : Fit text t) (a b c : ℕ) where
 
   -- An output.
   module _ (h : t .signals < t .inputs + 4) where
-    pub output-more : (rules : List Rule) → draftOf text (moreSignal t a b c (t .inputs) 2) rules ≡ withOutput (draftOf text t rules) c (part text a (b - a))
-    output-more rules =
-        let d = draftOf text t rules in
+    pub output-more : (places : Line) (rules : List Rule) → draftOf text places (moreSignal t a b c (t .inputs) 2) rules ≡ withOutput (draftOf text places t rules) c (part text a (b - a))
+    output-more places rules =
+        let d = draftOf text places t rules in
         let order = f .order in
         let few = f .inputs in
         let names = names-more f a b c (omega arith) in
@@ -193,22 +188,23 @@ module _ (d : Draft) (count : ℕ) (go : ℕ → Word → Draft) where
   signal-line (suc (suc (suc n))) v w l a b e = absurd (omega arith)
 
 -- Of what the code has.
-module _ {text : List ℕ} {t : Table} (f : Fit text t) (rules : List Rule) where
-  pub tags-whole : tags (draftOf text t rules) ≡ take (t .signals) (t .tags)
-  tags-whole =
-      let order = f .order in
-      let e : t .signals ≡ t .inputs + (t .signals - t .inputs) = omega arith in
-      sym (ap (λ (n : ℕ). take n (t .tags)) e ∙ take-add (t .inputs) (t .signals - t .inputs) (t .tags))
-
+module _ {text : List ℕ} {t : Table} (f : Fit text t) where
   pub inputs-long : length (take (t .inputs) (t .tags)) ≡ t .inputs
   inputs-long = length-take-le (t .inputs) (t .tags) (omega (arith, f .tags-long, f .inputs))
 
   pub outputs-long : length (take (t .signals - t .inputs) (drop (t .inputs) (t .tags))) ≡ t .signals - t .inputs
   outputs-long = length-take-le (t .signals - t .inputs) (drop (t .inputs) (t .tags)) (omega (arith, length-drop (t .inputs) (t .tags), f .tags-long, f .inputs, f .outputs, f .order))
 
+module _ {text : List ℕ} {t : Table} (f : Fit text t) (places : Line) (rules : List Rule) where
+  pub tags-whole : tags (draftOf text places t rules) ≡ take (t .signals) (t .tags)
+  tags-whole =
+      let order = f .order in
+      let e : t .signals ≡ t .inputs + (t .signals - t .inputs) = omega arith in
+      sym (ap (λ (n : ℕ). take n (t .tags)) e ∙ take-add (t .inputs) (t .signals - t .inputs) (t .tags))
+
   module _ (n : ℕ) (v w : Word) (l : Line) (s : Shaped n v w l) where
     abbrev d : Draft
-    d = draftOf text t rules
+    d = draftOf text places t rules
 
     pub input-late : 1 < t .stage → refused 30 ≡ inputLine d l
     unfolding inputLine
@@ -237,7 +233,7 @@ module _ {text : List ℕ} {t : Table} (f : Fit text t) (rules : List Rule) wher
         unfolding inputLine
         input-is =
             rw (le-leb (t .stage) 1 h) (signal-line d (length (d .inputs)) (withInput d) n v w l a b s
-            ∙ (λ i. signalTag (tags-whole i) (inputs-long i) (wanted n (nameFound text t w)) v andThen λ u. gives (withInput d u w))
+            ∙ (λ i. signalTag (tags-whole i) (inputs-long f i) (wanted n (nameFound text t w)) v andThen λ u. gives (withInput d u w))
             ∙ ap (λ (z : Answer ℕ). z andThen λ u. gives (withInput d u w)) (sym e))
 
         pub input-not : (x : Draft) → (q ≡ 0 → ⊥) → answer q x ≡ inputLine d l
@@ -251,7 +247,7 @@ module _ {text : List ℕ} {t : Table} (f : Fit text t) (rules : List Rule) wher
         unfolding outputLine
         output-is =
             rw (le-leb (t .stage) 2 h) (signal-line d (length (d .outputs)) (withOutput d) n v w l a b s
-            ∙ (λ i. signalTag (tags-whole i) (outputs-long i) (wanted n (nameFound text t w)) v andThen λ u. gives (withOutput d u w))
+            ∙ (λ i. signalTag (tags-whole i) (outputs-long f i) (wanted n (nameFound text t w)) v andThen λ u. gives (withOutput d u w))
             ∙ ap (λ (z : Answer ℕ). z andThen λ u. gives (withOutput d u w)) (sym e))
 
         pub output-not : (x : Draft) → (q ≡ 0 → ⊥) → answer q x ≡ outputLine d l

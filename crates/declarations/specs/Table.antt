@@ -1,16 +1,14 @@
 -- What the code has of the lines that it has read, as what the definitions have of them.
-use mathlib.Core.Path.{_≡_, refl, ap, sym, _∙_}
-use mathlib.Core.Bool.{Bool, true, false, cond}
-use mathlib.Core.List.{List, [], _∷_, _++_}
-use mathlib.Core.Option.{Option, none, some}
+use mathlib.Core.Path.{_≡_, refl, sym, subst, _∙_}
+use mathlib.Core.Bool.{true}
+use mathlib.Core.List.{List, [], _∷_}
+use mathlib.Core.Option.{none, some}
 use Prim.Native.Nat.{ℕ, zero, suc, _+_, _-_, _≤_, _<_}
 use native.Mathlib.Omega.{arith}
-use lib.Dec.{leb, ltb}
-use lib.ListN.{length, getD, take, drop, set}
+use lib.ListN.{length, take, drop}
 use borrow.Author.Tests.{lt-ltb, le-ltb, le-leb, lt-leb}
 use Rattle.streams.specs.Answer.{Answer, refused, gives, answer}
 use Rattle.policy.specs.Rules.{Rule}
-use Rattle.policy.specs.File.{part}
 use Rattle.wording.specs.Words.{Word, Line}
 use Rattle.wording.specs.Names.{find}
 use Rattle.words.specs.Spans.{spans, Within, placeBelow}
@@ -19,23 +17,27 @@ use Rattle.words.specs.Firsts.{Shaped}
 use Rattle.declarations.specs.declared.table.Table.{Table}
 use Rattle.declarations.specs.declared.table.Lined.{Lined}
 
-abbrev pub draftOf : List ℕ → Table → List Rule → Draft
-draftOf text t rules =
+-- The names of the locations, which are not in the table.
+abbrev pub placeNames : (text starts ends : List ℕ) → Table → Line
+placeNames text starts ends t = spans text starts ends 0 (t .places)
+
+abbrev pub draftOf : List ℕ → Line → Table → List Rule → Draft
+draftOf text places t rules =
     record {
       inputs = take (t .inputs) (t .tags);
       outputs = take (t .signals - t .inputs) (drop (t .inputs) (t .tags));
       names = spans text (t .starts) (t .ends) 0 (t .signals);
       clocks = spans text (t .cstarts) (t .cends) 0 (t .clocks);
       ceilings = take (t .clocks) (t .ceilings);
-      places = spans text (t .pstarts) (t .pends) 0 (t .places);
+      places = places;
       left = take (t .places) (t .left);
       rules = rules;
       stage = t .stage;
       source = placeBelow 64 (t .source);
     }
 
-abbrev pub lineSaid : List ℕ → List Rule → Lined → Answer Draft
-lineSaid text rules r = answer (r .refusal) (draftOf text (r .table) rules)
+abbrev pub lineSaid : List ℕ → Line → List Rule → Lined → Answer Draft
+lineSaid text places rules r = answer (r .refusal) (draftOf text places (r .table) rules)
 
 -- The counts are in their limits, the names within the text, and no output stands before the last input.
 pub record Fit (text : List ℕ) (t : Table) : Type 0 where
@@ -51,12 +53,19 @@ pub record Fit (text : List ℕ) (t : Table) : Type 0 where
   pub cstarts-long : length (t .cstarts) ≡ 4
   pub cends-long : length (t .cends) ≡ 4
   pub ceilings-long : length (t .ceilings) ≡ 4
-  pub pstarts-long : length (t .pstarts) ≡ 64
-  pub pends-long : length (t .pends) ≡ 64
   pub left-long : length (t .left) ≡ 64
   pub names : Within text (t .starts) (t .ends) (t .signals)
   pub clock-names : Within text (t .cstarts) (t .cends) (t .clocks)
-  pub place-names : Within text (t .pstarts) (t .pends) (t .places)
+
+-- There is room for the places of 64 names, and those of the locations are within the text.
+pub record Placed (text starts ends : List ℕ) (t : Table) : Type 0 where
+  pub starts-long : length starts ≡ 64
+  pub ends-long : length ends ≡ 64
+  pub names : Within text starts ends (t .places)
+
+pub placed-same : {text starts ends : List ℕ} {t u : Table} → Placed text starts ends t → u .places ≡ t .places → Placed text starts ends u
+placed-same {text} {starts} {ends} p e =
+    record { starts-long = p .starts-long; ends-long = p .ends-long; names = subst (Within text starts ends) (sym e) (p .names) }
 
 -- `at`.
 pub at-form : (d : Draft) (n : ℕ) (v w : Word) (l : Line) → (n ≡ 1 → ⊥) → Shaped n v w l → refused 30 ≡ atLine d l
@@ -108,8 +117,6 @@ atPlace t k =
       cstarts = t .cstarts;
       cends = t .cends;
       ceilings = t .ceilings;
-      pstarts = t .pstarts;
-      pends = t .pends;
       left = t .left;
       inputs = t .inputs;
       signals = t .signals;
@@ -119,10 +126,10 @@ atPlace t k =
       source = k;
     }
 
-pub at-given : (text : List ℕ) (t : Table) (rules : List Rule) (v : Word) (l : Line) → l ≡ v ∷ [] → {k : ℕ} → find 0 v (spans text (t .pstarts) (t .pends) 0 (t .places)) ≡ placeBelow (t .places) k →
-    k < t .places → t .places ≤ 64 → risen (draftOf text t rules) (placeBelow 64 (t .source)) k ≡ true → gives (draftOf text (atPlace t k) rules) ≡ atLine (draftOf text t rules) l
-at-given text t rules v l one {k = k} e h m f =
-    let d = draftOf text t rules in
+pub at-given : (text : List ℕ) (places : Line) (t : Table) (rules : List Rule) (v : Word) (l : Line) → l ≡ v ∷ [] → {k : ℕ} → find 0 v places ≡ placeBelow (t .places) k →
+    k < t .places → t .places ≤ 64 → risen (draftOf text places t rules) (placeBelow 64 (t .source)) k ≡ true → gives (draftOf text places (atPlace t k) rules) ≡ atLine (draftOf text places t rules) l
+at-given text places t rules v l one {k = k} e h m f =
+    let d = draftOf text places t rules in
     let s = source-some k (omega arith) in
     (λ i. gives (record { inputs = d .inputs; outputs = d .outputs; names = d .names; clocks = d .clocks; ceilings = d .ceilings; places = d .places; left = d .left; rules = rules; stage = 5; source = s i }))
     ∙ at-rises d v l one e h f
@@ -142,12 +149,9 @@ fit-at f k =
       cstarts-long = f .cstarts-long;
       cends-long = f .cends-long;
       ceilings-long = f .ceilings-long;
-      pstarts-long = f .pstarts-long;
-      pends-long = f .pends-long;
       left-long = f .left-long;
       names = f .names;
       clock-names = f .clock-names;
-      place-names = f .place-names;
     }
 
 pub shaped-two : (n : ℕ) (v w : Word) (l : Line) → n ≡ 2 → Shaped n v w l → l ≡ v ∷ w ∷ []

@@ -19,7 +19,7 @@ ghost use Rattle.declarations.specs.ClockLine.{withClock, clockRefusal};
 // A clock more, whose name stands from `a` to `b`.
 fn add_clock(text: &[u8], a: usize, b: usize, ceiling: u16, table: Table) -> Table
     requires { ⌜ (a ≤ b) × (b ≤ length (now text)) × (table .clocks < 4) × (table .stage ≤ 3) × Fit (now text) table ⌝ }
-    ensures { λ r. ⌜ ((rules : List Rule) → draftOf (now (text .entry)) r rules ≡ withClock (draftOf (now (text .entry)) table rules) (part (now (text .entry)) a (b - a)) ceiling) × Fit (now (text .entry)) r ⌝ }
+    ensures { λ r. ⌜ ((places : Line) (rules : List Rule) → draftOf (now (text .entry)) places r rules ≡ withClock (draftOf (now (text .entry)) places table rules) (part (now (text .entry)) a (b - a)) ceiling) × Fit (now (text .entry)) r × (r .places ≡ table .places) ⌝ }
 {
     let mut t = table;
     let n = t.clocks;
@@ -46,7 +46,7 @@ fn clock_refusal(ceiling: u16, clocks: usize) -> u8
 
 pub fn clock_line(text: &[u8], few: Few, table: Table) -> Lined
     requires { ⌜ (few .start ≤ few .end) × (few .end ≤ length (now text)) × (few .from ≤ few .to) × (few .to ≤ length (now text)) × Fit (now text) table ⌝ }
-    ensures { λ r. ⌜ ((rules : List Rule) (l : Line) → Shaped (few .count) (part (now (text .entry)) (few .start) (few .end - few .start)) (part (now (text .entry)) (few .from) (few .to - few .from)) l → lineSaid (now (text .entry)) rules r ≡ clockLine (draftOf (now (text .entry)) table rules) l) × Fit (now (text .entry)) (r .table) ⌝ }
+    ensures { λ r. ⌜ ((places : Line) (rules : List Rule) (l : Line) → Shaped (few .count) (part (now (text .entry)) (few .start) (few .end - few .start)) (part (now (text .entry)) (few .from) (few .to - few .from)) l → lineSaid (now (text .entry)) places rules r ≡ clockLine (draftOf (now (text .entry)) places table rules) l) × Fit (now (text .entry)) (r .table) × (r .table .places ≡ table .places) ⌝ }
 {
     if few.count != 2 {
         return Lined { refusal: 30, table };

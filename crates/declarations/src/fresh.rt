@@ -12,7 +12,7 @@ ghost use Rattle.declarations.specs.Table.{Fit};
 ghost use Rattle.declarations.specs.Fresh.{nameRefusal};
 
 // 30 if the word from `a` to `b` is no name, 31 if a signal or a clock has it, else 0.
-pub fn name_refusal(text: &[u8], a: usize, b: usize, table: Table) -> u8
+pub(crate) fn name_refusal(text: &[u8], a: usize, b: usize, table: Table) -> u8
     requires { ⌜ (a ≤ b) × (b ≤ length (now text)) × Fit (now text) table ⌝ }
     ensures { λ r. ⌜ r ≡ nameRefusal (isName (part (now (text .entry)) a (b - a))) (find 0 (part (now (text .entry)) a (b - a)) (spans (now (text .entry)) (table .starts) (table .ends) 0 (table .signals))) (find 0 (part (now (text .entry)) a (b - a)) (spans (now (text .entry)) (table .cstarts) (table .cends) 0 (table .clocks))) ⌝ }
 {

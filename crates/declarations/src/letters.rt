@@ -8,9 +8,9 @@ ghost use Rattle.policy.specs.Check.{among};
 ghost use Rattle.wording.specs.Reader.{letter};
 
 // A refusal, or 0 and the letter.
-pub struct Tag {
-    pub refusal: u8,
-    pub value: u8,
+pub(crate) struct Tag {
+    pub(crate) refusal: u8,
+    pub(crate) value: u8,
 }
 
 // One of the first `count` tags is c.
@@ -28,7 +28,7 @@ fn is_among(tags: [u8; 8], count: usize, c: u8) -> bool
     false
 }
 
-pub fn letter_of(word: &[u8], tags: [u8; 8], count: usize) -> Tag
+pub(crate) fn letter_of(word: &[u8], tags: [u8; 8], count: usize) -> Tag
     requires { ⌜ count ≤ 8 ⌝ }
     ensures { λ r. ⌜ answer (r .refusal) (r .value) ≡ letter (take count tags) (now (word .entry)) ⌝ }
 {

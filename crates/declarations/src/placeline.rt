@@ -13,18 +13,26 @@ ghost use Rattle.policy.specs.File.{part};
 ghost use Rattle.policy.specs.Rules.{Rule};
 ghost use Rattle.wording.specs.Words.{wordsOf};
 ghost use Rattle.wording.specs.Reader.{newPlace, locationLine};
-ghost use Rattle.declarations.specs.Table.{draftOf, lineSaid, Fit};
+ghost use Rattle.declarations.specs.Table.{placeNames, draftOf, lineSaid, Fit, Placed};
 ghost use Rattle.declarations.specs.PlaceLine.{withPlace, mustBeLeft};
 
 // A location more, whose name stands from `a` to `b`.
-fn add_place(text: &[u8], a: usize, b: usize, byte: u8, table: Table) -> Table
-    requires { ⌜ (a ≤ b) × (b ≤ length (now text)) × (table .places < 64) × Fit (now text) table ⌝ }
-    ensures { λ r. ⌜ ((rules : List Rule) → draftOf (now (text .entry)) r rules ≡ withPlace (draftOf (now (text .entry)) table rules) (part (now (text .entry)) a (b - a)) byte) × Fit (now (text .entry)) r ⌝ }
+fn add_place(
+    text: &[u8],
+    a: usize,
+    b: usize,
+    byte: u8,
+    pstarts: &mut [usize],
+    pends: &mut [usize],
+    table: Table,
+) -> Table
+    requires { ⌜ (a ≤ b) × (b ≤ length (now text)) × (table .places < 64) × Fit (now text) table × Placed (now text) (now pstarts) (now pends) table ⌝ }
+    ensures { λ r. ⌜ ((rules : List Rule) → draftOf (now (text .entry)) (placeNames (now (text .entry)) (now (pstarts .exit)) (now (pends .exit)) r) r rules ≡ withPlace (draftOf (now (text .entry)) (placeNames (now (text .entry)) (now (pstarts .entry)) (now (pends .entry)) table) table rules) (part (now (text .entry)) a (b - a)) byte) × Fit (now (text .entry)) r × Placed (now (text .entry)) (now (pstarts .exit)) (now (pends .exit)) r ⌝ }
 {
     let mut t = table;
     let n = t.places;
-    t.pstarts[n] = a;
-    t.pends[n] = b;
+    pstarts[n] = a;
+    pends[n] = b;
     t.left[n] = byte;
     t.places = n + 1;
     t.stage = 4;
@@ -32,9 +40,17 @@ fn add_place(text: &[u8], a: usize, b: usize, byte: u8, table: Table) -> Table
 }
 
 // The location whose name stands from `a` to `b`, if it may be declared.
-fn place(text: &[u8], a: usize, b: usize, byte: u8, table: Table) -> Lined
-    requires { ⌜ (a ≤ b) × (b ≤ length (now text)) × Fit (now text) table ⌝ }
-    ensures { λ r. ⌜ ((rules : List Rule) → lineSaid (now (text .entry)) rules r ≡ newPlace (draftOf (now (text .entry)) table rules) (part (now (text .entry)) a (b - a)) byte) × Fit (now (text .entry)) (r .table) ⌝ }
+fn place(
+    text: &[u8],
+    a: usize,
+    b: usize,
+    byte: u8,
+    pstarts: &mut [usize],
+    pends: &mut [usize],
+    table: Table,
+) -> Lined
+    requires { ⌜ (a ≤ b) × (b ≤ length (now text)) × Fit (now text) table × Placed (now text) (now pstarts) (now pends) table ⌝ }
+    ensures { λ r. ⌜ ((rules : List Rule) → lineSaid (now (text .entry)) (placeNames (now (text .entry)) (now (pstarts .exit)) (now (pends .exit)) (r .table)) rules r ≡ newPlace (draftOf (now (text .entry)) (placeNames (now (text .entry)) (now (pstarts .entry)) (now (pends .entry)) table) table rules) (part (now (text .entry)) a (b - a)) byte) × Fit (now (text .entry)) (r .table) × Placed (now (text .entry)) (now (pstarts .exit)) (now (pends .exit)) (r .table) ⌝ }
 {
     if 4 < table.stage {
         return Lined { refusal: 30, table };
@@ -43,9 +59,7 @@ fn place(text: &[u8], a: usize, b: usize, byte: u8, table: Table) -> Lined
         return Lined { refusal: 30, table };
     }
     let places = table.places;
-    let starts = table.pstarts;
-    let ends = table.pends;
-    if find_name(text, &starts, &ends, places, &text[a..b]) < places {
+    if find_name(text, pstarts, pends, places, &text[a..b]) < places {
         return Lined { refusal: 31, table };
     }
     if 64 <= places {
@@ -53,7 +67,7 @@ fn place(text: &[u8], a: usize, b: usize, byte: u8, table: Table) -> Lined
     }
     Lined {
         refusal: 0,
-        table: add_place(text, a, b, byte, table),
+        table: add_place(text, a, b, byte, pstarts, pends, table),
     }
 }
 
@@ -96,9 +110,16 @@ fn must_be_left(text: &[u8], end: usize, at: usize) -> bool
 }
 
 // The words from `at` to `end`, which stand behind `location`.
-pub fn location_line(text: &[u8], end: usize, at: usize, table: Table) -> Lined
-    requires { ⌜ (at ≤ end) × (end ≤ length (now text)) × Fit (now text) table ⌝ }
-    ensures { λ r. ⌜ ((rules : List Rule) → lineSaid (now (text .entry)) rules r ≡ locationLine (draftOf (now (text .entry)) table rules) (wordsOf (part (now (text .entry)) at (end - at)))) × Fit (now (text .entry)) (r .table) ⌝ }
+pub fn location_line(
+    text: &[u8],
+    end: usize,
+    at: usize,
+    pstarts: &mut [usize],
+    pends: &mut [usize],
+    table: Table,
+) -> Lined
+    requires { ⌜ (at ≤ end) × (end ≤ length (now text)) × Fit (now text) table × Placed (now text) (now pstarts) (now pends) table ⌝ }
+    ensures { λ r. ⌜ ((rules : List Rule) → lineSaid (now (text .entry)) (placeNames (now (text .entry)) (now (pstarts .exit)) (now (pends .exit)) (r .table)) rules r ≡ locationLine (draftOf (now (text .entry)) (placeNames (now (text .entry)) (now (pstarts .entry)) (now (pends .entry)) table) table rules) (wordsOf (part (now (text .entry)) at (end - at)))) × Fit (now (text .entry)) (r .table) × Placed (now (text .entry)) (now (pstarts .exit)) (now (pends .exit)) (r .table) ⌝ }
 {
     let first = word_in(text, end, at);
     let a = first.start;
@@ -110,10 +131,10 @@ pub fn location_line(text: &[u8], end: usize, at: usize, table: Table) -> Lined
     let c = second.start;
     let d = second.end;
     if d <= c {
-        return place(text, a, b, 0, table);
+        return place(text, a, b, 0, pstarts, pends, table);
     }
     if must_be_left(text, end, b) {
-        return place(text, a, b, 1, table);
+        return place(text, a, b, 1, pstarts, pends, table);
     }
     Lined { refusal: 30, table }
 }

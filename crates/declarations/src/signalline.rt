@@ -59,7 +59,7 @@ fn signal_tag(text: &[u8], few: Few, table: Table, count: usize) -> Tag
 // An input more, whose name stands from `a` to `b`.
 fn add_input(text: &[u8], a: usize, b: usize, tag: u8, table: Table) -> Table
     requires { ⌜ (a ≤ b) × (b ≤ length (now text)) × (table .inputs < 4) × (table .stage ≤ 1) × Fit (now text) table ⌝ }
-    ensures { λ r. ⌜ ((rules : List Rule) → draftOf (now (text .entry)) r rules ≡ withInput (draftOf (now (text .entry)) table rules) tag (part (now (text .entry)) a (b - a))) × Fit (now (text .entry)) r ⌝ }
+    ensures { λ r. ⌜ ((places : Line) (rules : List Rule) → draftOf (now (text .entry)) places r rules ≡ withInput (draftOf (now (text .entry)) places table rules) tag (part (now (text .entry)) a (b - a))) × Fit (now (text .entry)) r × (r .places ≡ table .places) ⌝ }
 {
     let mut t = table;
     let n = t.signals;
@@ -75,7 +75,7 @@ fn add_input(text: &[u8], a: usize, b: usize, tag: u8, table: Table) -> Table
 // An output more.
 fn add_output(text: &[u8], a: usize, b: usize, tag: u8, table: Table) -> Table
     requires { ⌜ (a ≤ b) × (b ≤ length (now text)) × (table .signals < table .inputs + 4) × (table .stage ≤ 2) × Fit (now text) table ⌝ }
-    ensures { λ r. ⌜ ((rules : List Rule) → draftOf (now (text .entry)) r rules ≡ withOutput (draftOf (now (text .entry)) table rules) tag (part (now (text .entry)) a (b - a))) × Fit (now (text .entry)) r ⌝ }
+    ensures { λ r. ⌜ ((places : Line) (rules : List Rule) → draftOf (now (text .entry)) places r rules ≡ withOutput (draftOf (now (text .entry)) places table rules) tag (part (now (text .entry)) a (b - a))) × Fit (now (text .entry)) r × (r .places ≡ table .places) ⌝ }
 {
     let mut t = table;
     let n = t.signals;
@@ -90,7 +90,7 @@ fn add_output(text: &[u8], a: usize, b: usize, tag: u8, table: Table) -> Table
 // The words behind `input`.
 pub fn input_line(text: &[u8], few: Few, table: Table) -> Lined
     requires { ⌜ (few .start ≤ few .end) × (few .end ≤ length (now text)) × (few .from ≤ few .to) × (few .to ≤ length (now text)) × Fit (now text) table ⌝ }
-    ensures { λ r. ⌜ ((rules : List Rule) (l : Line) → Shaped (few .count) (part (now (text .entry)) (few .start) (few .end - few .start)) (part (now (text .entry)) (few .from) (few .to - few .from)) l → lineSaid (now (text .entry)) rules r ≡ inputLine (draftOf (now (text .entry)) table rules) l) × Fit (now (text .entry)) (r .table) ⌝ }
+    ensures { λ r. ⌜ ((places : Line) (rules : List Rule) (l : Line) → Shaped (few .count) (part (now (text .entry)) (few .start) (few .end - few .start)) (part (now (text .entry)) (few .from) (few .to - few .from)) l → lineSaid (now (text .entry)) places rules r ≡ inputLine (draftOf (now (text .entry)) places table rules) l) × Fit (now (text .entry)) (r .table) × (r .table .places ≡ table .places) ⌝ }
 {
     if 1 < table.stage {
         return Lined { refusal: 30, table };
@@ -120,7 +120,7 @@ pub fn input_line(text: &[u8], few: Few, table: Table) -> Lined
 // The words behind `output`.
 pub fn output_line(text: &[u8], few: Few, table: Table) -> Lined
     requires { ⌜ (few .start ≤ few .end) × (few .end ≤ length (now text)) × (few .from ≤ few .to) × (few .to ≤ length (now text)) × Fit (now text) table ⌝ }
-    ensures { λ r. ⌜ ((rules : List Rule) (l : Line) → Shaped (few .count) (part (now (text .entry)) (few .start) (few .end - few .start)) (part (now (text .entry)) (few .from) (few .to - few .from)) l → lineSaid (now (text .entry)) rules r ≡ outputLine (draftOf (now (text .entry)) table rules) l) × Fit (now (text .entry)) (r .table) ⌝ }
+    ensures { λ r. ⌜ ((places : Line) (rules : List Rule) (l : Line) → Shaped (few .count) (part (now (text .entry)) (few .start) (few .end - few .start)) (part (now (text .entry)) (few .from) (few .to - few .from)) l → lineSaid (now (text .entry)) places rules r ≡ outputLine (draftOf (now (text .entry)) places table rules) l) × Fit (now (text .entry)) (r .table) × (r .table .places ≡ table .places) ⌝ }
 {
     if 2 < table.stage {
         return Lined { refusal: 30, table };

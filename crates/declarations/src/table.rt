@@ -10,10 +10,11 @@ ghost use Rattle.policy.specs.Rules.{Rule};
 ghost use Rattle.wording.specs.Words.{Line};
 ghost use Rattle.wording.specs.Reader.{atLine};
 ghost use Rattle.words.specs.Firsts.{Shaped};
-ghost use Rattle.declarations.specs.Table.{draftOf, lineSaid, Fit};
+ghost use Rattle.declarations.specs.Table.{placeNames, draftOf, lineSaid, Fit, Placed};
 
 // Names stand in the text from their start to their end. The signals have theirs in `starts` and `ends`, the inputs first, none where both are the same; the
-// clocks in `cstarts` and `cends`; the locations in `pstarts` and `pends`. A source of 64 is none.
+// clocks in `cstarts` and `cends`. A source of 64 is none. The locations, up to 64, have theirs in two slices beside the table, `pstarts` and `pends`: they
+// would be three quarters of it, and it goes by value.
 pub struct Table {
     pub tags: [u8; 8],
     pub starts: [usize; 8],
@@ -21,8 +22,6 @@ pub struct Table {
     pub cstarts: [usize; 4],
     pub cends: [usize; 4],
     pub ceilings: [u16; 4],
-    pub pstarts: [usize; 64],
-    pub pends: [usize; 64],
     pub left: [u8; 64],
     pub inputs: usize,
     pub signals: usize,
@@ -39,9 +38,9 @@ pub struct Lined {
 }
 
 // The words behind `at`.
-pub fn at_line(text: &[u8], few: Few, table: Table) -> Lined
-    requires { ⌜ (few .start ≤ few .end) × (few .end ≤ length (now text)) × Fit (now text) table ⌝ }
-    ensures { λ r. ⌜ ((rules : List Rule) (l : Line) → Shaped (few .count) (part (now (text .entry)) (few .start) (few .end - few .start)) (part (now (text .entry)) (few .from) (few .to - few .from)) l → lineSaid (now (text .entry)) rules r ≡ atLine (draftOf (now (text .entry)) table rules) l) × Fit (now (text .entry)) (r .table) ⌝ }
+pub fn at_line(text: &[u8], few: Few, pstarts: &[usize], pends: &[usize], table: Table) -> Lined
+    requires { ⌜ (few .start ≤ few .end) × (few .end ≤ length (now text)) × Fit (now text) table × Placed (now text) (now pstarts) (now pends) table ⌝ }
+    ensures { λ r. ⌜ ((rules : List Rule) (l : Line) → Shaped (few .count) (part (now (text .entry)) (few .start) (few .end - few .start)) (part (now (text .entry)) (few .from) (few .to - few .from)) l → lineSaid (now (text .entry)) (placeNames (now (text .entry)) (now (pstarts .entry)) (now (pends .entry)) table) rules r ≡ atLine (draftOf (now (text .entry)) (placeNames (now (text .entry)) (now (pstarts .entry)) (now (pends .entry)) table) table rules) l) × Fit (now (text .entry)) (r .table) × (r .table .places ≡ table .places) ⌝ }
 {
     if few.count != 1 {
         return Lined { refusal: 30, table };
@@ -49,9 +48,7 @@ pub fn at_line(text: &[u8], few: Few, table: Table) -> Lined
     let a = few.start;
     let b = few.end;
     let places = table.places;
-    let starts = table.pstarts;
-    let ends = table.pends;
-    let k = find_name(text, &starts, &ends, places, &text[a..b]);
+    let k = find_name(text, pstarts, pends, places, &text[a..b]);
     if places <= k {
         return Lined { refusal: 31, table };
     }

@@ -8,7 +8,7 @@ use lib.Dec.{ltb, eqb}
 use lib.ListN.{length, getD, drop, drop-of-length-le}
 use borrow.Author.Tests.{lt-ltb, le-ltb, ne-eqb}
 use Rattle.policy.specs.File.{part}
-use Rattle.wording.specs.Words.{Word, Line, wordsOf, eachWords, split, linesOf}
+use Rattle.wording.specs.Words.{Line, wordsOf, eachWords, split, linesOf}
 use Rattle.wording.specs.Names.{same, find}
 use Rattle.wording.specs.RuleLines.{isRule, rulesAmong, ruleNumbers}
 use Rattle.wording.specs.Reader.{FromText, stops, reads, fileFromText}

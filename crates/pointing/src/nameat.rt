@@ -6,7 +6,6 @@ use words::firsts::word_in;
 use words::keywords::keyword;
 use words::words::line_end;
 ghost use mathlib.Core.Path.{_≡_};
-ghost use mathlib.Core.Bool.{true};
 ghost use Prim.Native.Nat.{_≤_, _<_, _-_};
 ghost use lib.ListN.{length};
 ghost use Rattle.policy.specs.File.{part};
@@ -121,7 +120,9 @@ fn find_named(text: &[u8], kind: usize, i: usize) -> NameAt
 fn name_of(text: &[u8], kind: usize, i: usize) -> NameAt
     ensures { λ r. ⌜ NameAtPromise kind (now (text .entry)) i r ⌝ }
 {
-    let said = read_lines(text);
+    let mut pstarts = [0usize; 64];
+    let mut pends = [0usize; 64];
+    let said = read_lines(text, &mut pstarts, &mut pends);
     if said.refusal != 0 {
         return NameAt {
             refusal: said.refusal,

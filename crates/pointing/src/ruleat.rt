@@ -60,7 +60,9 @@ fn find_rule(text: &[u8], i: usize) -> usize
 pub fn line_of_rule(text: &[u8], i: usize) -> RuleAt
     ensures { λ r. ⌜ RuleAtPromise (now (text .entry)) i r ⌝ }
 {
-    let said = read_lines(text);
+    let mut pstarts = [0usize; 64];
+    let mut pends = [0usize; 64];
+    let said = read_lines(text, &mut pstarts, &mut pends);
     if said.refusal != 0 {
         return RuleAt {
             refusal: said.refusal,

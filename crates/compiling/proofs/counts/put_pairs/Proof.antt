@@ -1,5 +1,5 @@
 -- `compiling::counts::put_pairs` meets its contract. The invariant: the first i ceilings are stored.
-use mathlib.Core.Path.{_≡_, refl, ap, sym, _∙_}
+use mathlib.Core.Path.{_≡_}
 use Prim.Native.Nat.{_+_, _*_, _-_, _≤_}
 use native.Mathlib.Omega.{arith}
 use borrow.Author.Needs.{needs}

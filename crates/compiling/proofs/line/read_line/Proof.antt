@@ -1,10 +1,10 @@
 -- `compiling::line::read_line` meets its contract.
-use mathlib.Core.Path.{_∙_}
+use mathlib.Core.Path.{refl, _∙_}
 use native.Mathlib.Omega.{arith}
 use denote.Ref.{now}
 use borrow.Author.Needs.{needs}
 use Rattle.compiling.specs.Line.{line-blank, line-behind, line-ruled}
-use Rattle.declarations.specs.Table.{draftOf, fit-at}
+use Rattle.declarations.specs.Table.{placeNames, draftOf, fit-at, placed-same}
 use Rattle.compiling.proofs.line.read_line.Statement.{statement}
 use Rattle.compiling.proofs.line.read_line.Tie as tie
 
@@ -16,16 +16,18 @@ unsaid-requires c κs = search needs
 
 returns : tie.Need-returns
 returns c =
-    let s = c .before .before .before .before in
+    let s = c .before .before .before .before .before .before in
     let a = s .args in
-    let f = s .pre .2 in
-    record {
-      line = λ rules long. line-blank (c .before .before .word-in .ensures) (draftOf (now (a .text)) (a .table) rules) (c .if1 .taken);
-      fit = f;
-      masked = c .before .unsaid .ensures .1;
-      one = omega arith;
-      room = λ z y. absurd (omega arith);
-    }
+    let names = placeNames (now (a .text)) (now (a .pstarts)) (now (a .pends)) (a .table) in (
+      record {
+        line = λ rules long. line-blank (c .before .before .word-in .ensures) (draftOf (now (a .text)) names (a .table) rules) (c .if1 .taken);
+        fit = s .pre .2;
+        masked = c .before .unsaid .ensures .1;
+        one = omega arith;
+        room = λ z y. absurd (omega arith);
+      },
+      s .pre .3,
+    )
 
 sub-keyword : tie.Need-sub-keyword
 sub-keyword c = search needs
@@ -42,36 +44,51 @@ keyword-requires c κs = search needs
 words-behind-requires : tie.Need-words-behind-requires
 words-behind-requires c κs = search needs
 
+same-length : tie.Need-same-length
+same-length c = search needs
+
+same-length-2 : tie.Need-same-length-2
+same-length-2 c = search needs
+
 returns-2 : tie.Need-returns-2
 returns-2 c =
-    let s = c .before .before .before .before .before .before .before .before .before in
-    let a = s .args in
-    let f = s .pre .2 in
-    let said = c .before .words-behind in
-    record {
-      line = λ rules long. said .ensures .0 rules ∙ line-behind (c .before .before .before .before .before .before .before .word-in .ensures) (draftOf (now (a .text)) (a .table) rules) (c .before .before .before .before .before .if1 .left) (c .before .before .before .keyword .result) (c .before .before .before .keyword .ensures) (c .before .before .if2 .taken);
-      fit = said .ensures .1;
-      masked = c .before .before .before .before .before .before .unsaid .ensures .1;
-      one = omega arith;
-      room = λ z y. absurd (omega arith);
-    }
+    let a = c .before .before .before .before .before .before .before .before .before .before .before .before .before .before .before .before .before .args in
+    let names = placeNames (now (a .text)) (now (a .pstarts)) (now (a .pends)) (a .table) in
+    let said = c .before .before .before .before .before .words-behind in (
+      record {
+        line = λ rules long. said .ensures .0 rules ∙ line-behind (c .before .before .before .before .before .before .before .before .before .before .before .before .before .word-in .ensures) (draftOf (now (a .text)) names (a .table) rules) (c .before .before .before .before .before .before .before .before .before .before .before .if1 .left) (c .before .before .before .before .before .before .before .before .before .keyword .result) (c .before .before .before .before .before .before .before .before .before .keyword .ensures) (c .before .before .before .before .before .before .before .before .if2 .taken);
+        fit = said .ensures .1;
+        masked = c .before .before .before .before .before .before .before .before .before .before .before .before .unsaid .ensures .1;
+        one = omega arith;
+        room = λ z y. absurd (omega arith);
+      },
+      said .ensures .2,
+    )
 
 rule-line-requires : tie.Need-rule-line-requires
 rule-line-requires c κs = search needs
 
+same-length-3 : tie.Need-same-length-3
+same-length-3 c = search needs
+
+same-length-4 : tie.Need-same-length-4
+same-length-4 c = search needs
+
 returns-3 : tie.Need-returns-3
 returns-3 c =
-    let s = c .before .before .before .before .before .before .before .before .before in
+    let s = c .before .before .before .before .before .before .before .before .before .before .before .before .before in
     let a = s .args in
-    let f = s .pre .2 in
-    let said = c .before .rule-line in
-    record {
-      line = λ rules long. said .ensures .0 rules long ∙ line-ruled (c .before .before .before .before .before .before .before .word-in .ensures) (draftOf (now (a .text)) (a .table) rules) (c .before .before .before .before .before .if1 .left) (c .before .before .before .keyword .result) (c .before .before .before .keyword .ensures) (c .before .before .if2 .left);
-      fit = fit-at f (a .table .source);
-      masked = said .ensures .1;
-      one = omega arith;
-      room = λ z y. said .ensures .2 z;
-    }
+    let names = placeNames (now (a .text)) (now (a .pstarts)) (now (a .pends)) (a .table) in
+    let said = c .before .rule-line in (
+      record {
+        line = λ rules long. said .ensures .0 rules long ∙ line-ruled (c .before .before .before .before .before .before .before .before .before .word-in .ensures) (draftOf (now (a .text)) names (a .table) rules) (c .before .before .before .before .before .before .before .if1 .left) (c .before .before .before .before .before .keyword .result) (c .before .before .before .before .before .keyword .ensures) (c .before .before .before .before .if2 .left);
+        fit = fit-at (s .pre .2) (a .table .source);
+        masked = said .ensures .1;
+        one = omega arith;
+        room = λ z y. said .ensures .2 z;
+      },
+      placed-same (s .pre .3) refl,
+    )
 
 pub read-line-spec : {M : Type 1} → statement M
 read-line-spec =
@@ -85,6 +102,10 @@ read-line-spec =
     part-keyword-end
     keyword-requires
     words-behind-requires
+    same-length
+    same-length-2
     returns-2
     rule-line-requires
+    same-length-3
+    same-length-4
     returns-3)

@@ -1,7 +1,6 @@
 -- `compiling::lines::unread` meets its contract.
 use mathlib.Core.Path.{refl}
 use native.Mathlib.Omega.{arith}
-use borrow.Author.Needs.{needs}
 use Rattle.words.specs.Spans.{spans}
 use Rattle.compiling.proofs.lines.unread.Statement.{statement}
 use Rattle.compiling.proofs.lines.unread.Tie as tie
@@ -9,7 +8,7 @@ use Rattle.compiling.proofs.lines.unread.Tie as tie
 returns : tie.Need-returns
 unfolding spans
 returns c = (
-  λ text. refl,
+  λ text starts ends. refl,
   λ text. record {
     inputs = omega arith;
     outputs = omega arith;
@@ -23,13 +22,11 @@ returns c = (
     cstarts-long = refl;
     cends-long = refl;
     ceilings-long = refl;
-    pstarts-long = refl;
-    pends-long = refl;
     left-long = refl;
     names = λ k h. absurd (omega arith);
     clock-names = λ k h. absurd (omega arith);
-    place-names = λ k h. absurd (omega arith);
   },
+  λ text starts ends h l. record { starts-long = h; ends-long = l; names = λ k z. absurd (omega arith) },
 )
 
 pub unread-spec : {M : Type 1} → statement M

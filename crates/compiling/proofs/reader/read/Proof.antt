@@ -6,24 +6,30 @@ use Rattle.compiling.specs.Promise.{Got, got, ceilings-fit, read-stopped
 use Rattle.compiling.proofs.reader.read.Statement.{statement}
 use Rattle.compiling.proofs.reader.read.Tie as tie
 
+slice-aggregate-read-lines : tie.Need-slice-aggregate-read-lines
+slice-aggregate-read-lines c = search needs
+
+slice-aggregate-read-lines-2 : tie.Need-slice-aggregate-read-lines-2
+slice-aggregate-read-lines-2 c = search needs
+
 read-lines-requires : tie.Need-read-lines-requires
 read-lines-requires c κs = search needs
 
 returns : tie.Need-returns
-returns c = let a = c .before .before .before .before .before .args in let r = c .before .before .read-lines in read-stopped (now (a .text)) (now (a .out)) (r .result) (r .ensures .0) (c .if1 .taken)
+returns c = let a = c .before .before .before .before .before .before .before .before .before .args in let r = c .before .before .before .before .read-lines in read-stopped (now (a .text)) (now (a .out)) (r .result) (r .ensures .0) (c .if1 .taken)
 
 own-refusal-requires : tie.Need-own-refusal-requires
 own-refusal-requires c κs =
-    let a = c .before .before .before .before .before .before .before .args in
-    let r = c .before .before .before .before .read-lines in
+    let a = c .before .before .before .before .before .before .before .before .before .before .before .args in
+    let r = c .before .before .before .before .before .before .read-lines in
     let f = r .ensures .1 in
     let g : Got (now (a .text)) (r .result) = got (r .ensures .0) (c .before .before .if1 .left) in
     (f .clocks, f .places, ceilings-fit (now (a .text)) (now (a .out)) f g)
 
 returns-2 : tie.Need-returns-2
 returns-2 c =
-    let a = c .before .before .before .before .before .before .before .before .before .args in
-    let r = c .before .before .before .before .before .before .read-lines in
+    let a = c .before .before .before .before .before .before .before .before .before .before .before .before .before .args in
+    let r = c .before .before .before .before .before .before .before .before .read-lines in
     let f = r .ensures .1 in
     let g : Got (now (a .text)) (r .result) = got (r .ensures .0) (c .before .before .before .before .if1 .left) in
     read-own (now (a .text)) (now (a .out)) f g (c .before .own-refusal .ensures) (c .if2 .taken)
@@ -33,8 +39,8 @@ file-length-requires c κs = search needs
 
 returns-3 : tie.Need-returns-3
 returns-3 c =
-    let a = c .before .before .before .before .before .before .before .before .before .before .before .args in
-    let r = c .before .before .before .before .before .before .before .before .read-lines in
+    let a = c .before .before .before .before .before .before .before .before .before .before .before .before .before .before .before .args in
+    let r = c .before .before .before .before .before .before .before .before .before .before .read-lines in
     let f = r .ensures .1 in
     let g : Got (now (a .text)) (r .result) = got (r .ensures .0) (c .before .before .before .before .before .before .if1 .left) in
     read-short (now (a .text)) (now (a .out)) f g (c .before .before .before .own-refusal .ensures) (c .before .before .if2 .left) (omega (arith, c .before .file-length .ensures, c .if3 .taken))
@@ -42,32 +48,40 @@ returns-3 c =
 put-counts-requires : tie.Need-put-counts-requires
 put-counts-requires c κs = search needs
 
+slice-aggregate-store-lines : tie.Need-slice-aggregate-store-lines
+slice-aggregate-store-lines c = search needs
+
+slice-aggregate-store-lines-2 : tie.Need-slice-aggregate-store-lines-2
+slice-aggregate-store-lines-2 c = search needs
+
 store-lines-requires : tie.Need-store-lines-requires
 store-lines-requires c κs =
-    let a = c .before .before .before .before .before .before .before .before .before .before .before .before .before .before .before .before .args in
-    let r = c .before .before .before .before .before .before .before .before .before .before .before .before .before .read-lines in
+    let a = c .before .before .before .before .before .before .before .before .before .before .before .before .before .before .before .before .before .before .before .before .before .before .args in
+    let r = c .before .before .before .before .before .before .before .before .before .before .before .before .before .before .before .before .before .read-lines in
     let f = r .ensures .1 in
-    let g : Got (now (a .text)) (r .result) = got (r .ensures .0) (c .before .before .before .before .before .before .before .before .before .before .before .if1 .left) in
-    let p = c .before .before .before .put-counts in
-    (g .draft, g .lines, omega (arith, p .ensures .next, p .kept .1 .0, counts-room (now (a .text)) (now (a .out)) f g (omega (arith, c .before .before .before .before .before .before .file-length .ensures, c .before .before .before .before .before .if3 .left))))
+    let g : Got (now (a .text)) (r .result) = got (r .ensures .0) (c .before .before .before .before .before .before .before .before .before .before .before .before .before .if1 .left) in
+    let p = c .before .before .before .before .before .put-counts in
+    ((g .draft, g .lines, omega (arith, p .ensures .next, p .kept .1 .0, counts-room (now (a .text)) (now (a .out)) f g (omega (arith, c .before .before .before .before .before .before .before .before .file-length .ensures, c .before .before .before .before .before .before .before .if3 .left)))), (omega (arith, r .kept .1 .0), omega (arith, r .kept .1 .1 .0)))
 
 same-length : tie.Need-same-length
 same-length c = search needs
 
 returns-4 : tie.Need-returns-4
 returns-4 c =
-    let a = c .before .before .before .before .before .before .before .before .before .before .before .before .before .before .before .before .before .before .before .args in
-    let r = c .before .before .before .before .before .before .before .before .before .before .before .before .before .before .before .before .read-lines in
+    let a = c .before .before .before .before .before .before .before .before .before .before .before .before .before .before .before .before .before .before .before .before .before .before .before .before .before .before .before .args in
+    let r = c .before .before .before .before .before .before .before .before .before .before .before .before .before .before .before .before .before .before .before .before .before .before .read-lines in
     let f = r .ensures .1 in
-    let g : Got (now (a .text)) (r .result) = got (r .ensures .0) (c .before .before .before .before .before .before .before .before .before .before .before .before .before .before .if1 .left) in
-    let p = c .before .before .before .before .before .before .put-counts in
-    let w = c .before .before .store-lines in
-    read-whole (now (a .text)) (now (a .out)) f g (c .before .before .before .before .before .before .before .before .before .before .before .own-refusal .ensures) (c .before .before .before .before .before .before .before .before .before .before .if2 .left) (omega (arith, c .before .before .before .before .before .before .before .before .before .file-length .ensures, c .before .before .before .before .before .before .before .before .if3 .left)) (p .ensures) (w .ensures (g .draft) (g .lines))
+    let g : Got (now (a .text)) (r .result) = got (r .ensures .0) (c .before .before .before .before .before .before .before .before .before .before .before .before .before .before .before .before .before .before .if1 .left) in
+    let p = c .before .before .before .before .before .before .before .before .before .before .put-counts in
+    let w = c .before .before .before .before .store-lines in
+    read-whole (now (a .text)) (now (a .out)) f g (c .before .before .before .before .before .before .before .before .before .before .before .before .before .before .before .own-refusal .ensures) (c .before .before .before .before .before .before .before .before .before .before .before .before .before .before .if2 .left) (omega (arith, c .before .before .before .before .before .before .before .before .before .before .before .before .before .file-length .ensures, c .before .before .before .before .before .before .before .before .before .before .before .before .if3 .left)) (p .ensures) (w .ensures (g .draft) (g .lines))
 
 pub read-spec : {M : Type 1} → statement M
 read-spec =
     tie.close
     (tie.spec
+    slice-aggregate-read-lines
+    slice-aggregate-read-lines-2
     read-lines-requires
     returns
     own-refusal-requires
@@ -75,6 +89,8 @@ read-spec =
     file-length-requires
     returns-3
     put-counts-requires
+    slice-aggregate-store-lines
+    slice-aggregate-store-lines-2
     store-lines-requires
     same-length
     returns-4)

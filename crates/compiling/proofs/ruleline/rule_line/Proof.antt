@@ -11,6 +11,7 @@ use Rattle.compiling.specs.RuleLine.{ruled, scope-is, rule-nowhere, rule
 use Rattle.wording.specs.Words.{wordsOf}
 use Rattle.wording.specs.Reader.{ends}
 use Rattle.conditions.specs.Steps.{begunOf, boundsOf, partOf}
+use Rattle.declarations.specs.Table.{placeNames}
 use Rattle.compiling.proofs.ruleline.rule_line.Statement.{statement}
 use Rattle.compiling.proofs.ruleline.rule_line.Tie as tie
 
@@ -19,10 +20,11 @@ unsaid-requires c κs = search needs
 
 returns : tie.Need-returns
 returns c =
-    let s = c .before .before .before .before in
+    let s = c .before .before .before .before .before .before in
     let a = s .args in
-    let f = s .pre .2 in
-    (λ rules long. rule-nowhere f rules (wordsOf (part (now (a .text)) (a .at) (a .end - a .at))) (ruled (now (a .text)) (a .table) rules (c .unsaid .result)) (c .before .if1 .taken), c .unsaid .ensures .1, λ z. absurd (omega arith))
+    let names = placeNames (now (a .text)) (now (a .pstarts)) (now (a .pends)) (a .table) in
+    let none = c .unsaid in
+    (λ rules long. rule-nowhere (s .pre .2) names rules (wordsOf (part (now (a .text)) (a .at) (a .end - a .at))) (ruled (now (a .text)) names (a .table) rules (none .result)) (c .before .if1 .taken), none .ensures .1, λ z. absurd (omega arith))
 
 slice-aggregate-words-by : tie.Need-slice-aggregate-words-by
 slice-aggregate-words-by c = search needs
@@ -39,12 +41,6 @@ slice-aggregate-words-by-4 c = search needs
 slice-aggregate-words-by-5 : tie.Need-slice-aggregate-words-by-5
 slice-aggregate-words-by-5 c = search needs
 
-slice-aggregate-words-by-6 : tie.Need-slice-aggregate-words-by-6
-slice-aggregate-words-by-6 c = search needs
-
-slice-aggregate-words-by-7 : tie.Need-slice-aggregate-words-by-7
-slice-aggregate-words-by-7 c = search needs
-
 sub-words-by : tie.Need-sub-words-by
 sub-words-by c = search needs
 
@@ -56,33 +52,36 @@ part-words-by-end c = search needs
 
 words-by-requires : tie.Need-words-by-requires
 words-by-requires c κs =
-    let s = c .before .before .before .before .before .before .before .before .before .before .before .before .before .before .before .before .before .before in
-    let a = s .args in
+    let s = c .before .before .before .before .before .before .before .before .before .before .before .before .before .before .before .before in
     let f = s .pre .2 in
-    ((omega (arith, f .inputs, f .outputs), omega (arith, f .inputs, f .outputs, f .tags-long), omega (arith, f .inputs, f .outputs, f .starts-long), omega (arith, f .inputs, f .outputs, f .ends-long), f .names), ((f .clocks, omega (arith, f .clocks, f .cstarts-long), omega (arith, f .clocks, f .cends-long), f .clock-names), (f .places, omega (arith, f .places, f .pstarts-long), omega (arith, f .places, f .pends-long), f .place-names)))
+    let p = s .pre .3 in
+    ((omega (arith, f .inputs, f .outputs), omega (arith, f .inputs, f .outputs, f .tags-long), omega (arith, f .inputs, f .outputs, f .starts-long), omega (arith, f .inputs, f .outputs, f .ends-long), f .names), ((f .clocks, omega (arith, f .clocks, f .cstarts-long), omega (arith, f .clocks, f .cends-long), f .clock-names), (f .places, omega (arith, f .places, p .starts-long), omega (arith, f .places, p .ends-long), p .names)))
 
 returns-2 : tie.Need-returns-2
 returns-2 c =
-    let s = c .before .before .before .before .before .before .before .before .before .before .before .before .before .before .before .before .before .before .before .before .before in
+    let s = c .before .before .before .before .before .before .before .before .before .before .before .before .before .before .before .before .before .before .before in
     let a = s .args in
     let f = s .pre .2 in
+    let names = placeNames (now (a .text)) (now (a .pstarts)) (now (a .pends)) (a .table) in
     let step = c .before .before .words-by in
-    (λ rules long. rule-refused f rules (wordsOf (part (now (a .text)) (a .at) (a .end - a .at))) (c .before .before .before .before .before .before .before .before .before .before .before .before .before .before .before .before .before .before .if1 .left) (step .result) (scope-is f rules refl) (step .ensures .0) (ruled (now (a .text)) (a .table) rules (step .result .parsed)) (c .if2 .taken), step .ensures .1, λ z. absurd (c .if2 .taken z))
+    (λ rules long. rule-refused f names rules (wordsOf (part (now (a .text)) (a .at) (a .end - a .at))) (c .before .before .before .before .before .before .before .before .before .before .before .before .before .before .if1 .left) (step .result) (scope-is f names rules refl) (step .ensures .0) (ruled (now (a .text)) names (a .table) rules (step .result .parsed)) (c .if2 .taken), step .ensures .1, λ z. absurd (c .if2 .taken z))
 
 rule-refusal-requires : tie.Need-rule-refusal-requires
-rule-refusal-requires c κs = c .before .before .before .before .before .before .before .before .before .before .before .before .before .before .before .before .before .before .before .before .before .before .before .pre .2 .clocks
+rule-refusal-requires c κs = c .before .before .before .before .before .before .before .before .before .before .before .before .before .before .before .before .before .before .before .before .before .pre .2 .clocks
 
 returns-3 : tie.Need-returns-3
 returns-3 c =
-    let s = c .before .before .before .before .before .before .before .before .before .before .before .before .before .before .before .before .before .before .before .before .before .before .before .before in
+    let s = c .before .before .before .before .before .before .before .before .before .before .before .before .before .before .before .before .before .before .before .before .before .before in
     let a = s .args in
     let f = s .pre .2 in
+    let names = placeNames (now (a .text)) (now (a .pstarts)) (now (a .pends)) (a .table) in
     let step = c .before .before .before .before .before .words-by in
     let p = step .result .parsed in
-    let n = a .table .clocks in (
-      λ rules long. rule-tested f rules (wordsOf (part (now (a .text)) (a .at) (a .end - a .at))) (c .before .before .before .before .before .before .before .before .before .before .before .before .before .before .before .before .before .before .before .before .before .if1 .left) (step .result) (scope-is f rules refl) (step .ensures .0) (c .before .before .before .if2 .left) long (c .rule-refusal .ensures),
+    let n = a .table .clocks in
+    let tested = c .rule-refusal .ensures in (
+      λ rules long. rule-tested f names rules (wordsOf (part (now (a .text)) (a .at) (a .end - a .at))) (c .before .before .before .before .before .before .before .before .before .before .before .before .before .before .before .before .before .if1 .left) (step .result) (scope-is f names rules refl) (step .ensures .0) (c .before .before .before .if2 .left) long tested,
       step .ensures .1,
-      λ z. (c .before .before .before .before .before .before .before .before .before .before .before .before .before .before .before .before .before .before .before .before .before .if1 .left, room-left (ends (begunOf n p) (partOf (p .part) (p .clock))) (boundsGood (take n (a .table .ceilings)) (boundsOf n (p .low) (p .high))) (a .count) (sym (c .rule-refusal .ensures) ∙ z)),
+      λ z. (c .before .before .before .before .before .before .before .before .before .before .before .before .before .before .before .before .before .if1 .left, room-left (ends (begunOf n p) (partOf (p .part) (p .clock))) (boundsGood (take n (a .table .ceilings)) (boundsOf n (p .low) (p .high))) (a .count) (sym tested ∙ z)),
     )
 
 pub rule-line-spec : {M : Type 1} → statement M
@@ -96,8 +95,6 @@ rule-line-spec =
     slice-aggregate-words-by-3
     slice-aggregate-words-by-4
     slice-aggregate-words-by-5
-    slice-aggregate-words-by-6
-    slice-aggregate-words-by-7
     sub-words-by
     part-words-by-start
     part-words-by-end

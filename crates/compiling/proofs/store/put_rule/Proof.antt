@@ -3,7 +3,7 @@ use mathlib.Core.Path.{subst}
 use mathlib.Core.List.{List}
 use Prim.Native.Nat.{ℕ}
 use native.Mathlib.Omega.{arith}
-use lib.ListN.{length, length-take}
+use lib.ListN.{length-take}
 use denote.Ref.{now}
 use borrow.Author.Needs.{needs}
 use Rattle.texts.specs.Wrote.{Wrote}

@@ -1,4 +1,5 @@
 -- `declarations::clockline::add_clock` meets its contract.
+use mathlib.Core.Path.{refl}
 use borrow.Author.Needs.{needs}
 use Rattle.declarations.specs.ClockLine.{clock-more, fit-clock}
 use Rattle.declarations.proofs.clockline.add_clock.Statement.{statement}
@@ -29,7 +30,7 @@ returns : tie.Need-returns
 returns c =
     let a = c .args in
     let f = c .pre .4 in
-    (clock-more f (a .a) (a .b) (a .ceiling) (c .pre .2), fit-clock f (a .a) (a .b) (a .ceiling) (c .pre .2) (c .pre .0) (c .pre .1))
+    (clock-more f (a .a) (a .b) (a .ceiling) (c .pre .2), fit-clock f (a .a) (a .b) (a .ceiling) (c .pre .2) (c .pre .0) (c .pre .1), refl)
 
 pub add-clock-spec : {M : Type 1} → statement M
 add-clock-spec =

@@ -1,7 +1,6 @@
 -- `declarations::clockline::clock_line` meets its contract.
-use mathlib.Core.Path.{ap, sym, _∙_}
+use mathlib.Core.Path.{refl, ap, sym, _∙_}
 use Prim.Native.Nat.{_-_}
-use native.Mathlib.Omega.{arith}
 use denote.Ref.{now}
 use borrow.Author.Needs.{needs}
 use Rattle.streams.specs.Answer.{gives}
@@ -16,13 +15,13 @@ returns : tie.Need-returns
 returns c =
     let s = c .before .before .before in
     let a = s .args in
-    (λ rules l e. clock-form (draftOf (now (a .text)) (a .table) rules) (a .few .count) (part (now (a .text)) (a .few .start) (a .few .end - a .few .start)) (part (now (a .text)) (a .few .from) (a .few .to - a .few .from)) l (c .if1 .taken) e, s .pre .4)
+    (λ places rules l e. clock-form (draftOf (now (a .text)) places (a .table) rules) (a .few .count) (part (now (a .text)) (a .few .start) (a .few .end - a .few .start)) (part (now (a .text)) (a .few .from) (a .few .to - a .few .from)) l (c .if1 .taken) e, s .pre .4, refl)
 
 returns-2 : tie.Need-returns-2
 returns-2 c =
     let s = c .before .before .before .before .before in
     let a = s .args in
-    (λ rules l e. clock-late (draftOf (now (a .text)) (a .table) rules) (part (now (a .text)) (a .few .start) (a .few .end - a .few .start)) (part (now (a .text)) (a .few .from) (a .few .to - a .few .from)) l (shaped-two (a .few .count) (part (now (a .text)) (a .few .start) (a .few .end - a .few .start)) (part (now (a .text)) (a .few .from) (a .few .to - a .few .from)) l (c .before .before .if1 .left) e) (c .if2 .taken), s .pre .4)
+    (λ places rules l e. clock-late (draftOf (now (a .text)) places (a .table) rules) (part (now (a .text)) (a .few .start) (a .few .end - a .few .start)) (part (now (a .text)) (a .few .from) (a .few .to - a .few .from)) l (shaped-two (a .few .count) (part (now (a .text)) (a .few .start) (a .few .end - a .few .start)) (part (now (a .text)) (a .few .from) (a .few .to - a .few .from)) l (c .before .before .if1 .left) e) (c .if2 .taken), s .pre .4, refl)
 
 name-refusal-requires : tie.Need-name-refusal-requires
 name-refusal-requires c κs = search needs
@@ -31,7 +30,7 @@ returns-3 : tie.Need-returns-3
 returns-3 c =
     let s = c .before .before .before .before .before .before .before in
     let a = s .args in
-    (λ rules l e. clock-named (draftOf (now (a .text)) (a .table) rules) (part (now (a .text)) (a .few .start) (a .few .end - a .few .start)) (part (now (a .text)) (a .few .from) (a .few .to - a .few .from)) l (shaped-two (a .few .count) (part (now (a .text)) (a .few .start) (a .few .end - a .few .start)) (part (now (a .text)) (a .few .from) (a .few .to - a .few .from)) l (c .before .before .before .before .if1 .left) e) (c .before .before .if2 .left) (c .before .name-refusal .result) (draftOf (now (a .text)) (a .table) rules) (c .before .name-refusal .ensures) (c .if3 .taken), s .pre .4)
+    (λ places rules l e. clock-named (draftOf (now (a .text)) places (a .table) rules) (part (now (a .text)) (a .few .start) (a .few .end - a .few .start)) (part (now (a .text)) (a .few .from) (a .few .to - a .few .from)) l (shaped-two (a .few .count) (part (now (a .text)) (a .few .start) (a .few .end - a .few .start)) (part (now (a .text)) (a .few .from) (a .few .to - a .few .from)) l (c .before .before .before .before .if1 .left) e) (c .before .before .if2 .left) (c .before .name-refusal .result) (draftOf (now (a .text)) places (a .table) rules) (c .before .name-refusal .ensures) (c .if3 .taken), s .pre .4, refl)
 
 sub-number-of : tie.Need-sub-number-of
 sub-number-of c = search needs
@@ -49,7 +48,7 @@ returns-4 : tie.Need-returns-4
 returns-4 c =
     let s = c .before .before .before .before .before .before .before .before .before .before .before in
     let a = s .args in
-    (λ rules l e. clock-number (draftOf (now (a .text)) (a .table) rules) (part (now (a .text)) (a .few .start) (a .few .end - a .few .start)) (part (now (a .text)) (a .few .from) (a .few .to - a .few .from)) l (shaped-two (a .few .count) (part (now (a .text)) (a .few .start) (a .few .end - a .few .start)) (part (now (a .text)) (a .few .from) (a .few .to - a .few .from)) l (c .before .before .before .before .before .before .before .before .if1 .left) e) (c .before .before .before .before .before .before .if2 .left) (sym (c .before .before .before .before .if3 .left) ∙ c .before .before .before .before .before .name-refusal .ensures) (c .before .before .number-of .result .refusal) (c .before .before .number-of .result .value) (c .before .before .number-of .ensures) (draftOf (now (a .text)) (a .table) rules) (c .if4 .taken), s .pre .4)
+    (λ places rules l e. clock-number (draftOf (now (a .text)) places (a .table) rules) (part (now (a .text)) (a .few .start) (a .few .end - a .few .start)) (part (now (a .text)) (a .few .from) (a .few .to - a .few .from)) l (shaped-two (a .few .count) (part (now (a .text)) (a .few .start) (a .few .end - a .few .start)) (part (now (a .text)) (a .few .from) (a .few .to - a .few .from)) l (c .before .before .before .before .before .before .before .before .if1 .left) e) (c .before .before .before .before .before .before .if2 .left) (sym (c .before .before .before .before .if3 .left) ∙ c .before .before .before .before .before .name-refusal .ensures) (c .before .before .number-of .result .refusal) (c .before .before .number-of .result .value) (c .before .before .number-of .ensures) (draftOf (now (a .text)) places (a .table) rules) (c .if4 .taken), s .pre .4, refl)
 
 clock-refusal-requires : tie.Need-clock-refusal-requires
 clock-refusal-requires c κs = search needs
@@ -58,7 +57,7 @@ returns-5 : tie.Need-returns-5
 returns-5 c =
     let s = c .before .before .before .before .before .before .before .before .before .before .before .before .before in
     let a = s .args in
-    (λ rules l e. clock-last (draftOf (now (a .text)) (a .table) rules) (part (now (a .text)) (a .few .start) (a .few .end - a .few .start)) (part (now (a .text)) (a .few .from) (a .few .to - a .few .from)) l (shaped-two (a .few .count) (part (now (a .text)) (a .few .start) (a .few .end - a .few .start)) (part (now (a .text)) (a .few .from) (a .few .to - a .few .from)) l (c .before .before .before .before .before .before .before .before .before .before .if1 .left) e) (c .before .before .before .before .before .before .before .before .if2 .left) (sym (c .before .before .before .before .before .before .if3 .left) ∙ c .before .before .before .before .before .before .before .name-refusal .ensures) (c .before .before .before .before .number-of .result .refusal) (c .before .before .before .before .number-of .result .value) (c .before .before .before .before .number-of .ensures) (c .before .before .if4 .left) (c .before .clock-refusal .result) (draftOf (now (a .text)) (a .table) rules) (c .before .clock-refusal .ensures ∙ ap (clockRefusal (c .before .before .before .before .number-of .result .value)) (sym (spans-long (now (a .text)) (a .table .cstarts) (a .table .cends) 0 (a .table .clocks)))) (c .if5 .taken), s .pre .4)
+    (λ places rules l e. clock-last (draftOf (now (a .text)) places (a .table) rules) (part (now (a .text)) (a .few .start) (a .few .end - a .few .start)) (part (now (a .text)) (a .few .from) (a .few .to - a .few .from)) l (shaped-two (a .few .count) (part (now (a .text)) (a .few .start) (a .few .end - a .few .start)) (part (now (a .text)) (a .few .from) (a .few .to - a .few .from)) l (c .before .before .before .before .before .before .before .before .before .before .if1 .left) e) (c .before .before .before .before .before .before .before .before .if2 .left) (sym (c .before .before .before .before .before .before .if3 .left) ∙ c .before .before .before .before .before .before .before .name-refusal .ensures) (c .before .before .before .before .number-of .result .refusal) (c .before .before .before .before .number-of .result .value) (c .before .before .before .before .number-of .ensures) (c .before .before .if4 .left) (c .before .clock-refusal .result) (draftOf (now (a .text)) places (a .table) rules) (c .before .clock-refusal .ensures ∙ ap (clockRefusal (c .before .before .before .before .number-of .result .value)) (sym (spans-long (now (a .text)) (a .table .cstarts) (a .table .cends) 0 (a .table .clocks)))) (c .if5 .taken), s .pre .4, refl)
 
 add-clock-requires : tie.Need-add-clock-requires
 add-clock-requires c κs =
@@ -70,7 +69,7 @@ returns-6 : tie.Need-returns-6
 returns-6 c =
     let s = c .before .before .before .before .before .before .before .before .before .before .before .before .before .before in
     let a = s .args in
-    (λ rules l e. ap gives (c .add-clock .ensures .0 rules) ∙ clock-given (draftOf (now (a .text)) (a .table) rules) (part (now (a .text)) (a .few .start) (a .few .end - a .few .start)) (part (now (a .text)) (a .few .from) (a .few .to - a .few .from)) l (shaped-two (a .few .count) (part (now (a .text)) (a .few .start) (a .few .end - a .few .start)) (part (now (a .text)) (a .few .from) (a .few .to - a .few .from)) l (c .before .before .before .before .before .before .before .before .before .before .before .if1 .left) e) (c .before .before .before .before .before .before .before .before .before .if2 .left) (sym (c .before .before .before .before .before .before .before .if3 .left) ∙ c .before .before .before .before .before .before .before .before .name-refusal .ensures) (c .before .before .before .before .before .number-of .result .refusal) (c .before .before .before .before .before .number-of .result .value) (c .before .before .before .before .before .number-of .ensures) (c .before .before .before .if4 .left) (sym (c .before .if5 .left) ∙ c .before .before .clock-refusal .ensures ∙ ap (clockRefusal (c .before .before .before .before .before .number-of .result .value)) (sym (spans-long (now (a .text)) (a .table .cstarts) (a .table .cends) 0 (a .table .clocks)))), c .add-clock .ensures .1)
+    (λ places rules l e. ap gives (c .add-clock .ensures .0 places rules) ∙ clock-given (draftOf (now (a .text)) places (a .table) rules) (part (now (a .text)) (a .few .start) (a .few .end - a .few .start)) (part (now (a .text)) (a .few .from) (a .few .to - a .few .from)) l (shaped-two (a .few .count) (part (now (a .text)) (a .few .start) (a .few .end - a .few .start)) (part (now (a .text)) (a .few .from) (a .few .to - a .few .from)) l (c .before .before .before .before .before .before .before .before .before .before .before .if1 .left) e) (c .before .before .before .before .before .before .before .before .before .if2 .left) (sym (c .before .before .before .before .before .before .before .if3 .left) ∙ c .before .before .before .before .before .before .before .before .name-refusal .ensures) (c .before .before .before .before .before .number-of .result .refusal) (c .before .before .before .before .before .number-of .result .value) (c .before .before .before .before .before .number-of .ensures) (c .before .before .before .if4 .left) (sym (c .before .if5 .left) ∙ c .before .before .clock-refusal .ensures ∙ ap (clockRefusal (c .before .before .before .before .before .number-of .result .value)) (sym (spans-long (now (a .text)) (a .table .cstarts) (a .table .cends) 0 (a .table .clocks)))), c .add-clock .ensures .1, c .add-clock .ensures .2)
 
 pub clock-line-spec : {M : Type 1} → statement M
 clock-line-spec =

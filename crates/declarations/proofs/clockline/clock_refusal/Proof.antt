@@ -1,5 +1,4 @@
 -- `declarations::clockline::clock_refusal` meets its contract.
-use borrow.Author.Needs.{needs}
 use Rattle.declarations.specs.ClockLine.{ceiling-none, ceiling-large, clock-room, clock-full}
 use Rattle.declarations.proofs.clockline.clock_refusal.Statement.{statement}
 use Rattle.declarations.proofs.clockline.clock_refusal.Tie as tie

@@ -1,6 +1,5 @@
 -- `declarations::letters::letter_of` meets its contract.
 use mathlib.Core.Path.{sym, _∙_}
-use native.Mathlib.Omega.{arith}
 use lib.ListN.{take}
 use denote.Ref.{now}
 use borrow.Author.Tests.{not-true, not-false}

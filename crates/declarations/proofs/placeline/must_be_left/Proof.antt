@@ -1,5 +1,4 @@
 -- `declarations::placeline::must_be_left` meets its contract.
-use native.Mathlib.Omega.{arith}
 use borrow.Author.Needs.{needs}
 use Rattle.declarations.specs.PlaceLine.{left-none, left-one, left-two, left-more, left-must, left-be, left-left}
 use Rattle.declarations.proofs.placeline.must_be_left.Statement.{statement}

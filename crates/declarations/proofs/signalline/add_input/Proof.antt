@@ -1,4 +1,5 @@
 -- `declarations::signalline::add_input` meets its contract.
+use mathlib.Core.Path.{refl}
 use borrow.Author.Needs.{needs}
 use Rattle.declarations.specs.SignalLine.{input-more, fit-input}
 use Rattle.declarations.proofs.signalline.add_input.Statement.{statement}
@@ -29,7 +30,7 @@ returns : tie.Need-returns
 returns c =
     let a = c .args in
     let f = c .pre .4 in
-    (input-more f (a .a) (a .b) (a .tag) (c .pre .2) (c .pre .3), fit-input f (a .a) (a .b) (a .tag) (c .pre .2) (c .pre .3) (c .pre .0) (c .pre .1))
+    (input-more f (a .a) (a .b) (a .tag) (c .pre .2) (c .pre .3), fit-input f (a .a) (a .b) (a .tag) (c .pre .2) (c .pre .3) (c .pre .0) (c .pre .1), refl)
 
 pub add-input-spec : {M : Type 1} → statement M
 add-input-spec =

@@ -1,5 +1,5 @@
 -- `declarations::signalline::output_line` meets its contract.
-use mathlib.Core.Path.{ap, _∙_}
+use mathlib.Core.Path.{refl, ap, _∙_}
 use Prim.Native.Nat.{_-_}
 use native.Mathlib.Omega.{arith}
 use denote.Ref.{now}
@@ -15,19 +15,19 @@ returns : tie.Need-returns
 returns c =
     let s = c .before .before .before in
     let a = s .args in
-    (λ rules l e. output-late (s .pre .4) rules (a .few .count) (part (now (a .text)) (a .few .start) (a .few .end - a .few .start)) (part (now (a .text)) (a .few .from) (a .few .to - a .few .from)) l e (c .if1 .taken), s .pre .4)
+    (λ places rules l e. output-late (s .pre .4) places rules (a .few .count) (part (now (a .text)) (a .few .start) (a .few .end - a .few .start)) (part (now (a .text)) (a .few .from) (a .few .to - a .few .from)) l e (c .if1 .taken), s .pre .4, refl)
 
 returns-2 : tie.Need-returns-2
 returns-2 c =
     let s = c .before .before .before .before .before in
     let a = s .args in
-    (λ rules l e. output-form (s .pre .4) rules (a .few .count) (part (now (a .text)) (a .few .start) (a .few .end - a .few .start)) (part (now (a .text)) (a .few .from) (a .few .to - a .few .from)) l e (c .before .before .if1 .left) (λ y z. omega (arith, y, c .if2 .taken)), s .pre .4)
+    (λ places rules l e. output-form (s .pre .4) places rules (a .few .count) (part (now (a .text)) (a .few .start) (a .few .end - a .few .start)) (part (now (a .text)) (a .few .from) (a .few .to - a .few .from)) l e (c .before .before .if1 .left) (λ y z. omega (arith, y, c .if2 .taken)), s .pre .4, refl)
 
 returns-3 : tie.Need-returns-3
 returns-3 c =
     let s = c .before .before .before .before .before .before .before in
     let a = s .args in
-    (λ rules l e. output-form (s .pre .4) rules (a .few .count) (part (now (a .text)) (a .few .start) (a .few .end - a .few .start)) (part (now (a .text)) (a .few .from) (a .few .to - a .few .from)) l e (c .before .before .before .before .if1 .left) (λ y z. omega (arith, z, c .if3 .taken)), s .pre .4)
+    (λ places rules l e. output-form (s .pre .4) places rules (a .few .count) (part (now (a .text)) (a .few .start) (a .few .end - a .few .start)) (part (now (a .text)) (a .few .from) (a .few .to - a .few .from)) l e (c .before .before .before .before .if1 .left) (λ y z. omega (arith, z, c .if3 .taken)), s .pre .4, refl)
 
 sub-count : tie.Need-sub-count
 sub-count c = search needs
@@ -39,7 +39,7 @@ returns-4 : tie.Need-returns-4
 returns-4 c =
     let s = c .before .before .before .before .before .before .before .before .before .before .before in
     let a = s .args in
-    (λ rules l e. output-not (s .pre .4) rules (a .few .count) (part (now (a .text)) (a .few .start) (a .few .end - a .few .start)) (part (now (a .text)) (a .few .from) (a .few .to - a .few .from)) l e (c .before .before .before .before .before .before .if2 .left) (c .before .before .before .before .if3 .left) (c .before .before .signal-tag .result .refusal) (c .before .before .signal-tag .result .value) (c .before .before .before .before .before .before .before .before .if1 .left) (c .before .before .signal-tag .ensures .0) (draftOf (now (a .text)) (a .table) rules) (c .if4 .taken), s .pre .4)
+    (λ places rules l e. output-not (s .pre .4) places rules (a .few .count) (part (now (a .text)) (a .few .start) (a .few .end - a .few .start)) (part (now (a .text)) (a .few .from) (a .few .to - a .few .from)) l e (c .before .before .before .before .before .before .if2 .left) (c .before .before .before .before .if3 .left) (c .before .before .signal-tag .result .refusal) (c .before .before .signal-tag .result .value) (c .before .before .before .before .before .before .before .before .if1 .left) (c .before .before .signal-tag .ensures .0) (draftOf (now (a .text)) places (a .table) rules) (c .if4 .taken), s .pre .4, refl)
 
 add-output-requires : tie.Need-add-output-requires
 add-output-requires c κs =
@@ -51,7 +51,7 @@ returns-5 : tie.Need-returns-5
 returns-5 c =
     let s = c .before .before .before .before .before .before .before .before .before .before .before .before in
     let a = s .args in
-    (λ rules l e. ap gives (c .add-output .ensures .0 rules) ∙ output-given (s .pre .4) rules (a .few .count) (part (now (a .text)) (a .few .start) (a .few .end - a .few .start)) (part (now (a .text)) (a .few .from) (a .few .to - a .few .from)) l e (c .before .before .before .before .before .before .before .if2 .left) (c .before .before .before .before .before .if3 .left) (c .before .before .before .signal-tag .result .refusal) (c .before .before .before .signal-tag .result .value) (c .before .before .before .before .before .before .before .before .before .if1 .left) (c .before .before .before .signal-tag .ensures .0) (c .before .if4 .left), c .add-output .ensures .1)
+    (λ places rules l e. ap gives (c .add-output .ensures .0 places rules) ∙ output-given (s .pre .4) places rules (a .few .count) (part (now (a .text)) (a .few .start) (a .few .end - a .few .start)) (part (now (a .text)) (a .few .from) (a .few .to - a .few .from)) l e (c .before .before .before .before .before .before .before .if2 .left) (c .before .before .before .before .before .if3 .left) (c .before .before .before .signal-tag .result .refusal) (c .before .before .before .signal-tag .result .value) (c .before .before .before .before .before .before .before .before .before .if1 .left) (c .before .before .before .signal-tag .ensures .0) (c .before .if4 .left), c .add-output .ensures .1, c .add-output .ensures .2)
 
 pub output-line-spec : {M : Type 1} → statement M
 output-line-spec =

@@ -7,24 +7,30 @@ use Rattle.compiling.specs.Promise.{Got, got, ceilings-fit, file-stopped, file-
 use Rattle.pointing.proofs.nameat.name_of.Statement.{statement}
 use Rattle.pointing.proofs.nameat.name_of.Tie as tie
 
+slice-aggregate-read-lines : tie.Need-slice-aggregate-read-lines
+slice-aggregate-read-lines c = search needs
+
+slice-aggregate-read-lines-2 : tie.Need-slice-aggregate-read-lines-2
+slice-aggregate-read-lines-2 c = search needs
+
 read-lines-requires : tie.Need-read-lines-requires
 read-lines-requires c κs = search needs
 
 returns : tie.Need-returns
-returns c = let a = c .before .before .before .before .args in let r = c .before .before .read-lines in name-stops (a .kind) (now (a .text)) (a .i) (file-stopped (now (a .text)) [] (r .result) (r .ensures .0) (c .if1 .taken))
+returns c = let a = c .before .before .before .before .before .before .before .before .args in let r = c .before .before .before .before .read-lines in name-stops (a .kind) (now (a .text)) (a .i) (file-stopped (now (a .text)) [] (r .result) (r .ensures .0) (c .if1 .taken))
 
 own-refusal-requires : tie.Need-own-refusal-requires
 own-refusal-requires c κs =
-    let a = c .before .before .before .before .before .before .args in
-    let r = c .before .before .before .before .read-lines in
+    let a = c .before .before .before .before .before .before .before .before .before .before .args in
+    let r = c .before .before .before .before .before .before .read-lines in
     let f = r .ensures .1 in
     let g : Got (now (a .text)) (r .result) = got (r .ensures .0) (c .before .before .if1 .left) in
     (f .clocks, f .places, ceilings-fit (now (a .text)) [] f g)
 
 returns-2 : tie.Need-returns-2
 returns-2 c =
-    let a = c .before .before .before .before .before .before .before .before .args in
-    let r = c .before .before .before .before .before .before .read-lines in
+    let a = c .before .before .before .before .before .before .before .before .before .before .before .before .args in
+    let r = c .before .before .before .before .before .before .before .before .read-lines in
     let f = r .ensures .1 in
     let g : Got (now (a .text)) (r .result) = got (r .ensures .0) (c .before .before .before .before .if1 .left) in
     name-stops (a .kind) (now (a .text)) (a .i) (file-own (now (a .text)) [] f g (c .before .own-refusal .ensures) (c .if2 .taken))
@@ -34,8 +40,8 @@ find-named-requires c κs = search needs
 
 returns-3 : tie.Need-returns-3
 returns-3 c =
-    let a = c .before .before .before .before .before .before .before .before .before .args in
-    let r = c .before .before .before .before .before .before .before .read-lines in
+    let a = c .before .before .before .before .before .before .before .before .before .before .before .before .before .args in
+    let r = c .before .before .before .before .before .before .before .before .before .read-lines in
     let f = r .ensures .1 in
     let g : Got (now (a .text)) (r .result) = got (r .ensures .0) (c .before .before .before .before .before .if1 .left) in
     name-given (a .kind) (now (a .text)) (a .i) (file-read (now (a .text)) [] f g (c .before .before .own-refusal .ensures) (c .before .if2 .left)) (c .find-named .ensures)
@@ -44,6 +50,8 @@ pub name-of-spec : {M : Type 1} → statement M
 name-of-spec =
     tie.close
     (tie.spec
+    slice-aggregate-read-lines
+    slice-aggregate-read-lines-2
     read-lines-requires
     returns
     own-refusal-requires

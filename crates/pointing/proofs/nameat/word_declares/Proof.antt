@@ -1,5 +1,4 @@
 -- `pointing::nameat::word_declares` meets its contract.
-use borrow.Author.Needs.{needs}
 use Rattle.pointing.specs.NameAt.{declares-signal, declares-clock, declares-place}
 use Rattle.pointing.proofs.nameat.word_declares.Statement.{statement}
 use Rattle.pointing.proofs.nameat.word_declares.Tie as tie
