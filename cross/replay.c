@@ -19,7 +19,8 @@ static const struct kind { const char *name, *given; } kinds[] = {
     {"wave_write", "ssS"}, {"wave_read", "ssS"}, {"index", "sN"}, {"input_indexed", "bssnnb"}, {"output_indexed", "bssNnbb"},
     {"bays_new", "N"}, {"bay_input", "bssnwb"}, {"bay_output", "bssNwbb"}, {"meter_new", "NTh"}, {"meter_input", "bssnhb"},
     {"meter_output", "bssNThbb"}, {"prepare_fast", "bsSk"}, {"clean", "bsSS"}, {"why", "bssnbb"},
-    {"check", "s"}, {"why_run", "bssNsRqqpk"},
+    {"check", "s"}, {"why_run", "bssNsRqqpk"}, {"text_read", "sS"}, {"text_write", "sS"}, {"text_line_of_rule", "sw"},
+    {"text_name_of_signal", "sw"}, {"text_name_of_clock", "sw"}, {"text_name_of_location", "sw"},
 };
 enum { KINDS = sizeof kinds / sizeof *kinds };
 
@@ -186,6 +187,12 @@ static uint64_t call(int kind) {
     case 19: return groovepawn_clean(BYTE(0), BYTES(1), BYTES(2), BYTES(3));
     case 20: return groovepawn_why(BYTE(0), BYTES(1), BYTES(2), PAIRS(3), BYTE(4), BYTE(5));
     case 21: return groovepawn_check(BYTES(0));
+    case 23: return groovepawn_text_read(BYTES(0), BYTES(1));
+    case 24: return groovepawn_text_write(BYTES(0), BYTES(1));
+    case 25: return groovepawn_text_line_of_rule(BYTES(0), WORD(1));
+    case 26: return groovepawn_text_name_of_signal(BYTES(0), WORD(1));
+    case 27: return groovepawn_text_name_of_clock(BYTES(0), WORD(1));
+    case 28: return groovepawn_text_name_of_location(BYTES(0), WORD(1));
     default:
         return groovepawn_why_run(BYTE(0), BYTES(1), BYTES(2), PAIRS(3), BYTES(4), LONGS(5), WORDS(6), WORDS(7), BYTES(8), LENT(0), LENT(1), LENT(2),
                                   LENT(3), LENT(4));

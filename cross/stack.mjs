@@ -61,6 +61,13 @@ function* calls(file, reading) {
   yield ['ticks', 12345, 100, 1];
   const written = yield ['wave_write', file, restless, text];
   yield ['wave_read', file, text.subarray(0, Number(written >> 8n)), new Uint8Array(EVENTS)];
+  const policyText = new Uint8Array(39420);
+  const shown = policyText.subarray(0, Number((yield ['text_write', file, policyText]) >> 8n));
+  yield ['text_read', shown, new Uint8Array(FILE)];
+  yield ['text_line_of_rule', shown, 255];
+  yield ['text_name_of_signal', shown, 7];
+  yield ['text_name_of_clock', shown, 3];
+  yield ['text_name_of_location', shown, 1];
 }
 
 function used(call) {

@@ -207,8 +207,8 @@ for target in "${targets[@]}"; do
     fi | awk -v target="$target" '{ print target, $1, $2 }'
 done >"$work/stacks"
 awk '{ if (!($1 in t)) { t[$1]; order[++n] = $1 } if (!($2 in f)) { f[$2]; functions[++m] = $2 } v[$1, $2] = $3 }
-    END { printf "%-28s", ""; for (i = 1; i <= n; i++) printf " %13s", order[i]; print ""
-          for (j = 1; j <= m; j++) { printf "%-28s", functions[j]; for (i = 1; i <= n; i++) printf " %13s", v[order[i], functions[j]]; print "" } }' "$work/stacks"
+    END { printf "%-32s", ""; for (i = 1; i <= n; i++) printf " %13s", order[i]; print ""
+          for (j = 1; j <= m; j++) { printf "%-32s", functions[j]; for (i = 1; i <= n; i++) printf " %13s", v[order[i], functions[j]]; print "" } }' "$work/stacks"
 
 echo
 echo "instructions of one call"
