@@ -7,12 +7,14 @@ The modules are put one after another into one script, each after those that it 
 load no other file. The library stands in the script, packed.
 """
 import base64
+import json
 import pathlib
 import re
 import sys
 import zlib
 
-SOURCES = pathlib.Path(__file__).parent / "src"
+SOURCES = pathlib.Path(__file__).resolve().parent / "src"
+PATTERNS = SOURCES.parents[1] / "docs/WRITING-POLICIES.md"
 MOST_BYTES = 400_000
 IMPORT = re.compile(r"^import \{ ([^}]*) \} from '\./(\w+)\.js';$", re.M)
 EXPORT = re.compile(r"^export (?:async )?(?:function|class|const) (\w+)", re.M)
@@ -48,6 +50,25 @@ def module(name):
     return f"modules.{name} = (() => {{\n{body}\nreturn {{ {', '.join(exports)} }};\n}})();\n"
 
 
+def pattern(section):
+    """A pattern of the page on writing policies: its title, the first policy as text, and the stream that is read in its table."""
+    title = re.match(r"### (\d+\. .*)", section)[1]
+    text = re.search(r"\n\n((?:    .*\n|\n)+)", section)[1]
+    read = re.search(r"^\| read \|(.*)\|$", section, re.M)[1]
+    events = "".join(f"{' '.join(event.strip())}\n" for event in read.split("|"))
+    policy = re.sub(r"^    ", "", text, flags=re.M).strip("\n")
+    return {"name": title, "text": f"# {title}\n{policy}\n", "events": events, "reading": "both" if "| released, reading 2" in section else "1"}
+
+
+def patterns():
+    page = PATTERNS.read_text(encoding="utf-8")
+    part = page[page.index("\n## Ten patterns"):page.index("\n## How far joins go")]
+    found = [pattern(section) for section in re.split(r"\n(?=### )", part)[1:]]
+    if len(found) != 10:
+        fail(f"{PATTERNS.name} has {len(found)} patterns")
+    return json.dumps(found)
+
+
 def packed(wasm):
     squeeze = zlib.compressobj(9, zlib.DEFLATED, -15)
     return base64.b64encode(squeeze.compress(wasm) + squeeze.flush()).decode("ascii")
@@ -55,7 +76,7 @@ def packed(wasm):
 
 def program(wasm):
     modules = "".join(module(name) for name in in_order("main", []))
-    text = f"'use strict';\nconst WASM = '{packed(wasm)}';\nconst modules = {{}};\n{modules}"
+    text = f"'use strict';\nconst WASM = '{packed(wasm)}';\nconst PATTERNS = {patterns()};\nconst modules = {{}};\n{modules}"
     if "</script" in text or "<!--" in text:
         fail("the program has what would end its script")
     return text

@@ -1,4 +1,5 @@
-// Samples: the five of the scope, a transfer station, the pacemaker's policies, clauses that are joined, and the commonest patterns.
+// Samples: a transfer station, clauses that are joined, the pacemaker's policies, the five of the scope, and the ten patterns of
+// docs/WRITING-POLICIES.md, which stand in the script as PATTERNS.
 
 const station = `# A transfer station: a card, a credit within 30 s of it
 # (300 ticks), then water. A stale credit never passes.
@@ -286,6 +287,7 @@ export const SAMPLES = [
   { group: 'Joined', name: 'Three clauses, joined', clauses, events: 'credit arm\nvalve arm\nstop valve arm\n- * 4\nvalve arm\ncredit arm\nvalve\n', reading: '1' },
   { group: 'Joined', name: 'Pacemaker, P1 to P5 (ticks of 75 ms)', clauses: pacemaker(SEVENTY_FIVE), events: heartEvents, reading: '1' },
   { group: 'Joined', name: 'Pacemaker, P1 to P4 (ticks of 50 ms)', clauses: pacemaker(FIFTY).slice(0, 4), events: heartEvents, reading: '1' },
+  ...PATTERNS.map(({ name, text, events, reading }) => one('Ten patterns', name, text, events, reading)),
   one('Of the scope', 'S: never A with B, never B with R', S, 'A B\nB R\nA B R\nA R\n'),
   one('Of the scope', 'D: an answer in time', D, 'request\n- * 4\n', 'both'),
   one('Of the scope', 'T: a permitted event without a future', T, 'A\nA B\n'),

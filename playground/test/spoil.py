@@ -49,7 +49,7 @@ def noticed(wasm, source, old, new, test):
         top = pathlib.Path(folder)
         copy = top / "playground"
         shutil.copytree(PLAYGROUND, copy)
-        for beside in ("cross", "crates"):
+        for beside in ("cross", "crates", "docs"):
             (top / beside).symlink_to(PLAYGROUND.parent / beside)
         path = copy / "src" / source
         text = path.read_text(encoding="utf-8")

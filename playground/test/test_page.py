@@ -223,6 +223,25 @@ def test_samples_of_the_scope(page, _):
     expect(page.browser.run("return document.querySelector('#tick').disabled"), "a hopeless policy can be ticked")
 
 
+def test_patterns(page, _):
+    """The ten patterns as docs/WRITING-POLICIES.md has them: verdict, states, and what is released under each reading."""
+    part = (ROOT / "docs/WRITING-POLICIES.md").read_text(encoding="utf-8").split("\n## Ten patterns")[1].split("\n## How far joins go")[0]
+    sections = part.split("\n### ")[1:]
+    same(len(sections), 10, "patterns")
+    for section in sections:
+        name = section.splitlines()[0]
+        page.sample(name)
+        verdict, states = re.search(r"^Verdict (\d), (\d+) state", section, re.M).groups()
+        within(f"Verdict {verdict}. ", page.text("#verdict"), name)
+        within(f"({states} state", page.text("#verdict"), name)
+        rows = dict(reversed(re.findall(r"^\| (released, [a-z]+ ?\w*) \|(.*)\|$", section, re.M)))
+        bits = dict(page.browser.run("return window.groovepawn.page.named.signals.map(({ tag, bit }) => [tag, bit])"))
+        for reading in (1, 2):
+            said = rows.get("released, both readings") or rows[f"released, reading {reading}"]
+            wanted = [sum(bits[letter] for letter in event.strip(" *-")) for event in said.split("|")]
+            same(page.record(reading)[1], " ".join(f"{event:02x}" for event in wanted), f"{name}, reading {reading}")
+
+
 def test_long_quiet_run(page, _):
     page.sample("K:")
     same(page.rows()[-1][:3], ["65,542", "credit", "– credit, taken off"], "credit after 65,537 quiet ticks")
