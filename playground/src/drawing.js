@@ -8,6 +8,8 @@ const HEAD = 34;
 const FOOT = 8;
 const GAP = 26;
 const LANE = 9;
+/** All lanes of a side together are no wider. */
+const SIDE_LANES = 110;
 const SIDE = 16;
 const LETTER = 7.3;
 const NARROWEST = 190;
@@ -106,15 +108,19 @@ function arrowsOf(cards) {
   return { spans, right: lanes.right.length, left: lanes.left.length };
 }
 
-function arrow(span, left, width, lit) {
+/** How far lanes stand apart. */
+const stepOf = (lanes) => Math.min(LANE, SIDE_LANES / Math.max(1, lanes));
+
+function arrow(span, left, width, step, lit) {
   const edge = span.side === 'right' ? left + width : left;
   const away = span.side === 'right' ? 1 : -1;
-  const lane = edge + away * (14 + span.lane * LANE);
+  const lane = edge + away * (14 + span.lane * step);
   const bend = 6;
   const down = span.to > span.from ? 1 : -1;
-  const path = `M${edge} ${span.from} H${lane - away * bend} Q${lane} ${span.from} ${lane} ${span.from + down * bend} V${span.to - down * bend} Q${lane} ${span.to} ${lane - away * bend} ${span.to} H${edge + away * 2}`;
+  const out = `M${edge} ${span.from} H${lane - away * bend} Q${lane} ${span.from} ${lane} ${span.from + down * bend}`;
+  const back = `V${span.to - down * bend} Q${lane} ${span.to} ${lane - away * bend} ${span.to} H${edge + away * 2}`;
   const kind = `arrow${span.row.unused ? ' unused' : ''}${lit ? ' lit' : ''}`;
-  return `<path class="${kind}" d="${path}" marker-end="url(#${lit ? 'head-lit' : span.row.unused ? 'head-unused' : 'head'})"/>`;
+  return `<path class="${kind}" d="${out} ${back}" marker-end="url(#${lit ? 'head-lit' : span.row.unused ? 'head-unused' : 'head'})"/>`;
 }
 
 function chipShapes(card, right) {
@@ -181,12 +187,13 @@ function spoken(named, cards, now) {
  */
 export function drawing(named, told, now, room) {
   const lanes = arrowsOf(cardsOf(named, told, Infinity).cards);
-  const left = SIDE + 8 + lanes.left * LANE + (lanes.left ? 10 : 0);
-  const beside = SIDE + (lanes.right ? 12 + lanes.right * LANE : 0);
+  const step = { left: stepOf(lanes.left), right: stepOf(lanes.right) };
+  const left = SIDE + 8 + lanes.left * step.left + (lanes.left ? 10 : 0);
+  const beside = SIDE + (lanes.right ? 12 + lanes.right * step.right : 0);
   const { cards, width, height } = cardsOf(named, told, Math.max(NARROWEST, room - left - beside));
   const { spans } = arrowsOf(cards);
   const full = Math.max(left + width + beside, Math.min(room, 320));
   const begin = `<circle class="begin" cx="${left + 24}" cy="5" r="4.5"/><path class="arrow" d="M${left + 24} 6 V${cards[0].y - 2}" marker-end="url(#head)"/>`;
   return `<svg role="img" aria-label="${escaped(spoken(named, cards, now))}" width="${full}" height="${height}" viewBox="0 0 ${full} ${height}"><defs>${HEADS}</defs>
-    ${begin}${spans.map((span) => arrow(span, left, width, span.row.rule.number === now?.rule)).join('')}${cards.map((card) => cardShape(card, left, width, now)).join('')}</svg>`;
+    ${begin}${spans.map((span) => arrow(span, left, width, step[span.side], span.row.rule.number === now?.rule)).join('')}${cards.map((card) => cardShape(card, left, width, now)).join('')}</svg>`;
 }
