@@ -1,9 +1,10 @@
 -- What the proof of the check cites: the refusal of a file section by section, and that what the code has read is what the file says. Assumes nothing.
 use mathlib.Core.Path.{_≡_, refl, sym, _∙_}
+use mathlib.Core.Bool.{true, false, _||_}
 use mathlib.Core.List.{List}
 use Prim.Native.Nat.{ℕ, _+_, _*_, _≤_, _<_}
 use native.Mathlib.Omega.{arith}
-use lib.Dec.{leb}
+use lib.Dec.{leb, eqb}
 use lib.ListN.{length, getD}
 use lib.Seq.{getD-take}
 use borrow.Author.Tests.{le-leb, lt-leb}
@@ -11,11 +12,11 @@ use Rattle.streams.specs.Answer.{_orElse_, unless}
 use Rattle.streams.specs.AnswerLaws.{first-refused, next-refused}
 use Rattle.policy.specs.File.{byteAt, pairAt, pairsFrom, ruleSize, outputsAt, outputCount, clocksAt, clockCount, locationsAt, locationCount}
 use Rattle.policy.specs.File.{rulesAt, rulesStart, rulesEnd, ceilingsOf}
-use Rattle.policy.specs.Check.{inputsRefusal, outputsRefusal, clocksRefusal, locationsRefusal, rulesSectionRefusal, refusalOf}
+use Rattle.policy.specs.Check.{inputsRefusal, outputsRefusal, clocksRefusal, locationsRefusal, rulesSectionRefusal, refusalOf, readingRefusal, refusalUnder}
 use Rattle.policy.specs.Number.{four, statesOf}
 use Rattle.policy.specs.Numbered.{states-take}
-use Rattle.policy.specs.Layout.{layoutOf, noLayout, CheckPromise}
-use Rattle.policy.specs.LayoutLaws.{ShapeOf, checked-passed, checked-refused}
+use Rattle.policy.specs.Layout.{checkedUnder, layoutOf, noLayout}
+use Rattle.policy.specs.LayoutLaws.{ShapeOf, under-passed, under-refused}
 use Rattle.policy.specs.declared.Layout.{Layout}
 use Rattle.policy.specs.declared.Checked.{Checked}
 use Rattle.policy.specs.declared.rules.Shape.{Shape}
@@ -69,17 +70,28 @@ module _ (f : List ℕ) where
   pub past-here : {r : ℕ} (a b : ℕ) → refusalOf f ≡ (a orElse b) → r ≡ a → r ≡ 0 → Past a b
   past-here a b e h z = record { none = sym h ∙ z; left = e ∙ next-refused a b (sym h ∙ z) }
 
-  -- It is some, so it is the file's.
-  pub refused-by : {r : ℕ} {s : Checked} → refusalOf f ≡ r → (r ≡ 0 → ⊥) → s ≡ record { refusal = r; layout = noLayout } → CheckPromise f s
-  refused-by e n g = record { said = g ∙ sym (rw e at (checked-refused f (λ z. n (sym e ∙ z)))) }
+-- With one of the two readings the refusal is the file's; with any other number it is 22.
+module _ (reading : ℕ) (f : List ℕ) where
+  pub named : (eqb reading 1 || eqb reading 2) ≡ true → refusalUnder reading f ≡ refusalOf f
+  unfolding refusalUnder readingRefusal
+  named e = rw e
+
+  pub not-named : {s : Checked} → (eqb reading 1 || eqb reading 2) ≡ false → s ≡ record { refusal = 22; layout = noLayout } → s ≡ checkedUnder reading f
+  unfolding checkedUnder refusalUnder readingRefusal
+  not-named e g = g ∙ sym (rw e)
+
+module _ (reading : ℕ) (f : List ℕ) (read : refusalUnder reading f ≡ refusalOf f) where
+  -- The file's refusal is some.
+  pub refused-by : {r : ℕ} {s : Checked} → refusalOf f ≡ r → (r ≡ 0 → ⊥) → s ≡ record { refusal = r; layout = noLayout } → s ≡ checkedUnder reading f
+  refused-by e n g = g ∙ sym (rw (read ∙ e) at (under-refused reading f (λ z. n (sym (read ∙ e) ∙ z))))
 
   pub refused-here : {r : ℕ} {s : Checked} (a b : ℕ) → refusalOf f ≡ (a orElse b) → r ≡ a → (r ≡ 0 → ⊥) →
-      s ≡ record { refusal = r; layout = noLayout } → CheckPromise f s
+      s ≡ record { refusal = r; layout = noLayout } → s ≡ checkedUnder reading f
   refused-here a b e h n = refused-by (e ∙ first-refused a b (λ z. n (h ∙ z)) ∙ sym h) n
 
   -- All are none.
-  pub passed-by : {l : Layout} → refusalOf f ≡ 0 → l ≡ layoutOf 1 f → CheckPromise f (record { refusal = 0; layout = l })
-  passed-by e g = record { said = rw g (sym (rw e at (checked-passed f e))) }
+  pub passed-by : {l : Layout} → refusalOf f ≡ 0 → l ≡ layoutOf reading f → _≡_ {A = Checked} (record { refusal = 0; layout = l }) (checkedUnder reading f)
+  passed-by e g = rw g (sym (under-passed reading f (read ∙ e)))
 
 -- What the code has read, count by count.
 module _ (f : List ℕ) {i : ℕ} (inputs : i ≡ byteAt f 0) where
@@ -145,9 +157,9 @@ module _ (f : List ℕ) (s : Shape) (h : ShapeOf f s) where
   unfolding rulesStart rulesEnd
   rules-end e = cc (count-at)
 
-  pub layout-read : {n states : ℕ} → n ≡ pairAt f (countAt s) → states ≡ statesOf (s .ceilings) (s .clocks) (s .locations) →
+  pub layout-read : (reading : ℕ) {n states : ℕ} → n ≡ pairAt f (countAt s) → states ≡ statesOf (s .ceilings) (s .clocks) (s .locations) →
       record {
-        reading = 1;
+        reading = reading;
         inputs = s .inputs;
         outputs = s .outputs;
         clocks = s .clocks;
@@ -158,6 +170,6 @@ module _ (f : List ℕ) (s : Shape) (h : ShapeOf f s) where
         ceilings = s .ceilings;
         states = states;
       }
-      ≡ layoutOf 1 f
+      ≡ layoutOf reading f
   unfolding rulesStart
-  layout-read e g = cc (count-at, rules-end e, states-read)
+  layout-read reading e g = cc (count-at, rules-end e, states-read)
