@@ -37,10 +37,16 @@ pub fn laid_out(random: &mut Random, lines: &[Line]) -> Vec<u8> {
     text
 }
 
-/// So many lines that their number takes more than one byte, or two.
+/// So many lines that their number takes more than one byte, or two; or one line
+/// that is as long, of blanks or of a comment.
 fn far_down(random: &mut Random) -> Vec<u8> {
-    let lines = random.pick(&[254, 255, 256, 300, 1_000, 65_534, 65_536, 70_000]);
-    vec![b'\n'; lines]
+    let length = random.pick(&[254, 255, 256, 300, 1_000, 65_534, 65_536, 70_000]);
+    let byte = match random.below(8) {
+        0 => b' ',
+        1 => b'#',
+        _ => b'\n',
+    };
+    [vec![byte; length], vec![b'\n']].concat()
 }
 
 fn put_line(random: &mut Random, hand: &Hand, text: &mut Vec<u8>, line: &Line) {

@@ -175,7 +175,8 @@ fn other_word_of_the_text(random: &mut Random, lines: &mut Vec<Line>) {
 fn some_odd(random: &mut Random) -> Vec<u8> {
     match random.below(30) {
         0 => vec![b'a'; random.pick(&[LONGEST_NAME, LONGEST_NAME + 1, 300, 10_000])],
-        1 => vec![b'0'; random.pick(&[20, 10_000])],
+        // Many words.
+        1 => b"A ".repeat(random.pick(&[20, 10_000])),
         2 => vec![b'9'; random.pick(&[20, 10_000])],
         3 => vec![random.byte()],
         _ => random.pick(&ODD).to_vec(),
