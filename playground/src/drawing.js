@@ -64,8 +64,14 @@ function unusedOf({ struck }) {
   return { locations: numbers(true), rules: numbers(false) };
 }
 
+/** The present values of the clocks stand in the present card, if there is room. */
+function withClocks(chips, clocks, width) {
+  const more = [...chips, ['clock', clocks]];
+  return clocks && chipsWidth(more) <= width - 24 ? more : chips;
+}
+
 /** The cards from top to bottom, as wide as the widest line of them asks, and no wider than there is room. */
-function cardsOf(named, told, room) {
+function cardsOf(named, told, now, room) {
   const unused = unusedOf(told);
   const cards = named.locations.map((_, location) => cardOf(named, told, location, unused));
   const widest = Math.max(...cards.flatMap((card) => [
@@ -75,6 +81,7 @@ function cardsOf(named, told, room) {
   const width = Math.max(NARROWEST, Math.min(Math.max(widest, WIDE), room));
   let y = GAP;
   for (const card of cards) {
+    if (card.location === now?.location) card.chips = withClocks(card.chips, now.clocks, width);
     // Where name and chips do not fit side by side, the chips stand below.
     card.below = textWidth(card.name) * 1.2 + chipsWidth(card.chips) > width - 40;
     card.head = HEAD + (card.below ? ROW : 0);
@@ -146,7 +153,8 @@ function rowShape(card, row, i, left, width, litRule) {
   const kinds = ['row', row.kind, row.unused ? 'unused' : '', row.rule.number === litRule ? 'lit' : ''].join(' ');
   const tail = `${SIGNS[row.kind]} ${row.to}${row.resets ? `, ${row.resets}` : ''}`;
   const room = width - 24;
-  const tailWidth = Math.min(textWidth(tail), room * 0.6);
+  // Where not all fits, the conditions have the larger part: the arrow shows the target too.
+  const tailWidth = Math.min(textWidth(tail), Math.max(room * 0.4, room - textWidth(row.words) - 10));
   const title = `rule ${row.rule.number}: ${row.words} ${tail}${row.unused ? ' (decides no event)' : ''}`;
   return `<g class="${kinds}"><title>${escaped(title)}</title><rect x="${left + 1}" y="${y}" width="${width - 2}" height="${ROW}"/>
     <text x="${left + 12}" y="${y + 15}">${escaped(cut(row.words, room - tailWidth - 6))}</text>
@@ -183,14 +191,15 @@ function spoken(named, cards, now) {
 }
 
 /**
- * The drawing as SVG. `told` has the live states of each location and what cleaning strikes out; `now` the present location, and the rule that is lit.
+ * The drawing as SVG. `told` has the live states of each location and what cleaning strikes out; `now` the present location, the clocks there in
+ * words, and the rule that is lit.
  */
 export function drawing(named, told, now, room) {
-  const lanes = arrowsOf(cardsOf(named, told, Infinity).cards);
+  const lanes = arrowsOf(cardsOf(named, told, now, Infinity).cards);
   const step = { left: stepOf(lanes.left), right: stepOf(lanes.right) };
   const left = SIDE + 8 + lanes.left * step.left + (lanes.left ? 10 : 0);
   const beside = SIDE + (lanes.right ? 12 + lanes.right * step.right : 0);
-  const { cards, width, height } = cardsOf(named, told, Math.max(NARROWEST, room - left - beside));
+  const { cards, width, height } = cardsOf(named, told, now, Math.max(NARROWEST, room - left - beside));
   const { spans } = arrowsOf(cards);
   const full = Math.max(left + width + beside, Math.min(room, 320));
   const begin = `<circle class="begin" cx="${left + 24}" cy="5" r="4.5"/><path class="arrow" d="M${left + 24} 6 V${cards[0].y - 2}" marker-end="url(#head)"/>`;

@@ -1,5 +1,5 @@
 // The page: what was typed and switched goes to the library, and its answers to their places.
-import { STATE_NUMBERS, check, readText, reasonsOf, writeText } from './calls.js';
+import { check, readText, reasonsOf, writeText } from './calls.js';
 import { clauseTitle, clausesShown, newClause } from './clauses.js';
 import { drawing } from './drawing.js';
 import { Editor } from './editor.js';
@@ -13,7 +13,7 @@ import { refusalSentence } from './refusals.js';
 import { SAMPLES } from './samples.js';
 import { amount, plural, reasonsInWords } from './sentences.js';
 import { Shelf } from './shelf.js';
-import { TickTable, stateShown } from './table.js';
+import { TickTable, clockWords, stateAfter, stateShown } from './table.js';
 import { canHaveMeter, meterShown, switchesShown, tickShown } from './trying.js';
 import { notReadShown, verdictsShown, wholeShown, workShown } from './verdicts.js';
 import { ticksThatFit, waves } from './waves.js';
@@ -419,10 +419,10 @@ class Page {
     }
     const { named, told, states } = part;
     const tick = this.shownTick;
-    const now = states ? { location: tick < 0 ? 0 : states[tick * STATE_NUMBERS], rule: this.litRule(this.drawn) } : null;
+    const state = states ? stateAfter(states, tick) : null;
+    const now = state && { location: state[0], clocks: clockWords(named, state), rule: this.litRule(this.drawn) };
     put('drawing', drawing(named, { ...told, statesEach: statesOfALocation(named.parts) }, now, this.widths.drawing));
-    const state = () => (tick < 0 ? stateShown(named, new Uint16Array(STATE_NUMBERS), 0) : stateShown(named, states, tick));
-    put('now', now ? `${tick < 0 ? 'At the start' : `After tick ${amount(tick + 1)}`}: ${state()}` : '');
+    put('now', state ? `${tick < 0 ? 'At the start' : `After tick ${amount(tick + 1)}`}: ${stateShown(named, state)}` : '');
     this.followLocation(now?.location);
   }
 

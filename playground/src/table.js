@@ -18,11 +18,18 @@ export function signalsShown(named, read, released) {
 
 export const eventShown = (named, event) => signalsShown(named, event, event);
 
+/** The clocks of a state in words. */
+export const clockWords = ({ clocks }, state) => clocks.map((name, clock) => `${name} ${state[1 + clock]}`).join(', ');
+
 /** A state in words: its location, and its clocks. */
-export function stateShown(named, states, tick) {
-  const at = tick * STATE_NUMBERS;
-  const clocks = named.clocks.map((name, clock) => `${name} ${states[at + 1 + clock]}`);
-  return `<b>${escaped(named.locations[states[at]] ?? '')}</b>${clocks.length ? ` <span class="clocks">${escaped(clocks.join(', '))}</span>` : ''}`;
+export function stateShown(named, state) {
+  const clocks = clockWords(named, state);
+  return `<b>${escaped(named.locations[state[0]])}</b>${clocks && ` <span class="clocks">${escaped(clocks)}</span>`}`;
+}
+
+/** The state after a tick; before the first it is the start. */
+export function stateAfter(states, tick) {
+  return tick < 0 ? new Uint16Array(STATE_NUMBERS) : states.subarray(tick * STATE_NUMBERS, (tick + 1) * STATE_NUMBERS);
 }
 
 const capital = (words) => words[0].toUpperCase() + words.slice(1);
@@ -157,7 +164,7 @@ export class TickTable {
     const cells = [
       cell('read', eventShown(named, read[from])),
       ...records.map((record) => releasedCell(record, from, records.length > 1)),
-      cell('then', stateShown(named, states, to)),
+      cell('then', stateShown(named, stateAfter(states, to))),
       cell('why', this.why(group, records, clauses), 'why'),
     ];
     return `<tr role="row" class="${edited ? 'edited' : ''}${here ? ' chosen' : ''}"><th role="rowheader" scope="row">${button}</th>${cells.join('')}</tr>`;

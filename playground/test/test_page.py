@@ -159,6 +159,7 @@ def test_first_sight(page, _):
     within("delivery off: rule 1 (line 14) forbids it: at idle, delivery on.", page.text("#last"), "the last tick")
     same(page.browser.run("return document.querySelectorAll('#drawing .card').length"), 3, "cards")
     same(page.browser.run("return document.querySelector('#drawing .here .name').textContent"), "● idleidle", "the present location")
+    same(page.browser.run("return document.querySelector('#drawing .here .chip.clock').textContent"), "age 301", "its clock")
 
 
 def test_wrong_line_while_typing(page, _):
