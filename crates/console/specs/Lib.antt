@@ -8,3 +8,4 @@ pub mod Scratch
 pub mod Reply
 pub mod Replies
 pub mod Longer
+pub mod FileFront
