@@ -1,11 +1,11 @@
--- `cleaner::beside` meets its contract: there is room for the name and five bytes more.
+-- `files::beside` meets its contract: there is room for the name and five bytes more.
 use mathlib.Core.Path.{sym}
 use Prim.Native.Nat.{_≤_}
 use lib.ListN.{length}
 use lib.Seq.{length-take-le}
 use borrow.Author.Needs.{needs}
-use Rattle.cleaner.proofs.beside.Statement.{statement}
-use Rattle.cleaner.proofs.beside.Tie as tie
+use Rattle.files.proofs.beside.Statement.{statement}
+use Rattle.files.proofs.beside.Tie as tie
 
 returns : tie.Need-returns
 returns c = search needs
