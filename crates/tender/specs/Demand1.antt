@@ -111,3 +111,7 @@ pub use Rattle.telling.specs.Prints.{Prints, prints-one, Writes, writes-one}
 -- The program `clean`: `listing::reading_of` gives `readingOf word`; `listing::respond` writes the policy `cleanWritten reading file` and the text
 -- `cleanPrinted reading file` likewise.
 pub use Rattle.listing.specs.Listed.{readingOf, written as cleanWritten, printed as cleanPrinted}
+-- The program `compile`: `translating::to_file::respond` writes the policy file `compileWritten text` and the line `compilePrinted text` likewise.
+pub use Rattle.translating.specs.ToFile.{written as compileWritten, printed as compilePrinted}
+-- The program `show`: `translating::to_text::respond` writes the text `showPrinted file` likewise.
+pub use Rattle.translating.specs.ToText.{printed as showPrinted}
