@@ -1,4 +1,4 @@
-// Cleans stored policies as `clean` does, and prints in hex what then stands in the files.
+// Cleans and compiles stored files as `clean` and `compile` do, and prints in hex what then stands in the files; and shows some as `show` does.
 use libc::STDOUT_FILENO;
 ghost use Prim.Native.Nat.{_<_};
 
@@ -26,7 +26,7 @@ fn print_bytes(bytes: &[u8]) {
 }
 
 // What stands in the file, or that it is not there.
-fn show(path: &[u8]) {
+fn print_file(path: &[u8]) {
     print(path);
     let file = os::open_read(path);
     if file < 0 {
@@ -44,12 +44,19 @@ fn show(path: &[u8]) {
 fn clean(what: &[u8], reading: u8, from: &[u8], to: &[u8]) {
     print(what);
     cleaner::clean_file(reading, from, to);
-    show(to);
+    print_file(to);
 }
 
-fn main() {
+fn compile(what: &[u8], from: &[u8], to: &[u8]) {
+    print(what);
+    scribe::compile_file(from, to);
+    print_file(to);
+}
+
+// What `clean` writes: under both readings, in place, and where something is missing or in the way.
+fn clean_policies() {
     clean(b"\na policy of which much goes\n", 1, b"doors", b"cleaned");
-    show(b"cleaned.part");
+    print_file(b"cleaned.part");
     clean(b"\nin place\n", 1, b"cleaned", b"cleaned");
     clean(
         b"\na rule for the first tick alone, under reading 1\n",
@@ -78,8 +85,48 @@ fn main() {
         b"doors",
         b"taken",
     );
-    show(b"taken.part");
+    print_file(b"taken.part");
     print(b"\na full device\n");
     cleaner::clean_file(1, b"doors", b"/dev/full");
-    show(b"/dev/full.part");
+    print_file(b"/dev/full.part");
+}
+
+// What `compile` writes: a file, and none where there is a refusal.
+fn compile_texts() {
+    compile(b"\na text\n", b"valve.txt", b"valve");
+    print_file(b"valve.part");
+    compile(
+        b"\na signal twice in a rule, and a file that stays\n",
+        b"twice.txt",
+        b"valve",
+    );
+    compile(b"\nno text\n", b"missing", b"none");
+}
+
+// Texts that are one comment: the longest that is read, and a byte more.
+fn compile_long() {
+    let longest = [b'#'; 65536];
+    files::write_file(b"longest", &longest);
+    compile(
+        b"\na text of 65536 bytes without a location\n",
+        b"longest",
+        b"none",
+    );
+    let longer = [b'#'; 65537];
+    files::write_file(b"longer", &longer);
+    compile(b"\na text of 65537 bytes\n", b"longer", b"none");
+}
+
+fn show_policies() {
+    print(b"\nshown: what was compiled, a policy cut short, no policy\n");
+    scribe::show_file(b"valve");
+    scribe::show_file(b"short");
+    scribe::show_file(b"longer");
+}
+
+fn main() {
+    clean_policies();
+    compile_texts();
+    compile_long();
+    show_policies();
 }

@@ -1,9 +1,9 @@
--- `clean_files::print_bytes` is safe and ends: the place stays within the bytes.
+-- `written_files::print_bytes` is safe and ends: the place stays within the bytes.
 use Prim.Native.Nat.{_-_, _≤_}
 use lib.ListN.{length}
 use borrow.Author.Needs.{needs}
-use Rattle.clean_files.proofs.print_bytes.Statement.{statement}
-use Rattle.clean_files.proofs.print_bytes.Tie as tie
+use Rattle.written_files.proofs.print_bytes.Statement.{statement}
+use Rattle.written_files.proofs.print_bytes.Tie as tie
 
 abbrev Inv-loop : tie.InvT-loop
 Inv-loop bytes i₀ i = i ≤ length bytes
