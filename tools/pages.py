@@ -156,7 +156,8 @@ def run_block(block, following, shell, crates):
     if block.after.startswith("prints nothing"):
         hold(block.where, done.stdout + done.stderr == "", f"it prints {(done.stdout + done.stderr)[:200]!r}")
         return False
-    hold(block.where, done.returncode == 0 and not done.stderr and not done.stdout.startswith("refused"),
+    is_refused = following is not None and following.first_word() == "refused"
+    hold(block.where, done.returncode == 0 and not done.stderr and done.stdout.startswith("refused") == is_refused,
          f"it ends with {done.returncode} and says {(done.stdout + done.stderr)[:300]!r}")
     if not done.stdout or following is None or following.is_command() or following.after_heading:
         return False

@@ -39,7 +39,7 @@ PARTS = [
     ("Wave viewer (4/13)", "waves viewer groovepawn:Waves", ["Wave viewer (4/13)"]),
     ("Cleaning (9/13)", "cleaning listing groovepawn:Clean", ["Cleaning (9/13)"]),
     ("Why a half was edited (2/13)", "reasons telling asks groovepawn:Why", ["Why a half was edited (2/13)"]),
-    ("A policy as text", "wording words conditions phrases declarations compiling pointing rule_text showing groovepawn:Text", ["A policy as text"]),
+    ("A policy as text", "wording words conditions phrases declarations compiling pointing rule_text showing translating groovepawn:Text", ["A policy as text"]),
     ("Adding a clause never loosens one (13/13)", "", ["Adding a clause never loosens one (13/13)"]),
     ("What the other tables cite", "", None),
 ]

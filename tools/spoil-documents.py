@@ -26,6 +26,8 @@ SPOILS = [
     ("docs/POLICY-FILE.md", "(at 1, E on: go to 0)", "(at 1, E on: go to 0) [MUST-FAIL.md](MUST-FAIL.md)"),
     ("docs/POLICY-TEXT.md", "      V t0 <= 4 -> q1", "      V t0 <= 3 -> q1"),
     ("docs/POLICY-TEXT.md", "      !C t0 <= 2 -> q1", "      !C t0 <= 1 -> q1"),
+    ("docs/POLICY-TEXT.md", "    compiled 68 bytes", "    compiled 67 bytes"),
+    ("docs/POLICY-TEXT.md", "    refused 31 line 3", "    refused 31 line 4"),
     ("docs/C-INTERFACE.md", "    1B\n", "    0B\n"),
     ("docs/ANNEX.md", "| released by the join's enforcer | `00` | `20`", "| released by the join's enforcer | `00` | `30`"),
     ("docs/ANNEX.md", "`30`: it opens the valve | `10`:", "`30`: it opens the valve | `00`:"),
