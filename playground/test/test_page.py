@@ -535,7 +535,8 @@ def test_by_keyboard(page, _):
     browser.reload()
     page.idle()
     browser.press(Keys.TAB, Keys.ENTER)
-    same(browser.run("return document.activeElement.id + location.hash.slice(0, 3)"), "text-heading#p=", "the first link leads to the policy, and the address stays")
+    same(browser.run("return document.activeElement.id"), "text-heading", "the first link leads to the policy")
+    expect("heading" not in browser.run("return location.hash"), "the first link took the address")
     browser.reload()
     page.idle()
     seen = []
