@@ -25,6 +25,8 @@ pub struct Events {
     source: BufReader<Box<dyn Read>>,
     form: Form,
     signals: Signals,
+    /// Whether the policy is a file, without names.
+    letters_alone: bool,
     line: u64,
     /// How many events were handed out.
     tick: u64,
@@ -42,6 +44,7 @@ impl Events {
             source,
             form,
             signals,
+            letters_alone: named.text.is_none(),
             line: 0,
             tick: 0,
             again: (0, 0),
@@ -153,7 +156,14 @@ impl Events {
     /// A word that names no signal: there is no event to put to the library.
     fn no_signal(&self, word: &str, tick: u64) -> Fault {
         let told = self.signals.told();
-        self.wrong(format!("tick {tick}: no signal {word}; there are {told}"))
+        let file = if self.letters_alone {
+            " (the policy is a file, and has letters and no names)"
+        } else {
+            ""
+        };
+        self.wrong(format!(
+            "tick {tick}: no signal {word}; there are {told}{file}"
+        ))
     }
 
     fn wrong(&self, words: impl AsRef<str>) -> Fault {

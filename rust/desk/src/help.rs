@@ -100,10 +100,10 @@ pub const ABOUT: &[&str] = &[
 
 pub const FILES: &[&str] = &[
     "POLICY is a policy as text (docs/POLICY-TEXT.md) or a policy file (docs/POLICY-FILE.md): the \
-     first byte tells, below 9 in a file. What is printed of a text has its names, and the lines \
-     of its rules. EVENTS is a text with a line for each tick: the signals that are on, by their \
-     letters or names, as A credit; - where none is on; * 20 at the end for twenty such ticks; \
-     # begins a comment. With --bytes it has one byte for each tick. It may \
+     first byte tells, below 9 in a file. Where rules, locations, clocks and signals of a text are \
+     told, they have its names and lines. EVENTS is a text with a line for each tick: the signals \
+     that are on, by their letters or names, with blanks between them; - where none is on; * 20 \
+     at the end for twenty such ticks; # begins a comment. A blank line is no tick. With --bytes it has one byte for each tick. It may \
      be of any length. The word - stands for standard input. Where a run needs a reading and -r \
      does not name it, it is 1, as that of the program enforce.",
 ];
@@ -119,9 +119,11 @@ pub const COMMANDS: &[Command] = &[
         takes: "[-r 1|2] POLICY ..",
         does: "say how many states a policy has, how many are live, and its verdict; or where it is wrong",
         more: &[
-            "Verdict 0: every state that a permitted stream leads to is live. Verdict 1: the \
-             start is live, and some such state is not: the enforcer will keep streams away \
-             from it. A policy whose start is not live is hopeless, and refused by 11. Without \
+            "A state is live if a stream can go on from it for ever, and come again and again to a \
+             location that need not be left. Verdict 0: every state that a permitted stream leads \
+             to is live. Verdict 1: the start is live, and some such state is not: the enforcer \
+             will keep streams away from it. What is of no use is counted: often a rule stands \
+             too late, for the first that fires decides. A policy whose start is not live is hopeless, and refused by 11. Without \
              -r both readings are told.",
         ],
         flags: &[&READING],
@@ -154,8 +156,10 @@ pub const COMMANDS: &[Command] = &[
         takes: "[--clean -r 1|2] POLICY POLICY .. -o FILE",
         does: "join policies over the same signals into one that asks what all ask",
         more: &[
-            "They are joined from left to right. A join has at most 64 locations, 4 clocks, 256 \
-             rules and 65,536 states; rules multiply, so clean in between.",
+            "They are joined from left to right, signal by signal, by their letters. A join has at \
+             most 64 locations, 4 clocks, 256 rules and 65,536 states; rules multiply, so clean in \
+             between. The join is a file, with letters and numbers and no names: check it, and \
+             ask why of each part to learn which clause forbids an event.",
         ],
         flags: &[&CLEAN, &READING, &OUT],
         obey: commands::join::obey,
@@ -165,8 +169,10 @@ pub const COMMANDS: &[Command] = &[
         takes: "-r 1|2 POLICY -o FILE",
         does: "write a policy without what is of no use, and print what went",
         more: &[
-            "Under the reading named the cleaned policy releases the same for every stream. \
-             Numbers are those of the old policy, counted from 0. The cleaned policy is a file.",
+            "Under the reading named the cleaned policy releases the same for every stream; under \
+             the other it may release something else. Numbers are those of the old policy, \
+             counted from 0. The last line says how long the cleaned policy is. It is a file, with \
+             letters and numbers and no names.",
         ],
         flags: &[&READING, &OUT],
         obey: commands::clean::obey,
@@ -199,8 +205,8 @@ pub const COMMANDS: &[Command] = &[
         takes: "[-r 1|2] [--bytes] [--all] POLICY EVENTS -o FILE",
         does: "write what is released as a file for wave viewers (Value Change Dump)",
         more: &[
-            "A time of the file is a tick, drawn as 100 ms; without --all there are at most \
-             16,384.",
+            "A time of the file is a tick, drawn as 100 ms, and the first is 0. Without --all there \
+             are at most 16,384, and signals have their letters; with it they have their names.",
         ],
         flags: &[&READING, &BYTES, &ALL, &OUT],
         obey: commands::wave::obey,
@@ -232,7 +238,8 @@ pub const COMMANDS: &[Command] = &[
         takes: "[-r 1|2] POLICY",
         does: "correct a running station: read x, write x', read y, write y', one byte each, tick after tick",
         more: &[
-            "Each byte is answered at once. The end of the input between two ticks ends it with \
+            "The lowest bit of x is the first input, that of y the first output. Each byte is \
+             answered at once. The end of the input between two ticks ends it with \
              status 0, within a tick with status 1. A byte with a bit beyond its signals is \
              refused: nothing is written for it, and it ends with status 1.",
         ],

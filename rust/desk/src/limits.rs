@@ -16,7 +16,10 @@ pub fn over(a: &Policy, b: &Policy) -> String {
         .filter(|&(count, most, _)| count > most)
         .map(|(count, most, what)| format!("{count} {what}, and {most} is the most"))
         .collect();
-    over.join("; ")
+    format!(
+        "{} (docs/WRITING-POLICIES.md, how far joins go)",
+        over.join("; ")
+    )
 }
 
 /// The signals of two policies, which differ.

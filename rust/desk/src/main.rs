@@ -9,6 +9,7 @@ mod commands;
 mod events;
 mod fault;
 mod help;
+mod hints;
 mod limits;
 mod locate;
 mod man;

@@ -57,7 +57,7 @@ impl Out {
                     part_of(path).display()
                 )))
             }
-            Err(error) => Err(Fault::of_io(&name, &error)),
+            Err(error) => Err(Fault::of_io(&format!("{name} cannot be written"), &error)),
         }
     }
 

@@ -1,6 +1,7 @@
 //! The words of a command: options as its help names them, and operands.
 
 use std::ffi::{OsStr, OsString};
+use std::fs;
 
 use groovepawn::Reading;
 
@@ -66,7 +67,7 @@ impl<'a> Words<'a> {
             },
         };
         self.options.push((flag, value));
-        Ok(())
+        self.reading_named().map(|_| ())
     }
 
     pub fn has(&self, flag: &Flag) -> bool {
@@ -81,6 +82,26 @@ impl<'a> Words<'a> {
             .iter()
             .find(|(given, _)| given.name == flag.name)?;
         given.1
+    }
+
+    /// The file of -o, if it is named: none of those that are read.
+    pub fn out(&self) -> Result<Option<&'a OsStr>, Fault> {
+        let named = self.value(&crate::help::OUT);
+        if let Some(out) = named {
+            if self.operands.iter().any(|read| is_same(read, out)) {
+                let out = out.to_string_lossy();
+                return Err(self.wrong(format!(
+                    "{out} is read, and would be lost; name another file behind -o"
+                )));
+            }
+        }
+        Ok(named)
+    }
+
+    /// The same where the command cannot do without it.
+    pub fn out_needed(&self) -> Result<&'a OsStr, Fault> {
+        self.needed(&crate::help::OUT)?;
+        Ok(self.out()?.unwrap_or_default())
     }
 
     /// The value of an option that the command cannot do without.
@@ -124,7 +145,8 @@ impl<'a> Words<'a> {
     }
 
     pub fn wrong_count(&self) -> Fault {
-        self.wrong("wrong number of files".to_string())
+        let count = self.operands.len();
+        self.wrong(format!("wrong number of files: {count}"))
     }
 
     /// A call that is wrong: what is, and how the command is used.
@@ -133,5 +155,14 @@ impl<'a> Words<'a> {
             "{words}\nusage: groovepawn {}",
             self.command.usage()
         ))
+    }
+}
+
+/// Whether two names are of one file. What is no regular file is not lost by writing.
+fn is_same(read: &OsStr, written: &OsStr) -> bool {
+    let regular = fs::metadata(written).is_ok_and(|there| there.is_file());
+    match (fs::canonicalize(read), fs::canonicalize(written)) {
+        (Ok(read), Ok(written)) => regular && read == written,
+        _ => false,
     }
 }

@@ -88,8 +88,11 @@ fn clean_says_what_went() {
                     rule 1: decides no event in any state such a stream leads to\n\
                     rule 2: of such a location\nleft 31 bytes\n";
     assert_eq!(said.text(), expected);
+    let again = folder.path("again");
     assert_eq!(
-        desk(&["clean", "-r", "1", &out, "-o", &out]).good().text(),
+        desk(&["clean", "-r", "1", &out, "-o", &again])
+            .good()
+            .text(),
         "left 31 bytes\n"
     );
     desk(&["clean", &doors, "-o", &out]).bad(2, "-r 1|2 is missing");
@@ -111,7 +114,7 @@ fn run_prints_events_that_run_again_unchanged() {
     let folder = Folder::new();
     let d = folder.file("d", D);
     let said = desk_reading(&["run", &d, "-"], b"R\n- * 4 # nothing\n\n# a comment\n").good();
-    let expected = "# verdict 0, 8 states, 8 live\n\
+    let expected = "# reading 1, verdict 0, 8 states, 8 live\n\
                     R    # 1\n-    # 2\n-    # 3\n-    # 4\nC    # 5: read -, output edited\n";
     assert_eq!(said.text(), expected);
     let again = desk_reading(&["run", &d, "-"], &said.out).good();
@@ -194,12 +197,17 @@ fn why_tells_edited_ticks_between_two() {
     let expected = "tick 1: read A, released -\n  input: after it at most 0 more ticks\n\
                     tick 3: read A B, released B\n  input: after it at most 0 more ticks\n\
                     tick 4: read A, released -\n  input: after it at most 0 more ticks\n\
-                    3 of 4 ticks edited\n";
+                    3 of 4 ticks edited under reading 1\n";
     assert_eq!(said.text(), expected);
     let some = desk_reading(&["why", "--from", "2", "--to", "3", &t, "-"], events).good();
-    assert!(some.text().starts_with("tick 3") && some.text().ends_with("1 of 2 ticks edited\n"));
+    assert!(
+        some.text().starts_with("tick 3")
+            && some
+                .text()
+                .ends_with("1 of 2 ticks edited under reading 1\n")
+    );
     let behind = desk_reading(&["why", "--from", "9", &t, "-"], events).good();
-    assert_eq!(behind.text(), "0 of 0 ticks edited\n");
+    assert_eq!(behind.text(), "the events end at tick 4\n");
     desk(&["why", "--from", "3", "--to", "2", &t, "-"]).bad(2, "--to is before --from");
     desk(&["why", "--from", "0", &t, "-"]).bad(2, "counted from 1");
     desk(&["why", &folder.file("n", N), "-"]).bad(1, "refused 11");

@@ -122,7 +122,8 @@ fn why_reaches_any_tick_of_a_day() {
         1_002
     );
     assert!(
-        said.text().ends_with("86399 of 864000 ticks edited\n"),
+        said.text()
+            .ends_with("86399 of 864000 ticks edited under reading 1\n"),
         "{:?}",
         said.text().lines().last()
     );
@@ -132,7 +133,7 @@ fn why_reaches_any_tick_of_a_day() {
     ])
     .good();
     let expected = "tick 864000: read V, released -\n  \
-                    output: rule 1 forbids it: at location 0, V on, clock 0 from 9 on\n1 of 2 ticks edited\n";
+                    output: rule 1 forbids it: at location 0, V on, clock 0 from 9 on\n1 of 2 ticks edited under reading 1\n";
     assert_eq!(one.text(), expected);
 }
 

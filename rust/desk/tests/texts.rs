@@ -106,7 +106,7 @@ fn names_and_lines_in_what_is_printed() {
         "tick 1: read valve, released -\n  \
          output: rule 1 (line 11) forbids it: at location idle, valve on\n\
          tick 8: read valve, released -\n  output: no rule allows it\n\
-         2 of 9 ticks edited\n"
+         2 of 9 ticks edited under reading 1\n"
     );
     let said = desk(&["run", &text, &events]).good();
     assert!(said
@@ -249,5 +249,105 @@ fn spoilt_texts_have_a_line_each() {
     assert!(
         refused > 1_500 && read > 100,
         "{refused} refused, {read} read"
+    );
+}
+
+#[test]
+fn a_refusal_says_what_is_wrong_with_the_line() {
+    let head =
+        "input C credit\noutput V valve\nclock age 6\nlocation idle\nlocation open\nat idle\n";
+    let hints = [
+        (
+            " vlave -> open\n",
+            "'vlave' is no signal or clock; there are credit (C) valve (V) age",
+        ),
+        (
+            " valve -> opened\n",
+            "'opened' is no location; there are idle open",
+        ),
+        (" valve C C -> open\n", "C is there twice"),
+        (
+            " valve -> open reset ages\n",
+            "'ages' is no clock; there are age",
+        ),
+        (" valve age <= 9 -> open\n", "the ceiling of age is 6"),
+        (
+            " valve age < 5 -> open\n",
+            "behind the clock age stands <= or >=",
+        ),
+        (" valve open\n", "'open' is no signal or clock"),
+        (" valve\n", "a rule has an arrow"),
+        (
+            "at opened\n",
+            "'opened' is no location; there are idle open",
+        ),
+        (
+            "at open\nat idle\n",
+            "the rules stand in the order of the locations: idle, open",
+        ),
+        (
+            "clock late 3\n",
+            "the order is input, output, clock, location, at",
+        ),
+    ];
+    for (line, words) in hints {
+        let text = format!("{head}{line}");
+        desk_reading(&["check", "-"], text.as_bytes())
+            .bad(1, "\n  ")
+            .bad(1, words);
+    }
+    let first = [
+        ("input c credit\n", "'c' is no capital letter"),
+        ("input C Credit\n", "'Credit' is no name"),
+        ("input C at\n", "at is a word of the language"),
+        ("input C credit\ninput C pulse\n", "the letter C is taken"),
+        (
+            "input C credit\ninput P credit\n",
+            "the name credit is taken",
+        ),
+        ("clock age 70000\n", "at most 1,001"),
+        ("clock age\n", "the form is clock NAME CEILING"),
+        ("location q must leave\n", "location NAME must be left"),
+        ("valve -> open\n", "no at stands before this rule"),
+        (
+            "input A\ninput B\ninput C\ninput D\ninput E\n",
+            "there are 4 inputs at most",
+        ),
+    ];
+    for (text, words) in first {
+        desk_reading(&["check", "-"], text.as_bytes()).bad(1, words);
+    }
+}
+
+#[test]
+fn what_is_read_is_not_written_over() {
+    let folder = Folder::new();
+    let text = folder.file("valve", VALVE);
+    let events = folder.file("events", b"V\n");
+    let calls: [&[&str]; 6] = [
+        &["compile", &text, "-o", &text],
+        &["show", &text, "-o", &text],
+        &["clean", "-r", "1", &text, "-o", &text],
+        &["join", &text, &text, "-o", &text],
+        &["draw", &text, "-o", &text],
+        &["wave", &text, &events, "-o", &events],
+    ];
+    for call in calls {
+        desk(call).bad(2, "is read, and would be lost");
+    }
+    assert_eq!(fs::read(&text).expect("it is there"), VALVE);
+    assert_eq!(fs::read(&events).expect("it is there"), b"V\n");
+}
+
+#[test]
+fn join_tells_one_letter_with_two_names() {
+    let folder = Folder::new();
+    let one = folder.file("one", b"output V valve\nlocation q\nat q\n any -> q\n");
+    let two = folder.file("two", b"output V vent\nlocation q\nat q\n any -> q\n");
+    let said = desk(&["join", &one, &two, "-o", &folder.path("joined")]);
+    assert_eq!(said.status, Some(0));
+    assert_eq!(
+        said.err,
+        format!("groovepawn: note: V is vent in {two} and valve in {one}\n")
     );
 }

@@ -2,7 +2,7 @@
 
 use std::ffi::OsStr;
 
-use groovepawn::{Reading, Summary};
+use groovepawn::{Reading, Struck, Summary};
 
 use crate::fault::Fault;
 use crate::out::Out;
@@ -37,18 +37,54 @@ pub fn obey(words: &Words) -> Result<(), Fault> {
 fn check(path: &OsStr, readings: &[Reading], out: &mut Out) -> Result<(), Fault> {
     let named = Named::read(path)?;
     out.line(&format!("{}: {}", named.name, contents(&named)))?;
-    let mut hopeless = Ok(());
+    let mut hopeless = Vec::new();
     for &reading in readings {
-        let comes_to = match named.prepare(reading) {
+        let comes_to = match named.policy.prepare_fast(reading) {
             Ok((_, summary)) => verdict(summary),
-            Err(fault) => {
-                hopeless = Err(fault);
+            Err(refusal) => {
+                hopeless.push((reading, refusal));
                 format!("{} live, hopeless", named.policy.marks(reading).live())
             }
         };
-        out.line(&format!("  reading {}: {comes_to}", reading.number()))?;
+        let number = reading.number();
+        out.line(&format!("  reading {number}: {comes_to}"))?;
+        let cleaned = named.policy.clean(reading);
+        let cleaned = cleaned.map_err(|refusal| Fault::refused(&named.name, refusal))?;
+        if let Some(words) = unused(&cleaned.struck) {
+            out.line(&format!("  reading {number}: {words}"))?;
+        }
     }
-    hopeless
+    let place = match hopeless[..] {
+        [(reading, _)] => format!("under reading {}", reading.number()),
+        _ => "under both readings".to_string(),
+    };
+    match hopeless.pop() {
+        None => Ok(()),
+        Some((_, refusal)) => Err(Fault::refused(&named.name, refusal.at(place))),
+    }
+}
+
+/// How much of a policy is of no use, if something is.
+fn unused(struck: &[Struck]) -> Option<String> {
+    let is_location = |one: &&Struck| matches!(one, Struck::Location(_));
+    let locations = struck.iter().filter(is_location).count();
+    let counted = [(locations, "location"), (struck.len() - locations, "rule")];
+    let parts: Vec<String> = counted
+        .into_iter()
+        .filter(|&(count, _)| count > 0)
+        .map(|(count, what)| plural(count, what))
+        .collect();
+    if parts.is_empty() {
+        return None;
+    }
+    Some(format!(
+        "{} of no use; clean says which",
+        parts.join(" and ")
+    ))
+}
+
+fn plural(count: usize, what: &str) -> String {
+    format!("{count} {what}{}", if count == 1 { "" } else { "s" })
 }
 
 fn verdict(summary: Summary) -> String {
@@ -72,8 +108,7 @@ fn contents(named: &Named) -> String {
         (policy.rules().len(), "rule"),
         (policy.states(), "state"),
     ];
-    let counts =
-        counts.map(|(count, what)| format!("{count} {what}{}", if count == 1 { "" } else { "s" }));
+    let counts = counts.map(|(count, what)| plural(count, what));
     let signals = Signals::of(named);
     let inputs = signals.words(policy.signals() & 0x0f);
     let outputs = signals.words(policy.signals() & 0xf0);

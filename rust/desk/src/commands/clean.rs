@@ -15,7 +15,7 @@ pub fn obey(words: &Words) -> Result<(), Fault> {
     let [path] = words.exactly()?;
     words.needed(&help::READING)?;
     let reading = words.reading()?;
-    let cleaned_path = words.needed(&help::OUT)?;
+    let cleaned_path = words.out_needed()?;
     let named = Named::read(path)?;
     let cleaned = named
         .policy

@@ -1,14 +1,13 @@
 //! `compile`: the policy file of a text.
 
 use crate::fault::Fault;
-use crate::help;
 use crate::out::Out;
 use crate::policies::Named;
 use crate::words::Words;
 
 pub fn obey(words: &Words) -> Result<(), Fault> {
     let [path] = words.exactly()?;
-    let file = words.needed(&help::OUT)?;
+    let file = words.out_needed()?;
     let named = Named::read(path)?;
     if named.text.is_none() {
         return Err(Fault::Failed(format!(

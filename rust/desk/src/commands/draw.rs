@@ -7,7 +7,6 @@ use groovepawn::{Cleaned, Struck, Target};
 
 use crate::asks::Asks;
 use crate::fault::Fault;
-use crate::help;
 use crate::out::Out;
 use crate::policies::Named;
 use crate::words::Words;
@@ -20,7 +19,7 @@ pub fn obey(words: &Words) -> Result<(), Fault> {
         .policy
         .clean(reading)
         .map_err(|refusal| Fault::refused(&named.name, refusal))?;
-    let mut out = Out::of(words.value(&help::OUT))?;
+    let mut out = Out::of(words.out()?)?;
     out.put(drawing(&named, &Unused::of(&cleaned)).as_bytes())?;
     out.finish()
 }

@@ -3,9 +3,9 @@
 use std::fmt::{Display, Write};
 
 use crate::fault::Fault;
-use crate::help;
 use crate::out::Out;
 use crate::policies::Named;
+use crate::signals::Signals;
 use crate::words::Words;
 
 pub fn obey(words: &Words) -> Result<(), Fault> {
@@ -20,6 +20,7 @@ pub fn obey(words: &Words) -> Result<(), Fault> {
          them live. Made by groovepawn firmware. */\n\
          #ifndef POLICY_H\n#define POLICY_H\n\n#include <stdint.h>\n\n#define POLICY_READING {number}\n"
     );
+    put_bits(&mut text, &Signals::of(&named));
     put_array(&mut text, "uint8_t policy", named.policy.bytes());
     put_array(&mut text, "uint8_t marks", marks.bytes());
     put_array(
@@ -28,9 +29,27 @@ pub fn obey(words: &Words) -> Result<(), Fault> {
         named.policy.index().numbers(),
     );
     text.push_str("\n#endif\n");
-    let mut out = Out::of(words.value(&help::OUT))?;
+    let mut out = Out::of(words.out()?)?;
     out.put(text.as_bytes())?;
     out.finish()
+}
+
+/// Which bit of x and of y is which signal.
+fn put_bits(text: &mut String, signals: &Signals) {
+    for (half, inputs) in [("x", true), ("y", false)] {
+        let bits: Vec<String> = signals
+            .all()
+            .iter()
+            .filter(|signal| (signal.bit < 16) == inputs)
+            .map(|signal| {
+                let bit = if inputs { signal.bit } else { signal.bit >> 4 };
+                format!("{bit} {}", signal.name)
+            })
+            .collect();
+        if !bits.is_empty() {
+            let _ = writeln!(text, "/* The bits of {half}: {}. */", bits.join(", "));
+        }
+    }
 }
 
 /// How many numbers stand in a line.

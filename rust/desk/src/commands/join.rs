@@ -1,5 +1,7 @@
 //! `join`: several policies as one.
 
+use std::io::{self, Write};
+
 use groovepawn::{Policy, Refusal};
 
 use crate::fault::Fault;
@@ -7,10 +9,11 @@ use crate::help;
 use crate::limits;
 use crate::out::Out;
 use crate::policies::Named;
+use crate::signals::Signals;
 use crate::words::Words;
 
 pub fn obey(words: &Words) -> Result<(), Fault> {
-    let path = words.needed(&help::OUT)?;
+    let path = words.out_needed()?;
     let clean = match (words.has(&help::CLEAN), words.reading_named()?) {
         (true, None) => return Err(words.wrong("--clean needs the reading, -r 1 or -r 2".into())),
         (false, Some(_)) => {
@@ -24,6 +27,7 @@ pub fn obey(words: &Words) -> Result<(), Fault> {
         .iter()
         .map(|path| Named::read(path))
         .collect::<Result<Vec<_>, _>>()?;
+    tell_other_names(&parts);
     let cleaned = |policy: &Policy| match clean {
         None => Ok(policy.clone()),
         Some(reading) => policy.clean(reading).map(|cleaned| cleaned.policy),
@@ -55,5 +59,24 @@ fn why_not(refusal: Refusal, joined: &Policy, other: &Policy) -> Refusal {
             limits::over(joined, other)
         )),
         _ => refusal,
+    }
+}
+
+/// Says where two texts have one letter and two names for it: a join goes by letters,
+/// and they may be two things.
+fn tell_other_names(parts: &[Named]) {
+    for (number, part) in parts.iter().enumerate() {
+        for before in &parts[..number] {
+            let (ours, theirs) = (Signals::of(part), Signals::of(before));
+            for (one, other) in ours.all().iter().zip(theirs.all()) {
+                let both = part.text.is_some() && before.text.is_some();
+                if both && one.tag == other.tag && one.name != other.name {
+                    let (tag, name, called) = (one.tag, &one.name, &other.name);
+                    let (here, there) = (&part.name, &before.name);
+                    let words = format!("{tag} is {name} in {here} and {called} in {there}");
+                    let _ = writeln!(io::stderr(), "groovepawn: note: {words}");
+                }
+            }
+        }
     }
 }

@@ -2,7 +2,7 @@
 
 use std::fmt::Write;
 
-use groovepawn::{Event, Summary};
+use groovepawn::{Event, Reading, Summary};
 
 use crate::events::{Events, Form};
 use crate::fault::Fault;
@@ -25,7 +25,10 @@ pub fn obey(words: &Words) -> Result<(), Fault> {
         match (plain, form) {
             (true, _) => run_plain(&mut runner, summary, &mut out),
             (false, Form::Bytes) => run_bytes(&mut runner, &mut out),
-            (false, Form::Text) => run_lines(&mut runner, &Signals::of(&named), summary, &mut out),
+            (false, Form::Text) => {
+                let signals = Signals::of(&named);
+                run_lines(&mut runner, &signals, words.reading()?, summary, &mut out)
+            }
         }
     });
     if let (true, Err(Fault::Refused { refusal, .. })) = (plain, &ran) {
@@ -97,13 +100,15 @@ fn letter(forwarded: bool) -> char {
 fn run_lines(
     runner: &mut Runner,
     signals: &Signals,
+    reading: Reading,
     summary: Summary,
     out: &mut Out,
 ) -> Result<(), Fault> {
     let width = signals.width();
     let (verdict, states, live) = (summary.verdict(), summary.states, summary.live);
     out.line(&format!(
-        "# verdict {verdict}, {states} states, {live} live"
+        "# reading {}, verdict {verdict}, {states} states, {live} live",
+        reading.number()
     ))?;
     while let Some(piece) = runner.piece()? {
         let mut text = String::new();

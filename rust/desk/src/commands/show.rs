@@ -1,7 +1,6 @@
 //! `show`: the text of a policy.
 
 use crate::fault::Fault;
-use crate::help;
 use crate::out::Out;
 use crate::policies::Named;
 use crate::words::Words;
@@ -9,7 +8,7 @@ use crate::words::Words;
 pub fn obey(words: &Words) -> Result<(), Fault> {
     let [path] = words.exactly()?;
     let named = Named::read(path)?;
-    let mut out = Out::of(words.value(&help::OUT))?;
+    let mut out = Out::of(words.out()?)?;
     out.put(named.policy.text().as_bytes())?;
     out.finish()
 }

@@ -16,7 +16,7 @@ use crate::words::Words;
 
 pub fn obey(words: &Words) -> Result<(), Fault> {
     let [policy, events] = words.exactly()?;
-    let path = words.needed(&help::OUT)?;
+    let path = words.out_needed()?;
     let reading = words.reading()?;
     let named = Named::read(policy)?;
     let (marks, _) = named.prepare(reading)?;

@@ -95,8 +95,15 @@ impl<'a> Teller<'a> {
 
     /// How many ticks were told of, and how many of them were edited.
     fn end(&self, ticks: u64, out: &mut Out) -> Result<(), Fault> {
-        let told = ticks.min(self.to).saturating_sub(self.from - 1);
-        out.line(&format!("{} of {told} ticks edited", self.edited))
+        if ticks < self.from {
+            return out.line(&format!("the events end at tick {ticks}"));
+        }
+        let told = ticks.min(self.to) - (self.from - 1);
+        let reading = self.marks.reading().number();
+        out.line(&format!(
+            "{} of {told} ticks edited under reading {reading}",
+            self.edited
+        ))
     }
 }
 
