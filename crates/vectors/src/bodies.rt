@@ -5,6 +5,7 @@ use crate::differs::Differs;
 use crate::indexes;
 use crate::marked::policy_record;
 use crate::numbers::Cursor;
+use crate::policy_texts;
 use crate::stations;
 use crate::tally::Kind;
 
@@ -127,6 +128,36 @@ fn clean_record(cases: &[u8], at: Cursor) -> CallOutcome {
     )
 }
 
+// A record of a policy's text: what is read and what is written.
+fn text_record(cases: &[u8], kind: Kind, at: Cursor) -> CallOutcome {
+    let mut given = [0u8; 65600];
+    let mut lent = [0u8; 65600];
+    let taken = at.string(cases, &mut given);
+    let given_length = taken.count;
+    let next = taken.next;
+    let taken = next.string(cases, &mut lent);
+    let room = taken.count;
+    let next = taken.next;
+    match kind {
+        Kind::TextRead => policy_texts::read(
+            cases,
+            next,
+            &given[..given_length],
+            &mut lent[..room],
+        ),
+        _ => policy_texts::write(cases, next, &given[..given_length], &mut lent[..room]),
+    }
+}
+
+// A record of where something stands in a text.
+fn point_record(cases: &[u8], kind: Kind, at: Cursor) -> CallOutcome {
+    let mut text = [0u8; 65600];
+    let taken = at.string(cases, &mut text);
+    let text_length = taken.count;
+    let next = taken.next;
+    policy_texts::point(cases, kind, next, &text[..text_length])
+}
+
 // The body of a record.
 pub(crate) fn body(cases: &[u8], kind: Kind, at: Cursor) -> CallOutcome {
     match kind {
@@ -139,6 +170,12 @@ pub(crate) fn body(cases: &[u8], kind: Kind, at: Cursor) -> CallOutcome {
         Kind::MeterNew => meter_new_record(cases, at),
         Kind::Clean => clean_record(cases, at),
         Kind::Check => check_record(cases, at),
+        Kind::TextRead => text_record(cases, kind, at),
+        Kind::TextWrite => text_record(cases, kind, at),
+        Kind::TextLineOfRule => point_record(cases, kind, at),
+        Kind::TextNameOfSignal => point_record(cases, kind, at),
+        Kind::TextNameOfClock => point_record(cases, kind, at),
+        Kind::TextNameOfLocation => point_record(cases, kind, at),
         Kind::Unknown => CallOutcome {
             differs: Differs::Nothing,
             next: at.lose(),

@@ -7,6 +7,7 @@ mod indexes;
 mod longs;
 mod marked;
 mod numbers;
+mod policy_texts;
 mod records;
 mod states;
 mod stations;

@@ -4,7 +4,7 @@ use crate::numbers::Cursor;
 use libc::STDOUT_FILENO;
 
 // The kinds of records have the numbers from 1 to below this.
-pub const KINDS: usize = 23;
+pub const KINDS: usize = 29;
 
 pub enum Kind {
     Prepare,
@@ -29,6 +29,12 @@ pub enum Kind {
     Why,
     Check,
     WhyRun,
+    TextRead,
+    TextWrite,
+    TextLineOfRule,
+    TextNameOfSignal,
+    TextNameOfClock,
+    TextNameOfLocation,
     Unknown,
 }
 
@@ -57,6 +63,12 @@ impl Kind {
             20 => Kind::Why,
             21 => Kind::Check,
             22 => Kind::WhyRun,
+            23 => Kind::TextRead,
+            24 => Kind::TextWrite,
+            25 => Kind::TextLineOfRule,
+            26 => Kind::TextNameOfSignal,
+            27 => Kind::TextNameOfClock,
+            28 => Kind::TextNameOfLocation,
             _ => Kind::Unknown,
         }
     }
@@ -85,6 +97,12 @@ impl Kind {
             Kind::Why => print(b"why"),
             Kind::Check => print(b"check"),
             Kind::WhyRun => print(b"why_run"),
+            Kind::TextRead => print(b"text_read"),
+            Kind::TextWrite => print(b"text_write"),
+            Kind::TextLineOfRule => print(b"text_line_of_rule"),
+            Kind::TextNameOfSignal => print(b"text_name_of_signal"),
+            Kind::TextNameOfClock => print(b"text_name_of_clock"),
+            Kind::TextNameOfLocation => print(b"text_name_of_location"),
             Kind::Unknown => print(b"unknown"),
         }
     }

@@ -5,10 +5,10 @@ use Rattle.vectors.proofs.tally.print_counts.Statement.{statement}
 use Rattle.vectors.proofs.tally.print_counts.Tie as tie
 
 abbrev Inv-loop : tie.InvT-loop
-Inv-loop counts kind₀ t3 kind = kind ≤ 23
+Inv-loop counts kind₀ t3 kind = kind ≤ 29
 
 abbrev μ-loop : tie.MeasureT-loop
-μ-loop counts kind₀ t3 kind = 23 - kind
+μ-loop counts kind₀ t3 kind = 29 - kind
 
 loop-holds : tie.Need-loop-holds Inv-loop μ-loop
 loop-holds c = search needs
