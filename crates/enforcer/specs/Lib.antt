@@ -11,6 +11,7 @@ pub mod States
 pub mod Refusals
 pub mod Chosen
 pub mod Arrived
+pub mod AsRead
 pub mod Promises
 pub mod Ways
 pub mod TakesLaws

@@ -1,6 +1,8 @@
-// The input half, and the output half by value.
+// The input half, and the output half by value. Past the refusals a half asks whether the event stands as it was read: mostly it does. Only if not does it choose.
 use crate::choose::choose_input;
 use crate::reach::here_by;
+use crate::reach::input_reaches;
+use crate::reach::output_arrival;
 use crate::reach::own_of;
 use crate::reach::values;
 use crate::state::State;
@@ -74,11 +76,11 @@ pub fn state_refusal(file: &[u8], layout: Layout, marks: &[u8], state: State) ->
     if marks[number] == 1 { 0 } else { 16 }
 }
 
-// The input that is passed to the controller. 22, 1 to 10, 16, 15, 17.
+// The input that is passed to the controller. 22, 1 to 10, 16, 15, 17. The slices are handed on as parts of their own, so that the compiler need not keep them in memory for what is asked here.
 pub fn input_half(reading: u8, file: &[u8], marks: &[u8], state: State, x: u8) -> HalfAnswer
     ensures { λ r. ⌜ InputPromise reading (now (file .entry)) (now (marks .entry)) state x r ⌝ }
 {
-    let checked = policy::check_under(reading, file);
+    let checked = policy::check_under(reading, &file[..]);
     let r = marks_refusal(checked, marks);
     if r != 0 {
         return HalfAnswer::Refused(r);
@@ -88,8 +90,15 @@ pub fn input_half(reading: u8, file: &[u8], marks: &[u8], state: State, x: u8) -
     if r != 0 {
         return HalfAnswer::Refused(r);
     }
+    if values(layout.inputs) <= x as usize {
+        return HalfAnswer::Refused(15);
+    }
     let own = own_of(file, layout, state);
-    input_by(file, layout, own, marks, state, x)
+    let here = here_by(file, layout, own, state);
+    if input_reaches(file, layout, here, marks, state, x) {
+        return HalfAnswer::Value(x);
+    }
+    input_by(&file[..], layout, own, &marks[..], state, x)
 }
 
 // The input half past 16, by the rules of the state's location.
@@ -150,7 +159,7 @@ impl State {
     pub fn output(self, reading: u8, file: &[u8], marks: &[u8], x: u8, y: u8) -> Output
         ensures { λ r. ⌜ OutputPromise reading (now (file .entry)) (now (marks .entry)) self x y r ⌝ }
     {
-        let checked = policy::check_under(reading, file);
+        let checked = policy::check_under(reading, &file[..]);
         let r = marks_refusal(checked, marks);
         if r != 0 {
             return refused(self, r);
@@ -160,8 +169,23 @@ impl State {
         if r != 0 {
             return refused(self, r);
         }
+        if values(layout.inputs) <= x as usize {
+            return refused(self, 15);
+        }
+        if values(layout.outputs) <= y as usize {
+            return refused(self, 15);
+        }
         let own = own_of(file, layout, self);
-        output_by(file, layout, own, marks, self, x, y)
+        let here = here_by(file, layout, own, self);
+        let read = output_arrival(file, layout, here, marks, self, x, y);
+        if read.permitted {
+            let next = read.state;
+            return Output {
+                answer: HalfAnswer::Value(y),
+                state: next,
+            };
+        }
+        output_by(&file[..], layout, own, &marks[..], self, x, y)
     }
 }
 

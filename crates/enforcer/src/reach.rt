@@ -165,3 +165,52 @@ pub(crate) fn idles(file: &[u8], layout: Layout, here: Here, marks: &[u8], state
         DecidedBy::At(at) => leads(file, layout, marks, state, at),
     }
 }
+
+// What the event x, y does, as `arrival` has it. Only the output half asks this one, so that the compiler lays it into the half.
+pub(crate) fn output_arrival(
+    file: &[u8],
+    layout: Layout,
+    here: Here,
+    marks: &[u8],
+    state: State,
+    x: u8,
+    y: u8,
+) -> Step
+    requires { ⌜ Ready (now file) layout here (now marks) state ⌝ }
+    ensures { λ r. ⌜ r ≡ stepFrom state (arrival (policyOf (layout .reading) (now (file .entry))) (now (marks .entry)) (place (layout .clocks) state) x y) ⌝ }
+{
+    let rule = rule_of(file, layout, here, state, x, y);
+    let step = state.by(file, layout, rule);
+    if !step.permitted {
+        return step;
+    }
+    let next = step.state;
+    let ceilings = layout.ceilings;
+    let number = next.number(ceilings, State::CLOCKS);
+    if marks[number] == 1 {
+        step
+    } else {
+        Step {
+            permitted: false,
+            state,
+        }
+    }
+}
+
+// The event x, 0 takes the state to a marked one. Only the input half asks this, so that the compiler lays it into the half.
+pub(crate) fn input_reaches(
+    file: &[u8],
+    layout: Layout,
+    here: Here,
+    marks: &[u8],
+    state: State,
+    x: u8,
+) -> bool
+    requires { ⌜ Ready (now file) layout here (now marks) state ⌝ }
+    ensures { λ r. ⌜ r ≡ reaches (policyOf (layout .reading) (now (file .entry))) (now (marks .entry)) (place (layout .clocks) state) x 0 ⌝ }
+{
+    match rule_of(file, layout, here, state, x, 0) {
+        DecidedBy::Nothing => false,
+        DecidedBy::At(at) => leads(file, layout, marks, state, at),
+    }
+}

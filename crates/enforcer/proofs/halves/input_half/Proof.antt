@@ -1,13 +1,17 @@
--- `enforcer::halves::input_half` meets its contract: each refusal up to 16 in its order, and then what is left past it.
+-- `enforcer::halves::input_half` meets its contract: each refusal up to 15 in its order; then the input as it was read, if it stands; and then what is left past it.
 use mathlib.Core.Path.{_≡_, sym, _∙_}
+use native.Mathlib.Omega.{arith}
 use borrow.Author.Needs.{needs}
 use denote.Ref.{now}
+use Rattle.policy.specs.Rules.{inputValues}
+use Rattle.policy.specs.File.{policyOf}
 use Rattle.policy.specs.declared.Layout.{Layout}
 use Rattle.enforcer.specs.Entries.{marksRefusal, stateRefusal, inputRefusal, inputOf, inputPast}
 use Rattle.enforcer.specs.State.{place}
 use Rattle.enforcer.specs.Ready.{Standing}
-use Rattle.enforcer.specs.Laid.{laid-place}
+use Rattle.enforcer.specs.Laid.{laid-limits, laid-inputs, laid-place}
 use Rattle.enforcer.specs.States.{chosen-first, Granted, marks-by, granted-laid, granted-standing}
+use Rattle.enforcer.specs.AsRead.{input-past-15, input-as-read}
 use Rattle.enforcer.proofs.halves.input_half.Statement.{statement}
 use Rattle.enforcer.proofs.halves.input_half.Tie as tie
 
@@ -69,14 +73,45 @@ left c =
     let e = c .before .before .before in
     rw (passed e, ← laid e .named, granted c, laid-place (laid e .laid) (e .before .before .before .before .before .args .state))
 
-own-of-requires : tie.Need-own-of-requires
-own-of-requires c κs = standing c .laid
+values-requires : tie.Need-values-requires
+values-requires c κs = omega (arith, laid-limits (standing c .laid))
 
-input-by-requires : tie.Need-input-by-requires
-input-by-requires c κs = (standing (c .before), c .own-of .ensures)
+-- The values that x may have are the policy's, and past 15 x is one of them.
+inputs : (c : tie.After-values) →
+    let s = c .before .before .before .before .before .before in
+    c .values .result ≡ inputValues (policyOf (s .check-under .result .layout .reading) (now (s .before .before .before .args .file)))
+inputs c = c .values .ensures ∙ laid-inputs (standing (c .before) .laid) .0
 
 returns-3 : tie.Need-returns-3
-returns-3 c = record { said = c .input-by .ensures ∙ sym (left (c .before .before)) }
+returns-3 c =
+    let v = c .before in
+    record { said = sym (left (v .before) ∙ input-past-15 _ _ _ _ _ (rw (inputs v) at (c .if3 .taken))) }
+
+own-of-requires : tie.Need-own-of-requires
+own-of-requires c κs = standing (c .before .before) .laid
+
+here-by-requires : tie.Need-here-by-requires
+here-by-requires c κs = (standing (c .before .before .before) .laid, c .own-of .ensures)
+
+input-reaches-requires : tie.Need-input-reaches-requires
+input-reaches-requires c κs = record { standing = standing (c .before .before .before .before); here = c .here-by .ensures }
+
+-- As it was read the input stands.
+returns-4 : tie.Need-returns-4
+returns-4 c =
+    let r = c .before in
+    let e = r .before .before .before in
+    record { said = sym (left (e .before .before) ∙ input-as-read _ _ _ _ _ (rw (inputs (e .before)) at (e .if3 .left)) (sym (r .input-reaches .ensures) ∙ c .if4 .taken)) }
+
+input-by-requires : tie.Need-input-by-requires
+input-by-requires c κs =
+    let o = c .before .before .before in
+    (standing (o .before .before .before), o .own-of .ensures)
+
+returns-5 : tie.Need-returns-5
+returns-5 c =
+    let o = c .before .before .before .before in
+    record { said = c .input-by .ensures ∙ sym (left (o .before .before .before)) }
 
 pub input-half-spec : {M : Type 1} → statement M
 input-half-spec =
@@ -87,6 +122,11 @@ input-half-spec =
     returns
     state-refusal-requires
     returns-2
+    values-requires
+    returns-3
     own-of-requires
+    here-by-requires
+    input-reaches-requires
+    returns-4
     input-by-requires
-    returns-3)
+    returns-5)
