@@ -6,7 +6,7 @@ mod common;
 use std::path::PathBuf;
 use std::process::Command;
 
-use common::random::{events, policy, Random};
+use common::random::{events, policy, spoilt, Random};
 use common::{desk, desk_reading, fed, Folder};
 
 const CASES: usize = 250;
@@ -18,7 +18,7 @@ fn proved(name: &str) -> Command {
     };
     let path = folder.join(name);
     let words =
-        "`rt check enforce why wave clean` makes it, or GROOVEPAWN_PROGRAMS names its folder";
+        "`rt check enforce why wave clean compile show` makes it, or GROOVEPAWN_PROGRAMS names its folder";
     assert!(path.is_file(), "{} is not there: {words}", path.display());
     Command::new(path)
 }
@@ -169,4 +169,60 @@ fn clean_writes_what_clean_writes() {
         let written = |path: &str| std::fs::read(path).expect("it was written");
         assert_eq!(written(&ours), written(&theirs));
     }
+}
+
+#[test]
+fn compile_and_show_do_what_compile_and_show_do() {
+    let folder = Folder::new();
+    let mut random = Random::new(6);
+    let (mut refused, mut compiled) = (0, 0);
+    for case in 0..CASES / 2 {
+        let file = folder.file("policy", &policy(&mut random));
+        let shown = desk(&["show", &file]).good();
+        let mut show = proved("show");
+        show.arg(&file);
+        assert_eq!(shown.out, fed(show, b"").stdout);
+        let text = match case % 3 {
+            0 => shown.out,
+            _ => spoilt(&mut random, &shown.out),
+        };
+        // What begins below a tab is a file to the desk.
+        if text.first().is_none_or(|&first| first < 9) {
+            continue;
+        }
+        let text = folder.file("text", &text);
+        let (ours, theirs) = (
+            folder.path(&format!("ours{case}")),
+            folder.path(&format!("theirs{case}")),
+        );
+        let said = desk(&["compile", &text, "-o", &ours]);
+        let mut compile = proved("compile");
+        compile.args([&text, &theirs]);
+        let printed = String::from_utf8(fed(compile, b"").stdout).expect("text is printed");
+        match said.status {
+            Some(0) => {
+                compiled += 1;
+                let written = std::fs::read(&ours).expect("it was written");
+                assert_eq!(written, std::fs::read(&theirs).expect("it was written"));
+                assert_eq!(printed, format!("compiled {} bytes\n", written.len()));
+            }
+            _ => {
+                refused += 1;
+                let words: Vec<&str> = printed.split_whitespace().collect();
+                let ["refused", number, "line", line] = words[..] else {
+                    panic!("{printed}");
+                };
+                let place = if line == "0" {
+                    String::new()
+                } else {
+                    format!("line {line}: ")
+                };
+                said.bad(1, &format!("refused {number}: ")).bad(1, &place);
+            }
+        }
+    }
+    assert!(
+        compiled > 40 && refused > 20,
+        "{compiled} compiled, {refused} refused"
+    );
 }

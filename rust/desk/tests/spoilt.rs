@@ -40,9 +40,16 @@ fn spoilt_policies_have_a_word_and_a_place_each() {
             let told = said.text().contains(&format!("{path}: inputs"));
             assert!(told || of_it.len() == 1, "nothing is said of {path}");
             for line in of_it {
-                let place = ["byte ", "under reading", "under both", "make ", "line ", "no location"]
-                    .iter()
-                    .any(|place| line.contains(place));
+                let place = [
+                    "byte ",
+                    "under reading",
+                    "under both",
+                    "make ",
+                    "line ",
+                    "no location",
+                ]
+                .iter()
+                .any(|place| line.contains(place));
                 assert!(place, "{line} has no place");
                 named += 1;
             }

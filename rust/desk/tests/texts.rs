@@ -238,7 +238,13 @@ fn spoilt_texts_have_a_line_each() {
                 }
                 [line] => {
                     // Of the whole: no location; of a file: what a low first byte begins.
-                    let place = ["line ", "no location", "byte ", "under reading", "under both"];
+                    let place = [
+                        "line ",
+                        "no location",
+                        "byte ",
+                        "under reading",
+                        "under both",
+                    ];
                     assert!(place.iter().any(|place| line.contains(place)), "{line}");
                     refused += 1;
                 }
