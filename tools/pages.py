@@ -189,7 +189,7 @@ def in_order(lines, output):
 
 
 def is_printed(line):
-    return re.match(r"verdict \d|\d+( \d+){4} [EF]{2}$|input: |output: |(location|rule) \d+: |left \d+ bytes$", line)
+    return re.match(r"tick \d+: read |verdict \d|\d+( \d+){4} [EF]{2}$|input: |output: |(location|rule) \d+: |left \d+ bytes$", line)
 
 
 # The policies of the pages.
@@ -501,6 +501,9 @@ def check_file_page(page):
     table = "".join(re.match(r"\| `([0-9A-F ]+)` \|", line).group(1) for line in lines if re.match(r"\| `[0-9A-F]{2} ", line))
     octal = [int(digits, 8) for line in lines for digits in re.findall(r"\\(\d{3})", line)]
     hold(page, bytes(octal[2:2 + len(bytes.fromhex(table))]) == bytes.fromhex(table), "the table and the command have different bytes")
+    texts = [file_of("\n".join(block.lines)) for block in blocks_of(page) if block.is_policy_text()]
+    written = [files_in(line)[0] for line in lines if line.startswith("As bytes: ")] + [bytes.fromhex(table)]
+    hold(page, texts == written, "a text of the page gives other bytes than those beside it")
 
 
 def files_in(line):
@@ -548,7 +551,7 @@ def check_annex(page, library):
 
 def check_transfer(page, library):
     """POLICY-FILE's transfer that must be able to end: all events pass, and without its third rule B is turned off."""
-    (file,) = [files_in(line)[0] for line in read(page) if line.startswith("For example, one input B")]
+    (file,) = [files_in(line)[0] for line in read(page) if line.startswith("As bytes: ")]
     rules = [file[at:at + 7] for at in range(len(file) - 28, len(file), 7)]
     without = file[:len(file) - 29] + b"\x03" + b"".join(rules[:2] + rules[3:])
     for reading in (1, 2):
