@@ -18,7 +18,7 @@ os.chdir(top)
 HEADER, PAGE = "include/groovepawn.h", "docs/C-INTERFACE.md"
 # These are tools and no part of a loop: the header's opening comment names them with their numbers.
 TOOLS = (
-    "groovepawn_clean", "groovepawn_why", "groovepawn_why_run", "groovepawn_text_read", "groovepawn_text_write", "groovepawn_text_line_of_rule",
+    "groovepawn_clean", "groovepawn_why", "groovepawn_why_run", "groovepawn_text_read", "groovepawn_text_line_of_rule",
     "groovepawn_text_name_of_signal", "groovepawn_text_name_of_clock", "groovepawn_text_name_of_location",
 )
 
