@@ -79,7 +79,7 @@ def from_header():
 
 def from_rust():
     out = {}
-    for name, parameters, result in re.findall(r"pub fn (groovepawn_\w+)\(([^)]*)\) -> (\w+);", rust):
+    for name, parameters, result in re.findall(r"pub fn (groovepawn_\w+)\(([^)]*)\)\s*-> (\w+);", rust):
         shape = []
         for parameter in filter(None, (each.strip() for each in parameters.split(","))):
             word, pointer, kind = re.match(r"(\w+): (\*const |\*mut |)(\w+)", parameter).groups()
