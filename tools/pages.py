@@ -385,6 +385,8 @@ def check_page(page, shell, library, crates, outputs, files):
             hold(block.where, block.bytes() in files or not files, "no sample and no file that a program leaves has these bytes")
         elif block.is_policy_text() and sample_named(block):
             hold(block.where, b"".join(draft_of_block(block).sections()) == sample_named(block), "this text gives another file than the sample")
+        elif block.is_policy_text() and page == "docs/POLICY-FILE.md":
+            continue  # its texts are held against their bytes (check_file_page)
         elif block.is_policy_text():
             texts.append(b"".join(draft_of_block(block).sections()))
             hold(block.where, texts[-1] == texts[0], "this text gives another file than the first of the page")
