@@ -19,7 +19,7 @@ fn what_is_not_there() {
     desk(&["check", &none]).bad(1, "none: No such file or directory");
     desk(&["run", &d, &none]).bad(1, "none: No such file or directory");
     desk(&["join", &d, &d, "-o", &folder.path("none/joined")])
-        .bad(1, "joined: No such file or directory");
+        .bad(1, "joined cannot be written: No such file or directory");
 }
 
 #[test]
@@ -30,7 +30,8 @@ fn a_directory() {
     fs::create_dir(&inner).expect("a folder can be made");
     desk(&["check", &inner]).bad(1, "inner: Is a directory");
     desk(&["run", &d, &inner]).bad(1, "inner: Is a directory");
-    desk(&["wave", &d, "/dev/null", "-o", &inner]).bad(1, "inner: Is a directory");
+    desk(&["wave", &d, "/dev/null", "-o", &inner])
+        .bad(1, "inner cannot be written: Is a directory");
 }
 
 #[test]
@@ -133,7 +134,10 @@ fn no_permission() {
     );
     let (status, err) = as_nobody(&["join", &d, &d, "-o", &kept]);
     assert_eq!(
-        (status, err.contains("kept: Permission denied")),
+        (
+            status,
+            err.contains("kept cannot be written: Permission denied")
+        ),
         (Some(1), true),
         "{err}"
     );
@@ -154,6 +158,7 @@ fn a_file_is_whole_or_not_there() {
     assert_eq!(fs::read(&part).expect("it is there"), b"of somebody else");
     fs::remove_file(&part).expect("it is ours");
     desk(&["join", &d, &d, "-o", &out]).good();
-    desk(&["clean", "-r", "1", &out, "-o", &out]).good();
-    assert_eq!(folder.names(), ["d", "out", "t"]);
+    let cleaned = folder.path("cleaned");
+    desk(&["clean", "-r", "1", &out, "-o", &cleaned]).good();
+    assert_eq!(folder.names(), ["cleaned", "d", "out", "t"]);
 }
