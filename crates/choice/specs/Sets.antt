@@ -7,7 +7,7 @@ use lib.Arith.{bin-ind}
 use lib.Dec.{eqb, ltb, leb·suc-suc}
 use lib.Pow.{pow-pos}
 use lib.Bits.{bitAnd, bitOr, bitXor, and-mod, or-mod, xor-mod, and-shr, or-shr, xor-shr}
-use borrow.Author.Tests.{eqb-true, eqb-false, lt-ltb, le-ltb}
+use borrow.Author.Tests.{eqb-false, lt-ltb, le-ltb}
 
 -- A test that both ways say the same of.
 pub cond-same : {A : Type 0} (t : Bool) (a : A) → cond t a a ≡ a
@@ -86,43 +86,6 @@ has-some =
 
 pub has-not-empty : (set y : ℕ) → has set y ≡ true → set ≡ 0 → ⊥
 has-not-empty set y h e = let z : has 0 y ≡ true = rw (← e) h in let k : _≡_ {A = ℕ} 0 1 = cc (has-none y) in omega arith
-
--- Sets with the same numbers in them are the same.
-pub has-same : (a b : ℕ) → ((y : ℕ) → has a y ≡ has b y) → a ≡ b
-unfolding has
-has-same =
-    bin-ind (λ (a : ℕ). (b : ℕ) → ((y : ℕ) → has a y ≡ has b y) → a ≡ b) (λ b h. empty b h)
-    (λ a ih b h. let d = digit (a % 2) (b % 2) (omega arith) (omega arith) (h 0) in let r = ih (b / 2) (λ y. h (suc y)) in omega arith)
-  where
-    digit : (m n : ℕ) → m < 2 → n < 2 → eqb m 1 ≡ eqb n 1 → m ≡ n
-    digit m n l k e = go (eqb m 1) refl
-      where
-        go : (t : Bool) → eqb m 1 ≡ t → m ≡ n
-        go true q = eqb-true _ _ q ∙ sym (eqb-true n 1 (sym e ∙ q))
-        go false q =
-            let d : m ≡ 1 → ⊥ = eqb-false _ _ q in
-            let c : n ≡ 1 → ⊥ = eqb-false n 1 (sym e ∙ q) in
-            omega arith
-
-    empty : (b : ℕ) → ((y : ℕ) → has 0 y ≡ has b y) → 0 ≡ b
-    empty b h = go (eqb b 0) refl
-      where
-        go : (t : Bool) → eqb b 0 ≡ t → 0 ≡ b
-        go true q = sym (eqb-true _ _ q)
-        go false q =
-            let r = has-some b (eqb-false _ _ q) in
-            let k : _≡_ {A = ℕ} 0 1 = cc (has-none (r .0), h (r .0), r .1) in
-            absurd (omega arith)
-
--- What is taken away twice is back.
-pub xor-twice : (a b : ℕ) → bitXor a (bitXor a b) ≡ b
-unfolding differs
-xor-twice a b = has-same _ _ (λ y. has-xor a (bitXor a b) y ∙ rw (has-xor a b y) (go (has a y) (has b y)))
-  where
-    go : (t u : Bool) → differs t (differs t u) ≡ u
-    go true true = refl
-    go true false = refl
-    go false u = refl
 
 -- What care bits, a value and a set of outputs take of the outputs left with the input x.
 abbrev pub agreed : (care value set x left : ℕ) → ℕ

@@ -137,10 +137,6 @@ module _ (front rest : List ℕ) (long : 5975 ≤ length front) where
           unfolding locationsRefusal rulesAt
           locations-few = let k = section front (locationsAt front) 1 (locationCount front) 1 64 1 _ none-locations in omega (arith, clocks-few, k .0 .1)
 
-          output-tags-few : outputCount front ≤ 4
-          unfolding outputsRefusal
-          output-tags-few = section front (outputsAt front) 1 (outputCount front) 0 4 1 _ none-outputs .0 .1
-
           rule-count : ruleCount whole ≡ ruleCount front
           rule-count = rw rules-at (pair-front front rest (rulesAt front) (omega (arith, locations-few)))
 

@@ -8,7 +8,7 @@ use native.Mathlib.Omega.{arith}
 use Rattle.streams.specs.Stream.{Event, Stream, Language, GoesOn, Hopeless}
 use Rattle.streams.specs.Order.{Order}
 use Rattle.streams.specs.Enforced.{Enforced}
-use Rattle.streams.specs.Laws.{narrows-refl, narrows-trans, alongside-first, alongside-second, alongside-into, goes-on, ends, enforced-same, passes}
+use Rattle.streams.specs.Laws.{narrows-refl, narrows-trans, alongside-first, alongside-second, alongside-into, goes-on, ends, enforced-same}
 use Rattle.streams.specs.Languages.{_narrows_}
 use Rattle.policy.specs.Rules.{Policy, Runs, Permits}
 use Rattle.policy.specs.Sound.{Sound}
@@ -51,15 +51,6 @@ module _ (a b : Policy) (g : Sound a) (h : Sound b) (j : Joins a b) where
   -- What both permit, the join permits.
   into : {L : Language} → L narrows Permits a → L narrows Permits b → L narrows Permits (join a b)
   into f k = narrows-trans (alongside-into f k) (both-within a b g h j)
-
-  -- What the join releases passes the enforcer of A, and of B, without an edit.
-  pub passes-first : (o : Order) (n m : ℕ) (w : Stream) (es rs : List Event) →
-      Enforced o (Permits (join a b)) n m w es rs → Enforced o (Permits a) n m w rs rs
-  passes-first o n m w es rs = passes o n m (Permits (join a b)) (Permits a) to-first
-
-  pub passes-second : (o : Order) (n m : ℕ) (w : Stream) (es rs : List Event) →
-      Enforced o (Permits (join a b)) n m w es rs → Enforced o (Permits b) n m w rs rs
-  passes-second o n m w es rs = passes o n m (Permits (join a b)) (Permits b) to-second
 
 pub commutes : (a b : Policy) → Sound a → Sound b → Joins a b → Equal (join a b) (join b a)
 commutes a b g h j =

@@ -150,9 +150,6 @@ module _ (p : Policy) where
         stopped = advance-stopped mask (p .ceilings) (s .clocks);
       })
 
-  pub steps-inside : Sound p → (s : Place) → Inside p s → (w : Stream) → Of (Inside p) (steps stopped p s w)
-  steps-inside k = steps-of stopped p (Inside p) (step-inside k)
-
   pub stop-inside : (s : Place) → In p s → Inside p (stop p s)
   stop-inside s h =
       record {

@@ -9,7 +9,7 @@ use lib.Dec.{eqb}
 use lib.ListN.{length, length-append, replicate}
 use borrow.Author.Tests.{ne-eqb}
 use Rattle.policy.specs.Rules.{Rule, Policy}
-use Rattle.policy.specs.File.{part, pairsFrom, rulesFrom, inputCount, outputsAt, outputCount, clocksAt, clockCount, locationsAt, locationCount, rulesStart, ruleCount, inputTags, outputTags, locationBytes, policyOf}
+use Rattle.policy.specs.File.{pairsFrom, rulesFrom, clocksAt, clockCount, rulesStart, ruleCount, inputTags, outputTags, locationBytes, policyOf}
 use Rattle.policy.specs.Check.{refusalOf}
 use Rattle.policy.specs.Sound.{WellFormed, Each, each-none, each-more, each-weak}
 use Rattle.policy.specs.Checked.{well-ruled, checked-file}
@@ -185,11 +185,3 @@ file-pieces f h =
     let rules = rules-part f (clockCount f) (rulesStart f) (ruleCount f) in
     text-pieces (policyOf 1 f) (checked-file 1 f h)
     ∙ ap₂ (λ (n : ℕ) (rs : List Rule). linesText (inputTags f) (outputTags f) (pairsFrom f (clocksAt f + 1) (clockCount f)) (locationBytes f) n rs) clocks rules
-
--- By the positions and counts that the code has worked out.
-pub file-lines : (f : List ℕ) → refusalOf f ≡ 0 → {a x b y l z c n from m : ℕ} → a ≡ 1 → x ≡ inputCount f → b ≡ outputsAt f + 1 → y ≡ outputCount f →
-    l ≡ locationsAt f + 1 → z ≡ locationCount f → c ≡ clocksAt f + 1 → n ≡ clockCount f → from ≡ rulesStart f → m ≡ ruleCount f →
-    linesText (part f a x) (part f b y) (pairsFrom f c n) (part f l z) n (rulesFrom n f from m) ≡ textOfFile f
-file-lines f passes p q r s t u v w x y =
-    (λ i. linesText (part f (p i) (q i)) (part f (r i) (s i)) (pairsFrom f (v i) (w i)) (part f (t i) (u i)) (w i) (rulesFrom (w i) f (x i) (y i)))
-    ∙ sym (file-pieces f passes)

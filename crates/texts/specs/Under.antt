@@ -41,10 +41,6 @@ module _ {before : List ℕ} {at : ℕ} {all : List ℕ} (room : at + length all
       LinesUnder before at all r after more
   under-more e w l = under-on (omega arith) u e w l
 
-  -- The rest is the last part.
-  pub under-last : {r : ℕ} {after : List ℕ} → Wrote now next rest r after → Wrote before at all r after
-  under-last {r} {after} w = subst (λ (z : List ℕ). Wrote before at z r after) (sym (u .whole)) (wrote-then (omega arith) (u .wrote) w)
-
 -- Nothing is left.
 pub under-all : {before : List ℕ} {at : ℕ} {all : List ℕ} {next : ℕ} {now rest : List ℕ} → LinesUnder before at all next now rest → rest ≡ [] →
     Wrote before at all next now

@@ -1,7 +1,7 @@
 -- One stream at most has a text.
 use mathlib.Core.Path.{_≡_, refl, sym, ap, _∙_}
 use mathlib.Core.List.{List, [], _∷_, _++_, append-assoc, append-cancel-left}
-use Prim.Native.Nat.{ℕ, _+_, _≤_}
+use Prim.Native.Nat.{ℕ, _≤_}
 use native.Mathlib.Nat.{le-refl}
 use native.Mathlib.Omega.{arith}
 use lib.ListN.{length, length-append}
@@ -31,11 +31,6 @@ module _ (inputs outputs : List ℕ) where
   text-none = refl
 
   module _ (s : SignalsGood inputs outputs) where
-    pub body-some : (e : ℕ) (events : List ℕ) → body e events ≡ [] → ⊥
-    body-some e events q =
-        let a = length-append (eventLines inputs outputs 255 e) (laterLines inputs outputs 1 e events) in
-        omega (arith, later-some inputs outputs s 1 e events, ap length q)
-
     -- The values at time 0 are read as they stand.
     pub body-read : (e : ℕ) (events : List ℕ) → EventFits inputs outputs e →
         readEvent inputs outputs (body e events) ≡ record { shown = everySignal inputs outputs; values = e; rest = laterLines inputs outputs 1 e events }

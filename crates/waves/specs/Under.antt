@@ -6,7 +6,7 @@ use native.Mathlib.Numerals.{add-one}
 use native.Mathlib.Omega.{arith}
 use lib.ListN.{length, getD, drop, length-append, drop-of-length-le}
 use lib.Seq.{drop-cons}
-use borrow.Author.Tests.{eq-eqb, ne-eqb}
+use borrow.Author.Tests.{eq-eqb}
 use Rattle.texts.specs.Text.{decimal}
 use Rattle.waves.specs.Wave.{varLine, varLines, timeLine, valueLine, valueLines, header, eventLines}
 use Rattle.waves.specs.Streams.{opening}
@@ -32,9 +32,6 @@ values-end tags i shown values h = rw (drop-of-length-le tags h)
 -- How long the lines are.
 pub shown-length : (tag shown values : ℕ) → shown % 2 ≡ 1 → length (valueLine tag shown values) ≡ 3
 shown-length tag shown values e = rw (eq-eqb (shown % 2) 1 e)
-
-pub hidden-length : (tag shown values : ℕ) → (shown % 2 ≡ 1 → ⊥) → length (valueLine tag shown values) ≡ 0
-hidden-length tag shown values h = rw (ne-eqb (shown % 2) 1 h)
 
 pub time-length : (n : ℕ) → length (timeLine n) ≡ 2 + length (decimal n)
 unfolding timeLine
