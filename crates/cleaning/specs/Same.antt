@@ -1,6 +1,6 @@
 -- Each stream leads to the same place in the cleaned policy, at its new number. For any flags that are meant so.
 use mathlib.Core.Path.{_≡_, refl, sym, ap, _∙_}
-use mathlib.Core.Bool.{Bool, true, false, cond, _&&_, false≢true}
+use mathlib.Core.Bool.{Bool, true, false, cond, _&&_, false≢true, and-eq-true-iff}
 use mathlib.Core.List.{List, [], _∷_, map}
 use mathlib.Core.Logic.{_⊎_, inl, inr, by-cases}
 use mathlib.Core.Option.{Option, none, some, bind, Option·map, map-eq-some-iff, Option·some-injective, Option·none-ne-some}
@@ -15,6 +15,7 @@ use Rattle.streams.specs.Stream.{Event, Stream}
 use Rattle.policy.specs.Rules.{Rule, Policy, Place, start, hold, fires, decides, unlimited, advance, tested, looked, taken, step, steps, FitsOne, Fits, fits-none, fits-more}
 use Rattle.policy.specs.Reached.{After, Reached, reached-start, reached-more}
 use Rattle.enforcer.specs.Code.{decider}
+use Rattle.prepare.specs.Deciding.{first-decides, later-decides}
 use Rattle.cleaning.specs.Sift.{flag, nth, sift, rank}
 use Rattle.cleaning.specs.SiftLaws.{rank-le, rank-same, nth-sift, nth-map}
 use Rattle.cleaning.specs.Clean.{Used, Entered, Meant, renamed, cleaned, moved}
@@ -95,27 +96,13 @@ module _ (L : List Bool) where
 decider-fires : (rs : List Rule) (s : Place) (e : Event) (i : ℕ) (r : Rule) → decider rs s e ≡ some i → nth rs i ≡ some r → fires r s e ≡ true
 unfolding decider
 decider-fires [] s e i r d h = absurd (Option·none-ne-some i d)
-decider-fires (a ∷ rs) s e zero r d h = ap (λ (x : Rule). fires x s e) (sym (Option·some-injective a r h)) ∙ go (fires a s e) (decider rs s e) d
-  where
-    go : (b : Bool) (o : Option ℕ) → cond b (some 0) (Option·map suc o) ≡ some 0 → b ≡ true
-    go true o q = refl
-    go false none q = absurd (Option·none-ne-some 0 q)
-    go false (some j) q = absurd (omega (arith, Option·some-injective (suc j) 0 q))
-decider-fires (a ∷ rs) s e (suc i) r d h = decider-fires rs s e i r (go (fires a s e) (decider rs s e) d) h
-  where
-    go : (b : Bool) (o : Option ℕ) → cond b (some 0) (Option·map suc o) ≡ some (suc i) → o ≡ some i
-    go true o q = absurd (omega (arith, Option·some-injective 0 (suc i) q))
-    go false none q = absurd (Option·none-ne-some (suc i) q)
-    go false (some j) q = ap some (omega (arith, Option·some-injective (suc j) (suc i) q))
-
-and-left : (a b : Bool) → (a && b) ≡ true → a ≡ true
-and-left true b h = refl
-and-left false b h = h
+decider-fires (a ∷ rs) s e zero r d h = ap (λ (x : Rule). fires x s e) (sym (Option·some-injective a r h)) ∙ first-decides (fires a s e) (decider rs s e) d
+decider-fires (a ∷ rs) s e (suc i) r d h = decider-fires rs s e i r (later-decides (fires a s e) (decider rs s e) i d) h
 
 fires-source : (r : Rule) (s : Place) (e : Event) → fires r s e ≡ true → r .source ≡ s .location
 unfolding fires
 fires-source r s e h =
-    eqb-true (r .source) (s .location) (and-left here ins (and-left (here && ins) outs (and-left (here && ins && outs) (hold (r .bounds) (s .clocks)) h)))
+    eqb-true (r .source) (s .location) (and-eq-true-iff here ins .0 (and-eq-true-iff (here && ins) outs .0 (and-eq-true-iff (here && ins && outs) (hold (r .bounds) (s .clocks)) .0 h .0) .0) .0)
   where
     here : Bool
     here = eqb (r .source) (s .location)

@@ -1,14 +1,15 @@
 -- What holds of the policy of a file that is not refused: of its tags and ceilings, and of each rule.
 use mathlib.Core.Path.{_≡_, refl, ap}
-use mathlib.Core.Bool.{Bool, true, false, _||_, and-eq-true-iff, false≢true}
+use mathlib.Core.Bool.{Bool, true, and-eq-true-iff, false≢true}
 use mathlib.Core.List.{List, [], _∷_, _++_}
-use mathlib.Core.Logic.{_⊎_, ⊎-map}
+use mathlib.Core.Logic.{⊎-map}
 use Prim.Native.Nat.{ℕ, zero, suc, _+_, _^_, _≤_, _<_}
 use native.Mathlib.Omega.{arith}
 use lib.Dec.{leb, ltb}
 use lib.Bits.{bitAnd}
 use lib.ListN.{length, getD}
 use borrow.Author.Tests.{leb-true, ltb-true, eqb-true}
+use Rattle.streams.specs.Tests.{either}
 use Rattle.streams.specs.Answer.{unless}
 use Rattle.streams.specs.AnswerLaws.{none-refused, none-unless}
 use Rattle.policy.specs.Rules.{Bound, Rule, Policy}
@@ -43,10 +44,6 @@ checked-file reading f e =
     }
 
 -- A passed test, as the facts that it tests.
-either : (t u : Bool) → (t || u) ≡ true → (t ≡ true) ⊎ (u ≡ true)
-either true u e = _⊎_.inl refl
-either false u e = _⊎_.inr e
-
 pub all-at : (test : ℕ → Bool) (xs : List ℕ) → allPass test xs ≡ true → (i : ℕ) → i < length xs → test (getD xs i 0) ≡ true
 unfolding allPass
 all-at test [] e i h = absurd (omega arith)

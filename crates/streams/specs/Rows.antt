@@ -1,7 +1,7 @@
 -- The values in the order of corrections, written down in rows: the first of a row that may stand is the nearest.
 use mathlib.Core.Path.{_≡_, refl, sym, _∙_, subst}
 use mathlib.Core.Logic.{_⊎_, inl, inr, ⊎-elim, dite}
-use mathlib.Core.Bool.{Bool, true, false, cond, _&&_, true≢false, false≢true}
+use mathlib.Core.Bool.{Bool, true, false, cond, _&&_, true≢false, and-eq-true-iff}
 use mathlib.Core.List.{List, [], _∷_, List·Memᴰ, List·Memᴰ·head, List·Memᴰ·tail, List·Memᴰ·not-nil, List·Memᴰ·cases-cons}
 use mathlib.Core.Option.{Option, none, some}
 use Prim.Native.Nat.{ℕ, zero, suc, _+_, _*_, _≤_, _<_}
@@ -37,15 +37,11 @@ unfoldable pub rows : ℕ → ℕ → ℕ → List ℕ → Bool
 rows k zero w table = true
 rows k (suc m) w table = rising k w (take k table) && rows k m (suc w) (drop k table)
 
-both : (t u : Bool) → (t && u) ≡ true → (t ≡ true) × (u ≡ true)
-both true u e = (refl, e)
-both false u e = absurd (false≢true e)
-
 rising-parts : (k w a : ℕ) (row : List ℕ) → rising k w (a ∷ row) ≡ true → (a < k) × (leads w a row ≡ true) × (rising k w row ≡ true)
 unfolding rising
 rising-parts k w a row e =
-    let p = both (ltb a k && leads w a row) (rising k w row) e in
-    let q = both (ltb a k) (leads w a row) (p .0) in
+    let p = and-eq-true-iff (ltb a k && leads w a row) (rising k w row) .0 e in
+    let q = and-eq-true-iff (ltb a k) (leads w a row) .0 (p .0) in
     (ltb-true a k (q .0), q .1, p .1)
 
 pub row-at : (k m w : ℕ) (table : List ℕ) → rows k m w table ≡ true → (i : ℕ) → i < m → rising k (w + i) (take k (drop (i * k) table)) ≡ true
@@ -54,12 +50,12 @@ row-at k zero w table e i h = absurd (not-suc-le-zero h)
 row-at k (suc m) w table e zero h =
     let d : w + 0 ≡ w = omega arith in
     let z : 0 * k ≡ 0 = omega arith in
-    rw (d, z) (both (rising k w (take k table)) (rows k m (suc w) (drop k table)) e .0)
+    rw (d, z) (and-eq-true-iff (rising k w (take k table)) (rows k m (suc w) (drop k table)) .0 e .0)
 row-at k (suc m) w table e (suc i) h =
     let d : w + suc i ≡ suc w + i = omega arith in
     let z : suc i * k ≡ k + i * k = suc-mul i k ∙ add-comm (i * k) k in
     rw (d, z, ← drop-drop (i * k) k table)
-    (row-at k m (suc w) (drop k table) (both (rising k w (take k table)) (rows k m (suc w) (drop k table)) e .1) i (omega arith))
+    (row-at k m (suc w) (drop k table) (and-eq-true-iff (rising k w (take k table)) (rows k m (suc w) (drop k table)) .0 e .1) i (omega arith))
 
 -- No value stands twice.
 pub data Different : List ℕ → Type 0 where
@@ -202,7 +198,7 @@ module _ (w : ℕ) where
             Among may n a × ((z : ℕ) → List·Memᴰ z (b ∷ row) → Among may n z → corrections .NoFarther w a z)
         go true d r e =
             let q : b ≡ a = cc in
-            let t = both (ltb b n) (may b) d in (
+            let t = and-eq-true-iff (ltb b n) (may b) .0 d in (
               rw (← q) (ltb-true b n (t .0), t .1),
               λ z m h.
                   rw (← q)

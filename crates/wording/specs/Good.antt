@@ -12,6 +12,7 @@ use lib.Bits.{bitAnd}
 use lib.ListN.{length, length-append}
 use lib.Pow.{pow-pos}
 use borrow.Author.Tests.{leb-true, le-leb, ltb-true, lt-ltb, eq-eqb}
+use Rattle.streams.specs.Tests.{either-second}
 use Rattle.streams.specs.Answer.{Answer, refused, gives}
 use Rattle.streams.specs.AnswerLaws.{none-refused}
 use Rattle.policy.specs.Rules.{Rule}
@@ -283,11 +284,7 @@ mask-passes signals care value h e = rw (lt-ltb care (2 ^ signals) h, eq-eqb (bi
 
 target-passes : (locations target : ℕ) → (target < locations) ⊎ (target ≡ 255) → (ltb target locations || eqb target 255) ≡ true
 target-passes locations target (_⊎_.inl h) = rw (lt-ltb target locations h)
-target-passes locations target (_⊎_.inr e) = or-true (ltb target locations) (eqb target 255) (eq-eqb target 255 e)
-  where
-    or-true : (a b : Bool) → b ≡ true → (a || b) ≡ true
-    or-true true b e = refl
-    or-true false b e = e
+target-passes locations target (_⊎_.inr e) = either-second (ltb target locations) (eqb target 255) (eq-eqb target 255 e)
 
 module _ (d : Draft) (g : Good d) where
   signal-count : length (tags d) ≡ length (d .inputs) + length (d .outputs)

@@ -8,6 +8,7 @@ use native.Mathlib.Omega.{arith}
 use lib.Dec.{leb}
 use lib.ListN.{length, length-append}
 use borrow.Author.Tests.{leb-true}
+use Rattle.streams.specs.Tests.{either-first, either-second}
 use Rattle.policy.specs.Rules.{Rule}
 use Rattle.policy.specs.Check.{isCapital, among}
 use Rattle.wording.specs.Words.{Word, Line}
@@ -125,13 +126,6 @@ module _ (d : Draft) (g : Good d) {ss : List Named} (k : StandsIn d ss) where
       let long : length (d .names) ≡ length (tags d) = g .signals .paired ∙ sym (length-append (d .inputs) (d .outputs)) in
       rw (h, c) (stand-last (stand-on (tags d) (d .names) t n k) (new-stands (tags d) (d .names) t n f free c e long))
 
-  first-or : (a b : Bool) → a ≡ true → (a || b) ≡ true
-  first-or a b h = rw h
-
-  second-or : (a b : Bool) → b ≡ true → (a || b) ≡ true
-  second-or true b h = refl
-  second-or false b h = h
-
   input-noted : (w : Word) (ws : Line) (t : ℕ) (n : Word) → is "input" w ≡ true → d .stage ≤ 1 → Signalled d ws t n → isCapital t ≡ true →
       among t (tags d) ≡ false → StandsIn (withInput d t n) (noted ss (w ∷ ws))
   input-noted w ws t n h s x c e =
@@ -139,12 +133,12 @@ module _ (d : Draft) (g : Good d) {ss : List Named} (k : StandsIn d ss) where
       let order : tags (withInput d t n) ≡ tags d ++ (t ∷ []) =
       ap (λ (o : List ℕ). (d .inputs ++ (t ∷ [])) ++ o) none-out ∙ append-nil (d .inputs ++ (t ∷ []))
       ∙ ap (λ (z : List ℕ). z ++ (t ∷ [])) (sym (append-nil (d .inputs)) ∙ ap (λ (o : List ℕ). d .inputs ++ o) (sym none-out)) in
-      rw order (signal-noted w ws t n (first-or (is "input" w) (is "output" w) h) x c e)
+      rw order (signal-noted w ws t n (either-first (is "input" w) (is "output" w) h) x c e)
 
   output-noted : (w : Word) (ws : Line) (t : ℕ) (n : Word) → is "output" w ≡ true → Signalled d ws t n → isCapital t ≡ true →
       among t (tags d) ≡ false → StandsIn (withOutput d t n) (noted ss (w ∷ ws))
   output-noted w ws t n h x c e =
-      rw (← append-assoc (d .inputs) (d .outputs) (t ∷ [])) (signal-noted w ws t n (second-or (is "input" w) (is "output" w) h) x c e)
+      rw (← append-assoc (d .inputs) (d .outputs) (t ∷ [])) (signal-noted w ws t n (either-second (is "input" w) (is "output" w) h) x c e)
 
   aside-stands : (e : Draft) → Aside d e → StandsIn e ss
   aside-stands e a = rw (a .letters, a .names) k
