@@ -8,7 +8,7 @@ use native.Mathlib.Decide.{ℕ-discrete, decLt}
 use native.Mathlib.Omega.{arith}
 use lib.Dec.{eqb, ltb}
 use lib.ListN.{length, getD, set}
-use lib.Bits.{bitAnd, bitOr, and-le-l}
+use lib.Bits.{bitAnd, bitOr, bitXor, and-le-l, xor-zero-r}
 use borrow.Author.Tests.{eqb-true, ltb-true, lt-ltb, le-ltb, eq-eqb, ne-eqb}
 use Rattle.streams.specs.Choose.{someBelow}
 use Rattle.streams.specs.ChooseLaws.{some-has, some-none, some-fails}
@@ -131,3 +131,10 @@ module _ (care value : ℕ) where
     -- The entry at x is still as it was.
     pub walked-now : {x : ℕ} {ys : List ℕ} → Walked x ys → getD ys x 0 ≡ getD xs x 0
     walked-now {x} w = w .changed .at x ∙ rw (le-ltb x x (omega arith)) refl
+
+-- What is left with z, once what agrees is taken of the sets left.
+abbrev pub rest : ℕ → ℕ → ℕ → List ℕ → ℕ → ℕ
+rest care value set left z = bitXor (getD left z 0) (agreed care value set z (getD left z 0))
+
+pub rest-still : (care value set : ℕ) (left : List ℕ) (z : ℕ) → eqb (bitAnd z care) value ≡ false → rest care value set left z ≡ getD left z 0
+rest-still care value set left z e = rw (e, xor-zero-r)

@@ -29,6 +29,7 @@ use Rattle.policy.specs.declared.Layout.{Layout}
 use Rattle.policy.specs.declared.Checked.{Checked}
 use Rattle.policy.specs.declared.own.Own.{Own}
 use Rattle.index.specs.Sections.{Sections, sections-filled, sections-rules}
+use Rattle.choice.specs.Changed.{zeros}
 use Rattle.enforcer.specs.State.{placeIn, stateOf, isMarked, place}
 use Rattle.enforcer.specs.Tick.{arrives, reaches}
 use Rattle.enforcer.specs.Code.{eventXY, stateAt, seenBy, stepFrom}
@@ -73,11 +74,6 @@ four-past : (vs : List ℕ) (i : ℕ) → length vs ≤ i → getD (four vs) i 0
 four-past vs i h =
     let e : i ≡ length vs + (i - length vs) = omega arith in
     rw e (getD-append-add vs (replicate (4 - length vs) 0) (i - length vs) 0 ∙ zeros (4 - length vs) (i - length vs))
-  where
-    zeros : (n j : ℕ) → _≡_ {A = ℕ} (getD (replicate n 0) j 0) 0
-    zeros zero j = refl
-    zeros (suc n) zero = refl
-    zeros (suc n) (suc j) = zeros n j
 
 -- The layout of a file that passes the check.
 pub laid-out : (reading : ℕ) (f : List ℕ) → refusalOf f ≡ 0 → Laid f (layoutOf reading f)

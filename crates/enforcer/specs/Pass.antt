@@ -2,7 +2,7 @@
 use mathlib.Core.Path.{_≡_, refl, sym, ap, ap₂, _∙_, subst}
 use mathlib.Core.Bool.{Bool, true, false, cond, _&&_, and-eq-true-iff, or-true, false≢true}
 use mathlib.Core.List.{List, [], _∷_}
-use Prim.Native.Nat.{ℕ, zero, suc, _≤_, _<_}
+use Prim.Native.Nat.{ℕ, _≤_, _<_}
 use native.Mathlib.Omega.{arith}
 use lib.Dec.{eqb, ltb}
 use lib.Bits.{bitAnd, bitOr, bitXor, and-zero-r, or-zero-r, xor-zero-r}
@@ -21,16 +21,11 @@ use Rattle.choice.specs.Sets.{agreed, cond-same, has, has-or, has-some, has-not
 use Rattle.choice.specs.Outs.{outs}
 use Rattle.enforcer.specs.Ways.{room, holds, takes, leads, gathered, allowed}
 use Rattle.enforcer.specs.WaysLaws.{gathered-keeps, gathered-empty, gathered-own, allowed-any}
-use Rattle.choice.specs.Changed.{Changed, changed-one, changed-by, changed-not}
+use Rattle.choice.specs.Changed.{Changed, changed-one, changed-by, changed-not, zeros}
 
 -- No number below n passes if none does.
 none-any : (n : ℕ) → someBelow (λ x. ltb 0 0) n ≡ false
 none-any n = some-fails _ n (λ z h. refl)
-
-pub zeros : (n x : ℕ) → _≡_ {A = ℕ} (getD (replicate n 0) x 0) 0
-zeros zero x = refl
-zeros (suc n) zero = refl
-zeros (suc n) (suc x) = zeros n x
 
 -- What a rule takes, by care bits and a value of the input and a set of outputs.
 module _ (s : Place) where

@@ -4,21 +4,18 @@ use Prim.Native.Nat.{ℕ, _-_, _<_}
 use mathlib.Core.Bool.{false}
 use mathlib.Core.List.{List}
 use native.Mathlib.Omega.{arith}
-use lib.Bits.{bitAnd, bitOr, bitXor, or-zero-r, xor-zero-r}
+use lib.Bits.{bitAnd, bitOr, or-zero-r}
 use lib.Dec.{eqb}
 use lib.ListN.{getD}
 use borrow.Author.Needs.{needs}
 use borrow.Author.Tests.{eq-eqb}
 use denote.Ref.{now}
 use Rattle.choice.specs.Sets.{agreed}
-use Rattle.choice.specs.After.{Walked, after-up, walked-start, walked-more, walked-done, walked-now}
+use Rattle.choice.specs.After.{Walked, after-up, walked-start, walked-more, walked-done, walked-now, rest, rest-still}
 use Rattle.choice.proofs.sets.gather.Statement.{statement}
 use Rattle.choice.proofs.sets.gather.Tie as tie
 
--- What is left with z, and what is found.
-abbrev rest : ℕ → ℕ → ℕ → List ℕ → ℕ → ℕ
-rest care value set left z = bitXor (getD left z 0) (agreed care value set z (getD left z 0))
-
+-- What is found with z.
 abbrev more : ℕ → ℕ → ℕ → List ℕ → List ℕ → ℕ → ℕ
 more care value set left found z = bitOr (getD found z 0) (agreed care value set z (getD left z 0))
 
@@ -29,16 +26,13 @@ Inv-loop left₀ found₀ inputs care value set led x₀ left found x =
 abbrev μ-loop : tie.MeasureT-loop
 μ-loop left₀ found₀ inputs care value set led x₀ left found x = inputs - x
 
-less : (care value set : ℕ) (left : List ℕ) (z : ℕ) → eqb (bitAnd z care) value ≡ false → rest care value set left z ≡ getD left z 0
-less care value set left z e = rw (e, xor-zero-r)
-
 still : (care value set : ℕ) (left found : List ℕ) (z : ℕ) → eqb (bitAnd z care) value ≡ false → more care value set left found z ≡ getD found z 0
 still care value set left found z e = rw (e, or-zero-r)
 
 loop-holds : tie.Need-loop-holds Inv-loop μ-loop
 loop-holds c =
     let a = c .args in (
-      walked-start _ _ _ _ _ (less (a .care) (a .value) (a .set) (now (a .left))) (c .pre .2),
+      walked-start _ _ _ _ _ (rest-still (a .care) (a .value) (a .set) (now (a .left))) (c .pre .2),
       walked-start _ _ _ _ _ (still (a .care) (a .value) (a .led) (now (a .left)) (now (a .found))) (c .pre .2),
     )
 
@@ -97,7 +91,7 @@ loop-again c =
     let w = l .loop .inv .0 in
     let v = l .loop .inv .1 in
     rw (c .after .ensures) (
-      walked-more _ _ _ _ _ (less (a .care) (a .value) (a .set) (now (a .left))) (s .pre .1) (s .pre .0) (i .loop-test .taken)
+      walked-more _ _ _ _ _ (rest-still (a .care) (a .value) (a .set) (now (a .left))) (s .pre .1) (s .pre .0) (i .loop-test .taken)
           (omega (arith, w .changed .size, s .pre .3)) (rw (walked-now _ _ _ _ _ w, eq-eqb _ _ (w .here)) refl) w,
       walked-more _ _ _ _ _ (still (a .care) (a .value) (a .led) (now (a .left)) (now (a .found))) (s .pre .1) (s .pre .0) (i .loop-test .taken)
           (omega (arith, v .changed .size, s .pre .4)) (rw (walked-now _ _ _ _ _ v, walked-now _ _ _ _ _ w, eq-eqb _ _ (w .here)) refl) v,
@@ -107,7 +101,7 @@ returns : tie.Need-returns Inv-loop μ-loop
 returns c =
     let l = c .before in
     let a = l .before .args in (
-      walked-done _ _ _ _ _ (less (a .care) (a .value) (a .set) (now (a .left))) {x = l .loop .x} (omega arith) (l .loop .inv .0),
+      walked-done _ _ _ _ _ (rest-still (a .care) (a .value) (a .set) (now (a .left))) {x = l .loop .x} (omega arith) (l .loop .inv .0),
       walked-done _ _ _ _ _ (still (a .care) (a .value) (a .led) (now (a .left)) (now (a .found))) {x = l .loop .x} (omega arith) (l .loop .inv .1),
     )
 

@@ -1,23 +1,13 @@
 -- `choice::sets::take` meets its contract. The loop's invariant: the sets of the inputs passed have lost what agrees.
-use mathlib.Core.Path.{_≡_, refl}
-use Prim.Native.Nat.{ℕ, _-_, _<_}
-use mathlib.Core.Bool.{false}
-use mathlib.Core.List.{List}
+use mathlib.Core.Path.{refl}
+use Prim.Native.Nat.{_-_, _<_}
 use native.Mathlib.Omega.{arith}
-use lib.Bits.{bitAnd, bitXor, xor-zero-r}
-use lib.Dec.{eqb}
-use lib.ListN.{getD}
 use borrow.Author.Needs.{needs}
 use borrow.Author.Tests.{eq-eqb}
 use denote.Ref.{now}
-use Rattle.choice.specs.Sets.{agreed}
-use Rattle.choice.specs.After.{Walked, after-up, walked-start, walked-more, walked-done, walked-now}
+use Rattle.choice.specs.After.{Walked, after-up, walked-start, walked-more, walked-done, walked-now, rest, rest-still}
 use Rattle.choice.proofs.sets.take.Statement.{statement}
 use Rattle.choice.proofs.sets.take.Tie as tie
-
--- What is left with z.
-abbrev rest : ℕ → ℕ → ℕ → List ℕ → ℕ → ℕ
-rest care value set left z = bitXor (getD left z 0) (agreed care value set z (getD left z 0))
 
 abbrev Inv-loop : tie.InvT-loop
 Inv-loop left₀ inputs care value set x₀ left x = Walked care value (rest care value set left₀) inputs left₀ x left
@@ -25,11 +15,8 @@ Inv-loop left₀ inputs care value set x₀ left x = Walked care value (rest car
 abbrev μ-loop : tie.MeasureT-loop
 μ-loop left₀ inputs care value set x₀ left x = inputs - x
 
-still : (care value set : ℕ) (left : List ℕ) (z : ℕ) → eqb (bitAnd z care) value ≡ false → rest care value set left z ≡ getD left z 0
-still care value set left z e = rw (e, xor-zero-r)
-
 loop-holds : tie.Need-loop-holds Inv-loop μ-loop
-loop-holds c = walked-start _ _ _ _ _ (still (c .args .care) (c .args .value) (c .args .set) (now (c .args .left))) (c .pre .2)
+loop-holds c = walked-start _ _ _ _ _ (rest-still (c .args .care) (c .args .value) (c .args .set) (now (c .args .left))) (c .pre .2)
 
 mul-left : tie.Need-mul-left Inv-loop μ-loop
 mul-left c = search needs
@@ -65,14 +52,14 @@ loop-again c =
     let u : l .loop .x < 16 = omega arith in
     let w = l .loop .inv in
     rw (c .after .ensures)
-    (walked-more _ _ _ _ _ (still (a .care) (a .value) (a .set) (now (a .left))) (l .before .pre .1) (l .before .pre .0) (c .before .before .before .loop-test .taken)
+    (walked-more _ _ _ _ _ (rest-still (a .care) (a .value) (a .set) (now (a .left))) (l .before .pre .1) (l .before .pre .0) (c .before .before .before .loop-test .taken)
     (omega (arith, w .changed .size, l .before .pre .3)) (rw (walked-now _ _ _ _ _ w, eq-eqb _ _ (w .here)) refl) w)
 
 returns : tie.Need-returns Inv-loop μ-loop
 returns c =
     let l = c .before in
     let a = l .before .args in
-    walked-done _ _ _ _ _ (still (a .care) (a .value) (a .set) (now (a .left))) {x = l .loop .x} (omega arith) (l .loop .inv)
+    walked-done _ _ _ _ _ (rest-still (a .care) (a .value) (a .set) (now (a .left))) {x = l .loop .x} (omega arith) (l .loop .inv)
 
 pub take-spec : {M : Type 1} → statement M
 take-spec =
