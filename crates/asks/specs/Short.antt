@@ -15,6 +15,7 @@ use lib.Pow.{pow-add}
 use borrow.Author.Tests.{eqb-true, eqb-false, leb-true}
 use Rattle.policy.specs.Rules.{Bound, Rule, Policy}
 use Rattle.policy.specs.Number.{statesOf}
+use Rattle.policy.specs.Numbered.{states-front}
 use Rattle.policy.specs.Check.{allPass, ceilingGood}
 use Rattle.policy.specs.Sound.{WellFormed, Each, each-none, each-more}
 use Rattle.policy.specs.Stopped.{AllLawful, lawful-none, lawful-more}
@@ -107,12 +108,6 @@ bound-short n low high c s l m u v =
     by-cases (ℕ-discrete low 0) (λ z. omega (arith, ap length (bound-none n low high q z))) (λ z. omega (arith, k, d, e, on-length n low high q z)))
     v
 
--- The first clock's values taken with the locations.
-states-cons : (c : ℕ) (cs : List ℕ) (k l : ℕ) → statesOf (c ∷ cs) (suc k) l ≡ statesOf cs k (l * suc c)
-unfolding statesOf
-states-cons c cs zero l = refl
-states-cons c cs (suc k) l = ap (λ (z : ℕ). z * suc (getD cs k 0)) (states-cons c cs k l)
-
 -- With e digits more so far, in numbers whose product is l, there are m of them in all, and ten to the m is no more than the states.
 bounds-short : (n : ℕ) {cs : List ℕ} {bs : List Bound} → allPass ceilingGood cs ≡ true → AllLawful cs bs → n + length bs ≤ 10 → (l e : ℕ) → 10 ^ e ≤ l →
     (m : ℕ) × (10 ^ m ≤ statesOf cs (length cs) l) × (length (bounds n bs) + 2 * e ≤ 21 * length bs + 2 * m)
@@ -126,7 +121,7 @@ bounds-short n g (lawful-more {c = c} {cs = cs} {b = b} {bs = bs} h hs) f l e k 
     let product : 10 ^ (e + s .more) ≤ l * suc c = rw pow-add (mul-le-mul k least) in
     let rest = bounds-short (n + 1) (t .1) hs (omega arith) (l * suc c) (e + s .more) product in (
       rest .0,
-      rw (states-cons c cs (length cs) l) (rest .1),
+      rw (states-front cs c (length cs) l) (rest .1),
       omega (
         arith,
         rest .2,

@@ -1,10 +1,10 @@
 -- 13: how many states a join has, and when it is over a limit.
-use mathlib.Core.Path.{_≡_, refl, ap, sym, _∙_}
+use mathlib.Core.Path.{_≡_, refl}
 use mathlib.Core.Bool.{Bool, true, false, _&&_}
 use mathlib.Core.List.{List, _++_}
 use mathlib.Core.Logic.{_⊎_, _↔_, ⊎-elim}
 use Prim.Native.Nat.{ℕ, zero, suc, _+_, _*_, _≤_, _<_}
-use native.Mathlib.Nat.{mul-assoc, mul-comm}
+use native.Mathlib.Nat.{mul-assoc, mul-right-comm}
 use native.Mathlib.Omega.{arith}
 use lib.Dec.{leb}
 use lib.ListN.{length, getD, List·getD-append, length-append}
@@ -22,10 +22,7 @@ module _ (cs ds : List ℕ) (l n : ℕ) where
   states-first zero h = refl
   states-first (suc k) h =
       let e : getD (cs ++ ds) k 0 ≡ getD cs k 0 = List·getD-append cs ds 0 k h in
-      rw (states-first k (omega arith), e) (turn (statesOf cs k l) n (values cs k))
-    where
-      turn : (a b c : ℕ) → a * b * c ≡ a * c * b
-      turn a b c = mul-assoc a b c ∙ ap (λ (z : ℕ). a * z) (mul-comm b c) ∙ sym (mul-assoc a c b)
+      rw (states-first k (omega arith), e) (mul-right-comm (statesOf cs k l) n (values cs k))
 
   states-both : (j : ℕ) → statesOf (cs ++ ds) (length cs + j) (l * n) ≡ statesOf cs (length cs) l * statesOf ds j n
   unfolding statesOf

@@ -54,7 +54,7 @@ unfoldable pub valueFrom : ℕ → List ℕ → ℕ
 valueFrom v [] = v
 valueFrom v (d ∷ ds) = valueFrom (v * 10 + (d - 48)) ds
 
-value-more : (v : ℕ) (front : List ℕ) (d : ℕ) → valueFrom v (front ++ (d ∷ [])) ≡ valueFrom v front * 10 + (d - 48)
+pub value-more : (v : ℕ) (front : List ℕ) (d : ℕ) → valueFrom v (front ++ (d ∷ [])) ≡ valueFrom v front * 10 + (d - 48)
 unfolding valueFrom
 value-more v [] d = refl
 value-more v (f ∷ front) d = value-more (v * 10 + (f - 48)) front d

@@ -5,7 +5,7 @@ use mathlib.Core.List.{List, [], _∷_, _++_, append-nil}
 use mathlib.Core.Logic.{_⊎_, ⊎-elim}
 use mathlib.Core.Option.{Option, none, some}
 use Prim.Native.Nat.{ℕ, zero, suc, _+_, _*_, _/_, _%_, _^_, _≤_, _<_}
-use native.Mathlib.Nat.{add-mul-mod-self-left, add-mul-div-left, mod-eq-of-lt, div-eq-of-lt}
+use native.Mathlib.Nat.{add-mul-mod-self-left, add-mul-div-left, mod-eq-of-lt, div-eq-of-lt, pos-of-ne-zero}
 use native.Mathlib.Omega.{arith}
 use lib.Dec.{ltb, eqb}
 use lib.Bits.{and-le-r}
@@ -16,7 +16,7 @@ use Rattle.policy.specs.Rules.{Bound, Rule, Policy}
 use Rattle.policy.specs.Check.{allPass, ceilingGood, boundGood, boundsGood}
 use Rattle.policy.specs.Stopped.{AllLawful, lawful-none, lawful-more}
 use Rattle.policy.specs.Sound.{WellFormed}
-use Rattle.policy.specs.Checked.{Ordered, ordered-none, ordered-more, Ruled}
+use Rattle.policy.specs.Checked.{Ordered, ordered-more, Ruled}
 use Rattle.texts.specs.Text.{ascii, decimal}
 use Rattle.wording.specs.Words.{Word, Line}
 use Rattle.wording.specs.Names.{same, is, isPlain, known, through, nameOf, namesFrom}
@@ -167,10 +167,6 @@ resets-none k (suc j) = resets-none (suc k) j
 some-names : (w : Word) (ws : Line) → w ∷ ws ≡ [] → ⊥
 some-names w ws e = let z : _≡_ {A = ℕ} 0 1 = cc in omega arith
 
-positive : (m : ℕ) → (m ≡ 0 → ⊥) → 0 < m
-positive zero h = absurd (h refl)
-positive (suc m) h = omega arith
-
 module _ (d : Draft) (n : ℕ) (e : d .clocks ≡ namesFrom 116 0 n) (b : Begun) (m : ℕ) (small : m < 2 ^ n) where
   reset-word : (ws : Line) → through (ruleWord (scope d)) (ended gone b 0) (ascii "reset" ∷ ws) ≡ through (ruleWord (scope d)) (clearing b 0) ws
   unfolding through wordAt same
@@ -189,7 +185,7 @@ module _ (d : Draft) (n : ℕ) (e : d .clocks ≡ namesFrom 116 0 n) (b : Begun)
           let allPass : through (ruleWord (scope d)) (clearing b 0) (w ∷ ws) ≡ gives (clearing b (0 + 2 ^ 0 * m)) =
           rw s at (resets-read d n e b 0 n m 0 (omega arith) small (omega arith)) in
           let sum : 0 + 2 ^ 0 * m ≡ m = omega arith in
-          let some-one : 0 < m = positive m (λ z. some-names w ws (sym s ∙ rw z (resets-none 0 n))) in
+          let some-one : 0 < m = pos-of-ne-zero (λ z. some-names w ws (sym s ∙ rw z (resets-none 0 n))) in
           (clears, reset-word (w ∷ ws) ∙ allPass ∙ ap (λ (k : ℕ). gives (clearing b k)) sum, lt-ltb 0 m some-one)
 
 -- No bound of a rule is above 65,535.

@@ -1,7 +1,7 @@
 -- The number of a word, counted digit by digit and no further than 65,536.
 use mathlib.Core.Path.{_≡_, refl, sym, _∙_}
 use mathlib.Core.Bool.{Bool, true, false, and-eq-true-iff}
-use mathlib.Core.List.{List, [], _∷_, _++_}
+use mathlib.Core.List.{[], _∷_}
 use Prim.Native.Nat.{ℕ, zero, suc, _+_, _-_, _*_, _≤_, _<_, min}
 use native.Mathlib.Numerals.{add-one}
 use native.Mathlib.Omega.{arith}
@@ -10,7 +10,7 @@ use lib.ListN.{length, getD, take}
 use lib.Seq.{take-suc, take-length}
 use borrow.Author.Tests.{leb-true, le-leb, lt-leb}
 use Rattle.streams.specs.Answer.{Answer, refused, gives, answer}
-use Rattle.texts.specs.Decimal.{valueFrom}
+use Rattle.texts.specs.Decimal.{valueFrom, value-more}
 use Rattle.wording.specs.Words.{Word}
 use Rattle.wording.specs.Names.{isDigit, every, isNumber, _andThen_, must, numbered}
 use Rattle.wording.specs.NamesBack.{every-more}
@@ -37,11 +37,6 @@ pub record Counted (w : Word) (i v : ℕ) : Type 0 where
 pub counted-none : (w : Word) → Counted w 0 0
 unfolding every valueFrom
 counted-none w = record { digits = refl; value = refl }
-
-value-more : (v : ℕ) (front : List ℕ) (d : ℕ) → valueFrom v (front ++ (d ∷ [])) ≡ valueFrom v front * 10 + (d - 48)
-unfolding valueFrom
-value-more v [] d = refl
-value-more v (f ∷ front) d = value-more (v * 10 + (f - 48)) front d
 
 digit-true : (c : ℕ) → 48 ≤ c → c ≤ 57 → isDigit c ≡ true
 unfolding isDigit

@@ -1,12 +1,12 @@
 -- A signal found by its letter or by its name.
-use mathlib.Core.Path.{_≡_, refl, ap, sym, _∙_}
-use mathlib.Core.Bool.{Bool, true, false, cond, _&&_, and-false}
+use mathlib.Core.Path.{_≡_, refl}
+use mathlib.Core.Bool.{true, false, and-false, and-true}
 use mathlib.Core.List.{List, [], _∷_}
-use mathlib.Core.Option.{Option, none, some}
-use Prim.Native.Nat.{ℕ, zero, suc, _+_, _≤_, _<_}
+use mathlib.Core.Option.{none}
+use Prim.Native.Nat.{ℕ, suc, _+_, _≤_, _<_}
 use native.Mathlib.Numerals.{add-one}
 use native.Mathlib.Omega.{arith}
-use lib.Dec.{leb, ltb, eqb}
+use lib.Dec.{leb, eqb}
 use lib.ListN.{length, getD, drop, drop-of-length-le}
 use lib.Seq.{drop-cons}
 use borrow.Author.Tests.{le-leb, lt-leb, lt-ltb, le-ltb, eq-eqb, ne-eqb}
@@ -39,11 +39,7 @@ module _ (w : Word) (one : length w ≡ 1) (tags : List ℕ) (i : ℕ) where
   letter-same : (v : Word) → length v ≡ 1 → (t : ℕ) → same (t ∷ []) v ≡ eqb t (getD v 0 0)
   unfolding same
   letter-same [] h t = absurd (omega arith)
-  letter-same (a ∷ []) h t = and-true-right (eqb t a)
-    where
-      and-true-right : (b : Bool) → (b && true) ≡ b
-      and-true-right true = refl
-      and-true-right false = refl
+  letter-same (a ∷ []) h t = and-true (eqb t a)
   letter-same (a ∷ b ∷ v) h t = absurd (omega arith)
 
   pub letter-here : i < length tags → getD tags i 0 ≡ getD w 0 0 → find i w (lettersOf (drop i tags)) ≡ placeBelow (length tags) i
