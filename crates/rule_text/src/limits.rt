@@ -1,6 +1,5 @@
 // Numbers with the words around them, and the bounds of a rule, written. Each function hands back the position after what it wrote.
 use policy::bytes::pair_within;
-use texts::put_about;
 use texts::put_bytes;
 use texts::put_decimal;
 ghost use mathlib.Core.List.{_++_};
@@ -13,19 +12,33 @@ ghost use Rattle.wording.specs.Writer.{boundWords};
 ghost use Rattle.rule_text.specs.Trail.{trailing};
 ghost use Rattle.rule_text.specs.Pieces.{limitPiece, lowPiece, highPiece, boundPiece};
 
+// The digits of n in decimal. Most numbers of a text have one digit, and `put_decimal` calls itself.
+fn put_digits(text: &mut [u8], at: usize, n: usize) -> usize
+    requires { ⌜ at + length (decimal n) ≤ length (now text) ⌝ }
+    ensures { λ r. ⌜ Wrote (now (text .entry)) at (decimal n) r (now (text .exit)) ⌝ }
+{
+    if n < 10 {
+        let digit = b'0' + n as u8;
+        let one = [digit];
+        return put_bytes(text, at, &one);
+    }
+    put_decimal(text, at, n)
+}
+
 // A number of at most five digits between words.
 pub fn put_named(text: &mut [u8], at: usize, before: &[u8], n: usize, after: &[u8]) -> usize
     requires { ⌜ (n < 65536) × (at + length (now before) + 5 + length (now after) ≤ length (now text)) ⌝ }
     ensures { λ r. ⌜ Wrote (now (text .entry)) at (now (before .entry) ++ decimal n ++ now (after .entry)) r (now (text .exit)) × (r ≤ at + length (now (before .entry)) + 5 + length (now (after .entry))) ⌝ }
 {
-    put_about(text, at, before, n, after)
+    let number = put_bytes(text, at, before);
+    put_number(text, number, n, after)
 }
 
 pub fn put_number(text: &mut [u8], at: usize, n: usize, after: &[u8]) -> usize
     requires { ⌜ (n < 65536) × (at + 5 + length (now after) ≤ length (now text)) ⌝ }
     ensures { λ r. ⌜ Wrote (now (text .entry)) at (decimal n ++ now (after .entry)) r (now (text .exit)) × (r ≤ at + 5 + length (now (after .entry))) ⌝ }
 {
-    let next = put_decimal(text, at, n);
+    let next = put_digits(text, at, n);
     put_bytes(text, next, after)
 }
 
@@ -34,7 +47,7 @@ pub(crate) fn put_name(text: &mut [u8], at: usize, before: &[u8], n: usize) -> u
     ensures { λ r. ⌜ Wrote (now (text .entry)) at (now (before .entry) ++ decimal n) r (now (text .exit)) × (r ≤ at + length (now (before .entry)) + 5) ⌝ }
 {
     let next = put_bytes(text, at, before);
-    put_decimal(text, next, n)
+    put_digits(text, next, n)
 }
 
 // A clock's name, a sign and a number, with a space after them.

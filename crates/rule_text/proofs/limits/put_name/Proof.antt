@@ -9,8 +9,8 @@ use Rattle.rule_text.proofs.limits.put_name.Tie as tie
 put-bytes-requires : tie.Need-put-bytes-requires
 put-bytes-requires c κs = search needs
 
-put-decimal-requires : tie.Need-put-decimal-requires
-put-decimal-requires c κs = omega (arith, c .before .before .before .put-bytes .ensures .next, decimal-short (c .before .before .before .before .before .before .before .args .n) 4 (omega arith))
+put-digits-requires : tie.Need-put-digits-requires
+put-digits-requires c κs = omega (arith, c .before .before .before .put-bytes .ensures .next, decimal-short (c .before .before .before .before .before .before .before .args .n) 4 (omega arith))
 
 same-length : tie.Need-same-length
 same-length c = search needs
@@ -19,8 +19,8 @@ returns : tie.Need-returns
 returns c =
     let a = c .before .before .before .before .before .before .before .before .before .before .args in
     let p = c .before .before .before .before .before .before .put-bytes in
-    let q = c .before .before .put-decimal in
+    let q = c .before .before .put-digits in
     (wrote-then (omega arith) (p .ensures) (q .ensures), omega (arith, p .ensures .next, q .ensures .next, decimal-short (a .n) 4 (omega arith)))
 
 pub put-name-spec : {M : Type 1} → statement M
-put-name-spec = tie.close (tie.spec put-bytes-requires put-decimal-requires same-length returns)
+put-name-spec = tie.close (tie.spec put-bytes-requires put-digits-requires same-length returns)

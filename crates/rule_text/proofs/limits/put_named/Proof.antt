@@ -1,25 +1,28 @@
--- `rule_text::limits::put_named` meets its contract: a number below 65,536 has at most five digits.
-use mathlib.Core.List.{_++_}
+-- `rule_text::limits::put_named` meets its contract: the words, and then the number with the words after it.
+use mathlib.Core.List.{append-assoc}
 use native.Mathlib.Omega.{arith}
-use lib.ListN.{length, length-append}
 use denote.Ref.{now}
 use borrow.Author.Needs.{needs}
-use Rattle.texts.specs.Decimal.{decimal-short}
 use Rattle.texts.specs.Text.{decimal}
+use Rattle.texts.specs.WroteLaws.{wrote-then}
 use Rattle.rule_text.proofs.limits.put_named.Statement.{statement}
 use Rattle.rule_text.proofs.limits.put_named.Tie as tie
 
-put-about-requires : tie.Need-put-about-requires
-put-about-requires c κs = let a = c .before .before .before .before .args in omega (arith, decimal-short (a .n) 4 (omega arith))
+put-bytes-requires : tie.Need-put-bytes-requires
+put-bytes-requires c κs = search needs
+
+put-number-requires : tie.Need-put-number-requires
+put-number-requires c κs = let p = c .before .before .before .put-bytes in (omega arith, omega (arith, p .ensures .next))
 
 same-length : tie.Need-same-length
 same-length c = search needs
 
 returns : tie.Need-returns
 returns c =
-    let a = c .before .before .before .before .before .before .before .args in
-    let p = c .before .before .put-about in
-    (p .ensures, omega (arith, p .ensures .next, decimal-short (a .n) 4 (omega arith), length-append (now (a .before) ++ decimal (a .n)) (now (a .after)), length-append (now (a .before)) (decimal (a .n))))
+    let a = c .before .before .before .before .before .before .before .before .before .before .before .args in
+    let p = c .before .before .before .before .before .before .put-bytes in
+    let q = c .before .before .put-number in
+    (rw (append-assoc (now (a .before)) (decimal (a .n)) (now (a .after))) (wrote-then (omega arith) (p .ensures) (q .ensures .0)), omega (arith, p .ensures .next, q .ensures .1))
 
 pub put-named-spec : {M : Type 1} → statement M
-put-named-spec = tie.close (tie.spec put-about-requires same-length returns)
+put-named-spec = tie.close (tie.spec put-bytes-requires put-number-requires same-length returns)

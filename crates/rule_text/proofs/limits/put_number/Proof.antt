@@ -6,11 +6,11 @@ use Rattle.texts.specs.Decimal.{decimal-short}
 use Rattle.rule_text.proofs.limits.put_number.Statement.{statement}
 use Rattle.rule_text.proofs.limits.put_number.Tie as tie
 
-put-decimal-requires : tie.Need-put-decimal-requires
-put-decimal-requires c κs = omega (arith, decimal-short (c .before .before .before .args .n) 4 (omega arith))
+put-digits-requires : tie.Need-put-digits-requires
+put-digits-requires c κs = omega (arith, decimal-short (c .before .before .before .args .n) 4 (omega arith))
 
 put-bytes-requires : tie.Need-put-bytes-requires
-put-bytes-requires c κs = omega (arith, c .before .before .before .put-decimal .ensures .next, decimal-short (c .before .before .before .before .before .before .before .args .n) 4 (omega arith))
+put-bytes-requires c κs = omega (arith, c .before .before .before .put-digits .ensures .next, decimal-short (c .before .before .before .before .before .before .before .args .n) 4 (omega arith))
 
 same-length : tie.Need-same-length
 same-length c = search needs
@@ -18,9 +18,9 @@ same-length c = search needs
 returns : tie.Need-returns
 returns c =
     let a = c .before .before .before .before .before .before .before .before .before .before .args in
-    let p = c .before .before .before .before .before .before .put-decimal in
+    let p = c .before .before .before .before .before .before .put-digits in
     let q = c .before .before .put-bytes in
     (wrote-then (omega arith) (p .ensures) (q .ensures), omega (arith, p .ensures .next, q .ensures .next, decimal-short (a .n) 4 (omega arith)))
 
 pub put-number-spec : {M : Type 1} → statement M
-put-number-spec = tie.close (tie.spec put-decimal-requires put-bytes-requires same-length returns)
+put-number-spec = tie.close (tie.spec put-digits-requires put-bytes-requires same-length returns)
