@@ -9,7 +9,7 @@ use lib.ListN.{length, getD, take, drop, drop-of-length-le, length-drop}
 use lib.Seq.{drop-cons, drop-drop, getD-drop}
 use borrow.Author.Tests.{eqb-true, ne-eqb, eq-eqb, lt-ltb, le-ltb, not-true}
 use Rattle.wording.specs.Laid.{no-comment}
-use Rattle.wording.specs.NamesBack.{plain-kind, same-true}
+use Rattle.wording.specs.NamesBack.{same-true}
 use Rattle.wording.specs.Names.{same}
 use Rattle.wording.specs.Words.{Word, parts, isSign, kind, onto, wordsOf, split}
 
@@ -99,35 +99,28 @@ module _ (l : List ℕ) where
     unfolding run
     run-end i h = rw (past-end i h)
 
--- The kinds of the bytes below 64 as a table: one test over all of it.
-abbrev pub kinds : List ℕ
-kinds =
-    1 ∷ 1 ∷ 1 ∷ 1 ∷ 1 ∷ 1 ∷ 1 ∷ 1 ∷ 1 ∷ 0 ∷ 0 ∷ 1 ∷ 1 ∷ 0 ∷ 1 ∷ 1 ∷
-    1 ∷ 1 ∷ 1 ∷ 1 ∷ 1 ∷ 1 ∷ 1 ∷ 1 ∷ 1 ∷ 1 ∷ 1 ∷ 1 ∷ 1 ∷ 1 ∷ 1 ∷ 1 ∷
-    0 ∷ 1 ∷ 1 ∷ 0 ∷ 1 ∷ 1 ∷ 1 ∷ 1 ∷ 1 ∷ 1 ∷ 1 ∷ 1 ∷ 1 ∷ 2 ∷ 1 ∷ 1 ∷
-    1 ∷ 1 ∷ 1 ∷ 1 ∷ 1 ∷ 1 ∷ 1 ∷ 1 ∷ 1 ∷ 1 ∷ 1 ∷ 1 ∷ 2 ∷ 2 ∷ 2 ∷ 1 ∷ []
+-- The kind of a byte by its range, and that of a byte which is none of those that part words or are of a sign.
+module _ (c : ℕ) where
+  pub kind-other : (c ≡ 32 → ⊥) → (c ≡ 9 → ⊥) → (c ≡ 13 → ⊥) → (c ≡ 10 → ⊥) → (c ≡ 35 → ⊥) → (c ≡ 45 → ⊥) → (c ≡ 60 → ⊥) → (c ≡ 61 → ⊥) → (c ≡ 62 → ⊥) → 1 ≡ kind c
+  unfolding kind parts isSign
+  kind-other space tab return feed hash dash below same above =
+      rw (ne-eqb c 32 space, ne-eqb c 9 tab, ne-eqb c 13 return, ne-eqb c 10 feed, ne-eqb c 35 hash, ne-eqb c 45 dash, ne-eqb c 60 below, ne-eqb c 61 same, ne-eqb c 62 above)
 
-unfoldable agree : (ℕ → ℕ) → ℕ → List ℕ → Bool
-agree f i [] = true
-agree f i (x ∷ xs) = eqb x (f i) && agree f (suc i) xs
+  pub kind-above : 62 < c → 1 ≡ kind c
+  kind-above h = kind-other (λ e. omega arith) (λ e. omega arith) (λ e. omega arith) (λ e. omega arith) (λ e. omega arith) (λ e. omega arith) (λ e. omega arith) (λ e. omega arith) (λ e. omega arith)
 
-agree-at : (f : ℕ → ℕ) (i : ℕ) (xs : List ℕ) → agree f i xs ≡ true → (k : ℕ) → k < length xs → getD xs k 0 ≡ f (i + k)
-unfolding agree
-agree-at f i [] h k l = absurd (omega arith)
-agree-at f i (x ∷ xs) h zero l =
-    let e : i ≡ i + 0 = omega arith in eqb-true x (f i) (and-eq-true-iff (eqb x (f i)) _ .0 h .0) ∙ ap f e
-agree-at f i (x ∷ xs) h (suc k) l =
-    let e : suc i + k ≡ i + suc k = omega arith in agree-at f (suc i) xs (and-eq-true-iff (eqb x (f i)) _ .0 h .1) k (omega arith) ∙ ap f e
+  pub kind-between : 45 < c → c < 60 → 1 ≡ kind c
+  kind-between h l = kind-other (λ e. omega arith) (λ e. omega arith) (λ e. omega arith) (λ e. omega arith) (λ e. omega arith) (λ e. omega arith) (λ e. omega arith) (λ e. omega arith) (λ e. omega arith)
 
-kinds-agree : agree kind 0 kinds ≡ true
-unfolding agree kind parts isSign
-kinds-agree = refl
-
-pub kind-low : (c : ℕ) → c < 64 → getD kinds c 0 ≡ kind c
-kind-low c h = let e : 0 + c ≡ c = omega arith in agree-at kind 0 kinds kinds-agree c h ∙ ap kind e
-
-pub kind-high : (c : ℕ) → 64 ≤ c → kind c ≡ 1
-kind-high c h = plain-kind c h
+  pub kind-sign : 59 < c → c ≤ 62 → 2 ≡ kind c
+  unfolding kind parts isSign
+  kind-sign h l = go (c - 60) refl
+    where
+      go : (n : ℕ) → c - 60 ≡ n → 2 ≡ kind c
+      go zero e = let s : c ≡ 60 = omega arith in sym (ap kind s)
+      go (suc zero) e = let s : c ≡ 61 = omega arith in sym (ap kind s)
+      go (suc (suc zero)) e = let s : c ≡ 62 = omega arith in sym (ap kind s)
+      go (suc (suc (suc n))) e = absurd (omega arith)
 
 -- What the search for the next word gives: its first byte and the one after its last, or two times the same position and no word.
 pub record Next (l : List ℕ) (at start end : ℕ) : Type 0 where
@@ -239,9 +232,12 @@ module _ (v w : Word) (i : ℕ) where
   unfolding same
   same-on h l e = rw (at-byte v i h, at-byte w i l, eq-eqb (getD v i 0) (getD w i 0) e)
 
-  pub same-off : i < length v → i < length w → (getD v i 0 ≡ getD w i 0 → ⊥) → same (drop i v) (drop i w) ≡ false
-  unfolding same
-  same-off h l e = rw (at-byte v i h, at-byte w i l, ne-eqb (getD v i 0) (getD w i 0) e)
+  pub same-not : (getD v i 0 ≡ getD w i 0 → ⊥) → same v w ≡ false
+  same-not h = go (same v w) refl
+    where
+      go : (t : Bool) → same v w ≡ t → t ≡ false
+      go true e = absurd (h (ap (λ (x : Word). getD x i 0) (same-true v w e)))
+      go false e = refl
 
   pub same-end : length v ≤ i → length w ≤ i → same (drop i v) (drop i w) ≡ true
   unfolding same

@@ -6,78 +6,35 @@ ghost use Rattle.wording.specs.Words;
 ghost use Rattle.wording.specs.Names.{same};
 ghost use Rattle.words.specs.Lex.{blanks, run, Next, NextLine};
 
-// The kinds of the bytes below 64: 0 parts words, 2 is of a sign, 1 anything else.
-const KINDS: [u8; 64] = [
-    1,
-    1,
-    1,
-    1,
-    1,
-    1,
-    1,
-    1,
-    1,
-    0,
-    0,
-    1,
-    1,
-    0,
-    1,
-    1,
-    1,
-    1,
-    1,
-    1,
-    1,
-    1,
-    1,
-    1,
-    1,
-    1,
-    1,
-    1,
-    1,
-    1,
-    1,
-    1,
-    0,
-    1,
-    1,
-    0,
-    1,
-    1,
-    1,
-    1,
-    1,
-    1,
-    1,
-    1,
-    1,
-    2,
-    1,
-    1,
-    1,
-    1,
-    1,
-    1,
-    1,
-    1,
-    1,
-    1,
-    1,
-    1,
-    1,
-    1,
-    2,
-    2,
-    2,
-    1,
-];
-
+// 0 parts words, 2 is of a sign, 1 anything else. Letters and digits come first: most bytes are those.
 pub fn kind(c: u8) -> u8
     ensures { λ r. ⌜ r ≡ Words.kind c ⌝ }
 {
-    if c < 64 { KINDS[c as usize] } else { 1 }
+    if 62 < c {
+        return 1;
+    }
+    if 59 < c {
+        return 2;
+    }
+    if 45 < c {
+        return 1;
+    }
+    if c == 32 {
+        return 0;
+    }
+    if c == 45 {
+        return 2;
+    }
+    if c == 35 {
+        return 0;
+    }
+    if c == 13 {
+        return 0;
+    }
+    if c == 9 {
+        return 0;
+    }
+    if c == 10 { 0 } else { 1 }
 }
 
 // The first byte from `at` on that parts no words, or begins a comment.
@@ -140,19 +97,20 @@ pub fn next_word(line: &[u8], at: usize) -> Span
     }
 }
 
-// Whether the word of the line is this one.
+// Whether the word of the line is this one. From the last byte on: names that are numbered differ there.
 pub fn same_word(line: &[u8], word: &[u8]) -> bool
     ensures { λ r. ⌜ r ≡ same (now (line .entry)) (now (word .entry)) ⌝ }
 {
     if line.len() != word.len() {
         return false;
     }
-    let mut i = 0;
-    while i < line.len() {
+    let mut left = line.len();
+    while 0 < left {
+        let i = left - 1;
         if line[i] != word[i] {
             return false;
         }
-        i += 1;
+        left = i;
     }
     true
 }
