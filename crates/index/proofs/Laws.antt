@@ -1,20 +1,24 @@
 -- What the functions' proofs cite: a turn of the loop that writes an index, and of the loop that compares one.
 use mathlib.Core.Path.{_≡_, refl, sym, ap, ap₂, _∙_}
-use mathlib.Core.Bool.{Bool, true, false}
+use mathlib.Core.Bool.{Bool, true, false, _&&_, and-eq-true-iff, false≢true}
 use mathlib.Core.List.{List, [], _∷_, _++_, append-assoc}
-use Prim.Native.Nat.{ℕ, zero, suc, _+_, _*_, _≤_, _<_}
+use Prim.Native.Nat.{ℕ, zero, suc, _+_, _-_, _*_, _≤_, _<_}
 use native.Mathlib.Numerals.{add-one}
 use native.Mathlib.Omega.{arith}
+use lib.Dec.{ltb, eqb}
 use lib.ListN.{length, getD, take, drop, set, length-append, length-drop}
 use lib.Seq.{take-suc, drop-cons, append-snoc, set-at, take-all}
-use borrow.Author.Tests.{le-leb, lt-leb}
+use borrow.Author.Tests.{ltb-true, ltb-false, lt-ltb, le-ltb, le-leb, lt-leb, eq-eqb, ne-eqb, eqb-true, eqb-false}
 use Rattle.streams.specs.AnswerLaws.{first-refused}
 use Rattle.policy.specs.Check.{refusalOf}
 use Rattle.policy.specs.Layout.{layoutOf, CheckPromise}
 use Rattle.policy.specs.LayoutLaws.{checked-says}
+use Rattle.policy.specs.File.{rulesOf}
+use Rattle.policy.specs.declared.Layout.{Layout}
 use Rattle.policy.specs.declared.Checked.{Checked}
-use Rattle.index.specs.Index.{entryOf, entries, indexOf, same, same-exactly, isIndex}
-use Rattle.index.specs.Names.{entries-length, entries-at, index-length}
+use Rattle.index.specs.declared.entry.Entry.{Entry}
+use Rattle.index.specs.Index.{lower, number, entryOf, entries, indexOf, same, same-exactly, isIndex}
+use Rattle.index.specs.Names.{entries-length, entries-at, index-length, entry-within}
 use Rattle.index.specs.Sections.{Sections}
 use Rattle.index.specs.Entry.{buildRefusal, writtenOver, builtIndex, BuildPromise}
 
@@ -64,17 +68,54 @@ module _ (f xs : List ℕ) where
   pub other-length : (length xs ≡ 128 → ⊥) → isIndex f xs ≡ false
   other-length h = not-same (λ e. h (ap length e ∙ index-length f))
 
-  pub other-first : (a : ℕ) → a < 64 → (getD xs (2 * a) 0 ≡ entryOf f a .first → ⊥) → isIndex f xs ≡ false
+  -- One entry that is another makes another index.
+  pub other-entry : (a : ℕ) → a < 64 → (eqb (getD xs (2 * a) 0) (entryOf f a .first) && eqb (getD xs (2 * a + 1) 0) (entryOf f a .number)) ≡ false → isIndex f xs ≡ false
   unfolding indexOf
-  other-first a l h = not-same (λ e. h (ap (λ (ys : List ℕ). getD ys (2 * a) 0) e ∙ entries-at f 64 a l .0))
-
-  pub other-number : (a : ℕ) → a < 64 → (getD xs (2 * a + 1) 0 ≡ entryOf f a .number → ⊥) → isIndex f xs ≡ false
-  unfolding indexOf
-  other-number a l h = not-same (λ e. h (ap (λ (ys : List ℕ). getD ys (2 * a + 1) 0) e ∙ entries-at f 64 a l .1))
+  other-entry a l h =
+      not-same (λ e. let k = entries-at f 64 a l in
+      let p : getD xs (2 * a) 0 ≡ entryOf f a .first = ap (λ (ys : List ℕ). getD ys (2 * a) 0) e ∙ k .0 in
+      let q : getD xs (2 * a + 1) 0 ≡ entryOf f a .number = ap (λ (ys : List ℕ). getD ys (2 * a + 1) 0) e ∙ k .1 in
+      false≢true (sym h ∙ and-eq-true-iff _ _ .1 (eq-eqb _ _ p, eq-eqb _ _ q)))
 
   pub all-same : length xs ≡ 128 → (a : ℕ) → a ≡ 64 → take (2 * a) xs ≡ entries f a → isIndex f xs ≡ true
   unfolding indexOf
   all-same n a g e = same-exactly xs (indexOf f) .1 (sym (take-all 128 xs (omega arith)) ∙ rw g at e)
+
+-- A number is n exactly if n is not more than it, and is more than the one before it.
+module _ (c n : ℕ) where
+  pub not-exactly : ltb c n ≡ true → eqb c n ≡ false
+  not-exactly h = ne-eqb c n (λ e. absurd (omega (arith, ltb-true c n h)))
+
+  pub none-exactly : ltb c n ≡ false → c ≡ 0 → eqb c n ≡ true
+  none-exactly h z = eq-eqb c n (omega (arith, ltb-false c n h))
+
+  pub last-exactly : ltb c n ≡ false → (c ≡ 0 → ⊥) → ltb (c - 1) n ≡ eqb c n
+  last-exactly h z = go (eqb c n) refl
+    where
+      go : (t : Bool) → eqb c n ≡ t → ltb (c - 1) n ≡ t
+      go true q = lt-ltb (c - 1) n (omega (arith, eqb-true c n q))
+      go false q = let d = eqb-false c n q in le-ltb (c - 1) n (omega (arith, ltb-false c n h))
+
+-- Whether the numbers given are the entry of a location, past the locations and within them.
+module _ {f : List ℕ} {l : Layout} (k : Sections f l) (a : ℕ) (given : Entry) where
+  abbrev isEntry : Bool
+  isEntry = eqb (given .first) (entryOf f a .first) && eqb (given .number) (entryOf f a .number)
+
+  module _ (h : l .locations ≤ a) where
+    pub past-first : (given .first ≡ 0 → ⊥) → isEntry ≡ false
+    unfolding entryOf
+    past-first n = rw (le-ltb a _ (rw (k .locations) at h), ne-eqb _ _ n)
+
+    pub past-number : given .first ≡ 0 → isEntry ≡ eqb (given .number) 0
+    unfolding entryOf
+    past-number z = rw (le-ltb a _ (rw (k .locations) at h), eq-eqb _ _ z)
+
+  module _ (h : a < l .locations) {first : ℕ} (e : first ≡ lower a (rulesOf f)) where
+    pub within-first : (given .first ≡ first → ⊥) → isEntry ≡ false
+    within-first n = rw (entry-within f (k .passes) a (rw (k .locations) at h), ← e, ne-eqb _ _ n)
+
+    pub within-number : given .first ≡ first → isEntry ≡ eqb (given .number) (number a (rulesOf f))
+    within-number q = rw (entry-within f (k .passes) a (rw (k .locations) at h), ← e, eq-eqb _ _ q)
 
 -- What the check answers without a refusal is the layout.
 pub sections-of : {f : List ℕ} {r : Checked} → CheckPromise f r → r .refusal ≡ 0 → Sections f (r .layout)

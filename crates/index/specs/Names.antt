@@ -130,7 +130,7 @@ lower-exactly a (suc i) (rising-more {r = q} {rs = qs} h k) {r = r} e = go (ltb 
         let n = lower-high a m k in
         let w = rising-at i k e in (λ l. absurd (omega arith), λ l. absurd (omega arith))
 
-not-below : (i n : ℕ) → (i < n → ⊥) → n ≤ i
+pub not-below : (i n : ℕ) → (i < n → ⊥) → n ≤ i
 not-below i n h = go (ltb i n) refl
   where
     go : (t : Bool) → ltb i n ≡ t → n ≤ i
@@ -222,6 +222,19 @@ module _ (f : List ℕ) (passes : refusalOf f ≡ 0) where
       go true e = refl
       go false e = number-past (locationCount f) a sources (ltb-false _ _ e)
 
+  -- Rule number i has a location for its source exactly if it comes after the rules of lower ones, and no later than the location's last.
+  pub source-exactly : (a i : ℕ) → i < ruleCount f →
+      (byteAt (ruleSection f) (i * ruleSize (clockCount f)) ≡ a) ↔ ((lower a (rulesOf f) ≤ i) × (i < lower a (rulesOf f) + number a (rulesOf f)))
+  unfolding rulesFrom ruleFrom
+  source-exactly a i l =
+      let size = ruleSize (clockCount f) in
+      let q : ruleCount f - i ≡ suc (ruleCount f - (i + 1)) = omega arith in
+      let e : drop i (rulesOf f) ≡ ruleFrom (clockCount f) (ruleSection f) (i * size) ∷ rulesFrom (clockCount f) (ruleSection f) (i * size + size) (ruleCount f - (i + 1)) =
+      rules-drop (clockCount f) (ruleSection f) 0 i (ruleCount f) (omega arith)
+      ∙ ap₂ (rulesFrom (clockCount f) (ruleSection f)) (omega arith) q
+      in
+      between _ a i _ _ (lower-exactly a i rising e) (rw (lower-next a (rulesOf f)) at (lower-exactly (a + 1) i rising e))
+
   module _ (a : ℕ) (h : a < locationCount f) where
     pub entry-within : entryOf f a ≡ record { first = lower a (rulesOf f); number = number a (rulesOf f) }
     unfolding entryOf
@@ -244,13 +257,4 @@ module _ (f : List ℕ) (passes : refusalOf f ≡ 0) where
     pub names-exactly : (i : ℕ) → i < ruleCount f →
         (byteAt (ruleSection f) (i * ruleSize (clockCount f)) ≡ a)
         ↔ ((getD (indexOf f) (2 * a) 0 ≤ i) × (i < getD (indexOf f) (2 * a) 0 + getD (indexOf f) (2 * a + 1) 0))
-    unfolding rulesFrom ruleFrom
-    names-exactly i l =
-        let size = ruleSize (clockCount f) in
-        let q : ruleCount f - i ≡ suc (ruleCount f - (i + 1)) = omega arith in
-        let e : drop i (rulesOf f) ≡ ruleFrom (clockCount f) (ruleSection f) (i * size) ∷ rulesFrom (clockCount f) (ruleSection f) (i * size + size) (ruleCount f - (i + 1)) =
-        rules-drop (clockCount f) (ruleSection f) 0 i (ruleCount f) (omega arith)
-        ∙ ap₂ (rulesFrom (clockCount f) (ruleSection f)) (omega arith) q
-        in
-        rw (at-index .0, at-index .1)
-        (between _ a i _ _ (lower-exactly a i rising e) (rw (lower-next a (rulesOf f)) at (lower-exactly (a + 1) i rising e)))
+    names-exactly i l = rw (at-index .0, at-index .1) (source-exactly a i l)

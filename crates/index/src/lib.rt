@@ -1,6 +1,8 @@
 // The index of a file's rules: for each location its first rule and how many it has. What the numbers are stands in specs/.
+mod ends;
 mod entry;
 
+use ends::is_entry;
 pub use entry::Entry;
 use entry::entry_at;
 use policy::Layout;
@@ -39,7 +41,7 @@ pub fn fill(file: &[u8], layout: Layout, index: &mut [u16])
     }
 }
 
-// Whether the numbers are the index of a checked file: the same pass, and no number of theirs is followed.
+// Whether the numbers are the index of a checked file. Of each location's rules only the ends are looked at, and a number only once it is known to be one of a rule.
 pub fn is_index(file: &[u8], layout: Layout, index: &[u16]) -> bool
     requires { ⌜ Sections (now file) layout ⌝ }
     ensures { λ r. ⌜ r ≡ isIndex (now (file .entry)) (now (index .entry)) ⌝ }
@@ -50,15 +52,15 @@ pub fn is_index(file: &[u8], layout: Layout, index: &[u16]) -> bool
     let mut first = 0;
     let mut location = 0;
     while location < LOCATIONS {
-        let entry = entry_at(file, layout, location, first);
         let at = 2 * location;
-        if index[at] as usize != entry.first {
+        let given = Entry {
+            first: index[at] as usize,
+            number: index[at + 1] as usize,
+        };
+        if !is_entry(file, layout, location, first, given) {
             return false;
         }
-        if index[at + 1] as usize != entry.number {
-            return false;
-        }
-        first += entry.number;
+        first += given.number;
         location += 1;
     }
     true

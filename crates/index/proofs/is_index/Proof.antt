@@ -1,13 +1,15 @@
 -- `index::is_index` meets its contract. The invariant: the entries up to the location are the index's, and `first` rules have a lower source.
-use mathlib.Core.Path.{_≡_, refl, sym, ap, _∙_}
+use mathlib.Core.Path.{_≡_, refl, sym, _∙_}
+use mathlib.Core.Bool.{and-eq-true-iff}
 use Prim.Native.Nat.{_+_, _-_, _*_, _≤_}
 use native.Mathlib.Omega.{arith}
-use lib.ListN.{take}
+use lib.ListN.{getD, take}
+use denote.Ref.{now}
+use borrow.Author.Tests.{not-true, not-false, eqb-true}
 use Rattle.policy.specs.File.{rulesOf}
-use Rattle.index.specs.declared.entry.Entry.{Entry}
-use Rattle.index.specs.Index.{lower, entries}
+use Rattle.index.specs.Index.{lower, entryOf, entries}
 use Rattle.index.specs.Names.{lower-none, lower-few, entry-few, entry-next}
-use Rattle.index.proofs.Laws.{entry-same, other-length, other-first, other-number, all-same}
+use Rattle.index.proofs.Laws.{entry-same, other-length, other-entry, all-same}
 use Rattle.index.proofs.is_index.Statement.{statement}
 use Rattle.index.proofs.is_index.Tie as tie
 
@@ -18,10 +20,6 @@ Inv-loop file layout index first₀ location₀ first location =
 abbrev μ-loop : tie.MeasureT-loop
 μ-loop file layout index first₀ location₀ first location = 64 - location
 
--- The numbers of an entry are small.
-few : (c : tie.After-entry-at Inv-loop μ-loop) → (c .entry-at .result .first ≤ 256) × (c .entry-at .result .number ≤ 256)
-few c = rw (c .entry-at .ensures) (entry-few _ (c .before .before .before .before .before .before .pre .passes) _)
-
 returns : tie.Need-returns Inv-loop μ-loop
 returns c = sym (other-length _ _ (c .if1 .taken))
 
@@ -29,49 +27,56 @@ loop-holds : tie.Need-loop-holds Inv-loop μ-loop
 unfolding entries
 loop-holds c = (omega arith, sym (lower-none _), refl)
 
-entry-at-requires : tie.Need-entry-at-requires Inv-loop μ-loop
-entry-at-requires c κs = (c .before .before .before .before .before .pre, c .before .loop .inv .1)
-
 mul-at : tie.Need-mul-at Inv-loop μ-loop
 mul-at c = omega arith
 
-mul-if2 : tie.Need-mul-if2 Inv-loop μ-loop
-mul-if2 c = omega arith
+mul-t11 : tie.Need-mul-t11 Inv-loop μ-loop
+mul-t11 c = omega arith
 
-shared-slice-read-if2 : tie.Need-shared-slice-read-if2 Inv-loop μ-loop
-shared-slice-read-if2 c = let i = c .before .before in omega (arith, i .before .before .if1 .left, i .loop-test .taken)
+shared-slice-read-t13 : tie.Need-shared-slice-read-t13 Inv-loop μ-loop
+shared-slice-read-t13 c = let i = c .before in omega (arith, i .before .before .if1 .left, i .loop-test .taken)
 
-cast-if2 : tie.Need-cast-if2 Inv-loop μ-loop
-cast-if2 c = omega (arith, c .shared-slice-known3 .given (2 * c .before .before .before .loop .location))
+cast-t14 : tie.Need-cast-t14 Inv-loop μ-loop
+cast-t14 c = omega (arith, c .shared-slice-known3 .given (2 * c .before .before .loop .location))
+
+add-t15 : tie.Need-add-t15 Inv-loop μ-loop
+add-t15 c = omega arith
+
+mul-t16 : tie.Need-mul-t16 Inv-loop μ-loop
+mul-t16 c = omega arith
+
+shared-slice-read-t18 : tie.Need-shared-slice-read-t18 Inv-loop μ-loop
+shared-slice-read-t18 c = let i = c .before .before in omega (arith, i .before .before .if1 .left, i .loop-test .taken)
+
+cast-t19 : tie.Need-cast-t19 Inv-loop μ-loop
+cast-t19 c = omega (arith, c .shared-slice-known4 .given (2 * c .before .before .before .loop .location + 1))
+
+is-entry-requires : tie.Need-is-entry-requires Inv-loop μ-loop
+is-entry-requires c κs =
+    let l = c .before .before .before in
+    (l .before .before .before .before .pre, l .loop .inv .1, omega (arith, c .shared-slice-known4 .given (2 * l .loop .location + 1)))
 
 returns-2 : tie.Need-returns-2 Inv-loop μ-loop
 returns-2 c =
-    let i = c .before .before .before .before in
-    let e = ap (λ (z : Entry). z .first) (c .before .before .before .entry-at .ensures) in
-    sym (other-first _ _ (i .before .loop .location) (i .loop-test .taken) (λ g. c .if2 .taken (g ∙ sym e)))
+    let e = c .before in
+    let i = e .before .before .before in
+    sym (other-entry _ _ (i .before .loop .location) (i .loop-test .taken) (sym (e .is-entry .ensures) ∙ not-true _ (c .if2 .taken)))
 
-add-if3 : tie.Need-add-if3 Inv-loop μ-loop
-add-if3 c = omega arith
-
-mul-if3 : tie.Need-mul-if3 Inv-loop μ-loop
-mul-if3 c = omega arith
-
-shared-slice-read-if3 : tie.Need-shared-slice-read-if3 Inv-loop μ-loop
-shared-slice-read-if3 c = let i = c .before .before .before .before .before in omega (arith, i .before .before .if1 .left, i .loop-test .taken)
-
-cast-if3 : tie.Need-cast-if3 Inv-loop μ-loop
-cast-if3 c = omega (arith, c .shared-slice-known4 .given (2 * c .before .before .before .before .before .before .loop .location + 1))
-
-returns-3 : tie.Need-returns-3 Inv-loop μ-loop
-returns-3 c =
-    let i = c .before .before .before .before .before .before .before in
-    let e = ap (λ (z : Entry). z .number) (c .before .before .before .before .before .before .entry-at .ensures) in
-    sym (other-number _ _ (i .before .loop .location) (i .loop-test .taken) (λ g. c .if3 .taken (g ∙ sym e)))
+-- The numbers are the location's entry.
+same : (c : tie.Else2 Inv-loop μ-loop) →
+    let l = c .before .before .before .before .before in
+    let a = l .before .before .before .before .args in
+    (getD (now (a .index)) (2 * l .loop .location) 0 ≡ entryOf (now (a .file)) (l .loop .location) .first)
+    × (getD (now (a .index)) (2 * l .loop .location + 1) 0 ≡ entryOf (now (a .file)) (l .loop .location) .number)
+same c =
+    let k = and-eq-true-iff _ _ .0 (sym (c .before .is-entry .ensures) ∙ not-false _ (c .if2 .left)) in
+    (eqb-true _ _ (k .0), eqb-true _ _ (k .1))
 
 add-first : tie.Need-add-first Inv-loop μ-loop
 add-first c =
-    let l = c .before .before .before .before .before .before .before .before .before in
-    omega (arith, few (c .before .before .before .before .before .before .before), lower-few _ (c .before .before .before .before .before .before .before .before .before .before .before .before .before .pre .passes) (l .loop .location), l .loop .inv .1)
+    let l = c .before .before .before .before .before .before in
+    let p = l .before .before .before .before .pre .passes in
+    omega (arith, same (c .before) .1, entry-few _ p (l .loop .location), lower-few _ p (l .loop .location), l .loop .inv .1)
 
 add-location : tie.Need-add-location Inv-loop μ-loop
 add-location c = omega arith
@@ -81,18 +86,15 @@ loop-less c = omega arith
 
 loop-again : tie.Need-loop-again Inv-loop μ-loop
 loop-again c =
-    let e = c .before .before .before .before .before .before .before .entry-at .ensures in
-    let i = c .before .before .before .before .before .before .before .before in
-    let l = i .before in
-    let s = c .before .before .before .before .before .before .before .before .before .before .before .before .before in (
+    let i = c .before .before .before .before .before in
+    let l = i .before in (
       omega (arith, i .loop-test .taken),
-      rw (e, l .loop .inv .1) (sym (entry-next _ (s .pre .passes) (l .loop .location))),
-      entry-same _ _ (l .loop .location) (omega (arith, l .before .if1 .left, i .loop-test .taken)) (l .loop .inv .2)
-          (c .before .before .before .before .if2 .left ∙ ap (λ (z : Entry). z .first) e) (c .before .if3 .left ∙ ap (λ (z : Entry). z .number) e),
+      rw (same (c .before) .1, l .loop .inv .1) (sym (entry-next _ (l .before .before .before .before .pre .passes) (l .loop .location))),
+      entry-same _ _ (l .loop .location) (omega (arith, l .before .if1 .left, i .loop-test .taken)) (l .loop .inv .2) (same (c .before) .0) (same (c .before) .1),
     )
 
-returns-4 : tie.Need-returns-4 Inv-loop μ-loop
-returns-4 c =
+returns-3 : tie.Need-returns-3 Inv-loop μ-loop
+returns-3 c =
     let l = c .before in
     sym (all-same _ _ (l .before .if1 .left) (l .loop .location) (omega (arith, l .loop .inv .0, c .loop-test .left)) (l .loop .inv .2))
 
@@ -104,19 +106,18 @@ is-index-spec =
     μ-loop
     returns
     loop-holds
-    entry-at-requires
     mul-at
-    mul-if2
-    shared-slice-read-if2
-    cast-if2
+    mul-t11
+    shared-slice-read-t13
+    cast-t14
+    add-t15
+    mul-t16
+    shared-slice-read-t18
+    cast-t19
+    is-entry-requires
     returns-2
-    add-if3
-    mul-if3
-    shared-slice-read-if3
-    cast-if3
-    returns-3
     add-first
     add-location
     loop-less
     loop-again
-    returns-4)
+    returns-3)
