@@ -1,9 +1,11 @@
 -- What the proofs of a decided event cite: which rule of the file decides it, and what that makes of the state.
-use mathlib.Core.Path.{_≡_, sym, ap, _∙_, subst}
-use mathlib.Core.Bool.{Bool, true, false, false≢true}
+use mathlib.Core.Path.{_≡_, refl, sym, ap, _∙_, subst}
+use mathlib.Core.Bool.{Bool, true, false, cond, false≢true}
 use mathlib.Core.List.{List}
 use mathlib.Core.Option.{Option, some, none, Option·map, bind}
-use Prim.Native.Nat.{ℕ, _+_, _*_}
+use Prim.Native.Nat.{ℕ, _+_, _*_, _<_}
+use native.Mathlib.Omega.{arith}
+use lib.ListN.{length}
 use borrow.Author.Tests.{eq-eqb}
 use Rattle.streams.specs.Stream.{Event}
 use Rattle.policy.specs.Rules.{Rule, Policy, Place, stopped, decides, looked, taken, step}
@@ -12,13 +14,13 @@ use Rattle.policy.specs.Parts.{rules-part}
 use Rattle.policy.specs.Own.{decides-own}
 use Rattle.policy.specs.Checked.{well-rising}
 use Rattle.policy.specs.declared.Layout.{Layout}
-use Rattle.enforcer.specs.Tick.{reaches}
+use Rattle.enforcer.specs.Tick.{arrives, reaches}
 use Rattle.enforcer.specs.Code.{eventXY, decider, stepFrom}
-use Rattle.enforcer.specs.State.{place}
-use Rattle.enforcer.specs.Ready.{Laid, HereOf}
-use Rattle.enforcer.specs.Laid.{laid-well, here-seen}
+use Rattle.enforcer.specs.State.{isMarked, place}
+use Rattle.enforcer.specs.Ready.{Laid, HereOf, Standing}
+use Rattle.enforcer.specs.Laid.{Numbered, laid-well, here-seen, reaches-next}
 use Rattle.enforcer.specs.RuleAhead.{RuleAt, own-here, own-ahead, ahead-at}
-use Rattle.enforcer.specs.Ways.{leads}
+use Rattle.enforcer.specs.Arrived.{fourNumber, ifMarked, arrival, arrival-never}
 use Rattle.enforcer.specs.Decided.{ruleSaid, Decided}
 use Rattle.enforcer.specs.declared.state.State.{State}
 use Rattle.enforcer.specs.declared.reach.Here.{Here}
@@ -81,12 +83,33 @@ module _ {f : List ℕ} {l : Layout} {s : State} {r : DecidedBy} where
   unfolding step
   decided-step k q = rw (← k .says) q
 
-  module _ (marks : List ℕ) {x y : ℕ} (k : Decided f l s (eventXY x y) r) where
-    pub reaches-none : r ≡ DecidedBy.Nothing → reaches (policyOf (l .reading) f) marks (place (l .clocks) s) x y ≡ false
-    unfolding reaches step bind
-    reaches-none e = rw (sym (k .says) ∙ ap (ruleSaid (l .clocks) f) e)
+  -- Where that is a marked place, the event reaches one.
+  pub decided-reaches : (marks : List ℕ) {x y : ℕ} → Decided f l s (eventXY x y) r →
+      arrives (policyOf (l .reading) f) marks (bind (ruleSaid (l .clocks) f r) (taken stopped (policyOf (l .reading) f) (place (l .clocks) s)))
+      ≡ reaches (policyOf (l .reading) f) marks (place (l .clocks) s) x y
+  unfolding reaches step
+  decided-reaches marks k = rw (k .says)
 
-    pub reaches-rule : {at : ℕ} → r ≡ DecidedBy.At at →
-        reaches (policyOf (l .reading) f) marks (place (l .clocks) s) x y ≡ leads (place (l .clocks) s) (policyOf (l .reading) f) marks (ruleFrom (l .clocks) f at)
-    unfolding reaches leads step bind
-    reaches-rule e = rw (sym (k .says) ∙ ap (ruleSaid (l .clocks) f) e)
+-- By the step to the next state: its number is one of the policy's, and the event arrives if it is marked.
+module _ {f : List ℕ} {l : Layout} {marks : List ℕ} {s : State} (k : Standing f l marks s) (x y : ℕ) {t : Step}
+    (e : t ≡ stepFrom s (step stopped (policyOf (l .reading) f) (place (l .clocks) s) (eventXY x y))) where
+  numbered : t .permitted ≡ true → Numbered (l .reading) f marks (fourNumber l (t .state)) (reaches (policyOf (l .reading) f) marks (place (l .clocks) s) x y)
+  numbered p = reaches-next (k .laid) marks s x y e (k .inside) p
+
+  pub next-fits : t .permitted ≡ true → (fourNumber l (t .state) < 65536) × (fourNumber l (t .state) < length marks)
+  next-fits p = omega (arith, numbered p .number, laid-well (k .laid) .states, k .enough)
+
+  pub marked-arrives : ifMarked l marks s t ≡ stepFrom s (arrival (policyOf (l .reading) f) marks (place (l .clocks) s) x y)
+  unfolding ifMarked arrival
+  marked-arrives = go (t .permitted) refl
+    where
+      marked : (b : Bool) → cond b t (record { permitted = false; state = s })
+          ≡ stepFrom s (cond b (step stopped (policyOf (l .reading) f) (place (l .clocks) s) (eventXY x y)) none)
+      marked true = e
+      marked false = refl
+
+      go : (b : Bool) → t .permitted ≡ b →
+          cond b (cond (isMarked marks (fourNumber l (t .state))) t (record { permitted = false; state = s })) t
+          ≡ stepFrom s (cond (reaches (policyOf (l .reading) f) marks (place (l .clocks) s) x y) (step stopped (policyOf (l .reading) f) (place (l .clocks) s) (eventXY x y)) none)
+      go true p = rw (numbered p .mark) (marked (reaches (policyOf (l .reading) f) marks (place (l .clocks) s) x y))
+      go false p = arrival-never (policyOf (l .reading) f) marks (place (l .clocks) s) x y s e p

@@ -6,13 +6,23 @@ use mathlib.Core.Option.{Option, none, some, bind}
 use Prim.Native.Nat.{ℕ, _<_}
 use Rattle.streams.specs.ChooseLaws.{some-has, nearest-kept}
 use Rattle.policy.specs.Rules.{Policy, Place, inputValues, outputValues, stopped, step}
+use Rattle.policy.specs.Number.{numberFrom}
+use Rattle.policy.specs.declared.Layout.{Layout}
 use Rattle.enforcer.specs.Tick.{arrives, reaches, mayStand, inputChoice, outputChoice, outputTick, tick}
 use Rattle.enforcer.specs.Code.{eventXY, stepFrom}
-use Rattle.enforcer.specs.State.{stateOf}
+use Rattle.enforcer.specs.State.{stateOf, isMarked}
 use Rattle.enforcer.specs.Chosen.{tickFrom, output-chosen}
 use Rattle.enforcer.specs.declared.state.State.{State}
 use Rattle.enforcer.specs.declared.next.Step.{Step}
 use Rattle.enforcer.specs.declared.tick.Ticked.{Ticked}
+
+-- A state's number with all four clocks taken in, the unused ones among them.
+abbrev pub fourNumber : Layout → State → ℕ
+fourNumber l s = numberFrom (l .ceilings) 4 (s .location) (s .clocks)
+
+-- A step from the state s as the code takes it: to a state that is not marked it counts as none.
+unfoldable pub ifMarked : Layout → List ℕ → State → Step → Step
+ifMarked l marks s t = cond (t .permitted) (cond (isMarked marks (fourNumber l (t .state))) t (record { permitted = false; state = s })) t
 
 module _ (p : Policy) (marks : List ℕ) (s : Place) (x y : ℕ) where
   -- The place after the event, if it is there and marked.

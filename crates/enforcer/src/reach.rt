@@ -12,16 +12,19 @@ use policy::limits::BOUND_SIZE;
 use policy::limits::RULE_HEAD;
 use policy::own_rules;
 ghost use mathlib.Core.Path.{_≡_};
-ghost use Prim.Native.Nat.{_≤_, _^_};
-ghost use Rattle.policy.specs.Rules.{stopped, step};
+ghost use mathlib.Core.Bool.{true};
+ghost use mathlib.Core.Option.{bind};
+ghost use Prim.Native.Nat.{_≤_, _<_, _^_};
+ghost use lib.ListN.{length};
+ghost use Rattle.policy.specs.Rules.{stopped, taken, step};
 ghost use Rattle.policy.specs.File.{policyOf, rulesOf};
 ghost use Rattle.policy.specs.Own.{ownOf};
-ghost use Rattle.enforcer.specs.Tick.{reaches};
+ghost use Rattle.enforcer.specs.Tick.{arrives, reaches};
 ghost use Rattle.enforcer.specs.Code.{eventXY, seenBy, stepFrom};
 ghost use Rattle.enforcer.specs.State.{place};
-ghost use Rattle.enforcer.specs.Arrived.{arrival};
-ghost use Rattle.enforcer.specs.Ready.{Laid, HereOf, Ready};
-ghost use Rattle.enforcer.specs.Decided.{Decided};
+ghost use Rattle.enforcer.specs.Arrived.{fourNumber, ifMarked, arrival};
+ghost use Rattle.enforcer.specs.Ready.{Laid, Standing, HereOf, Ready};
+ghost use Rattle.enforcer.specs.Decided.{ruleSaid, Stands, Decided};
 
 // What is worked out once for a state: the rules of its location, and the state that their bounds see.
 pub struct Here {
@@ -105,21 +108,22 @@ impl State {
     }
 }
 
-// What the event x, y does; a next state that is not marked counts as none. Only a run asks this, so that the compiler lays it into the run's loop.
-pub(crate) fn arrival(
-    file: &[u8],
-    layout: Layout,
-    here: Here,
-    marks: &[u8],
-    state: State,
-    x: u8,
-    y: u8,
-) -> Step
-    requires { ⌜ Ready (now file) layout here (now marks) state ⌝ }
-    ensures { λ r. ⌜ r ≡ stepFrom state (arrival (policyOf (layout .reading) (now (file .entry))) (now (marks .entry)) (place (layout .clocks) state) x y) ⌝ }
+// The rule that decides leads to a marked state. No such rule leads nowhere.
+fn leads_by(file: &[u8], layout: Layout, marks: &[u8], state: State, rule: DecidedBy) -> bool
+    requires { ⌜ Standing (now file) layout (now marks) state × Stands (now file) layout (state .location) rule ⌝ }
+    ensures { λ r. ⌜ r ≡ arrives (policyOf (layout .reading) (now (file .entry))) (now (marks .entry)) (bind (ruleSaid (layout .clocks) (now (file .entry)) rule) (taken stopped (policyOf (layout .reading) (now (file .entry))) (place (layout .clocks) state))) ⌝ }
 {
-    let rule = rule_of(file, layout, here, state, x, y);
-    let step = state.by(file, layout, rule);
+    match rule {
+        DecidedBy::Nothing => false,
+        DecidedBy::At(at) => leads(file, layout, marks, state, at),
+    }
+}
+
+// A step to a state that is not marked counts as none.
+fn if_marked(layout: Layout, marks: &[u8], state: State, step: Step) -> Step
+    requires { ⌜ (step .permitted ≡ true → (fourNumber layout (step .state) < 65536) × (fourNumber layout (step .state) < length (now marks))) ⌝ }
+    ensures { λ r. ⌜ r ≡ ifMarked layout (now (marks .entry)) state step ⌝ }
+{
     if !step.permitted {
         return step;
     }
@@ -136,6 +140,24 @@ pub(crate) fn arrival(
     }
 }
 
+// What the event x, y does; a next state that is not marked counts as none. Only a run asks this, so that the compiler lays it into the run's loop.
+pub(crate) fn arrival(
+    file: &[u8],
+    layout: Layout,
+    here: Here,
+    marks: &[u8],
+    state: State,
+    x: u8,
+    y: u8,
+) -> Step
+    requires { ⌜ Ready (now file) layout here (now marks) state ⌝ }
+    ensures { λ r. ⌜ r ≡ stepFrom state (arrival (policyOf (layout .reading) (now (file .entry))) (now (marks .entry)) (place (layout .clocks) state) x y) ⌝ }
+{
+    let rule = rule_of(file, layout, here, state, x, y);
+    let step = state.by(file, layout, rule);
+    if_marked(layout, marks, state, step)
+}
+
 // The event x, y takes the state to a marked one.
 pub(crate) fn reaches(
     file: &[u8],
@@ -149,10 +171,8 @@ pub(crate) fn reaches(
     requires { ⌜ Ready (now file) layout here (now marks) state ⌝ }
     ensures { λ r. ⌜ r ≡ reaches (policyOf (layout .reading) (now (file .entry))) (now (marks .entry)) (place (layout .clocks) state) x y ⌝ }
 {
-    match rule_of(file, layout, here, state, x, y) {
-        DecidedBy::Nothing => false,
-        DecidedBy::At(at) => leads(file, layout, marks, state, at),
-    }
+    let rule = rule_of(file, layout, here, state, x, y);
+    leads_by(file, layout, marks, state, rule)
 }
 
 // The event 0, 0 takes the state to a marked one. Only prepare asks this, so that the compiler lays it into the loop over the states.
@@ -160,10 +180,8 @@ pub(crate) fn idles(file: &[u8], layout: Layout, here: Here, marks: &[u8], state
     requires { ⌜ Ready (now file) layout here (now marks) state ⌝ }
     ensures { λ r. ⌜ r ≡ reaches (policyOf (layout .reading) (now (file .entry))) (now (marks .entry)) (place (layout .clocks) state) 0 0 ⌝ }
 {
-    match rule_of(file, layout, here, state, 0, 0) {
-        DecidedBy::Nothing => false,
-        DecidedBy::At(at) => leads(file, layout, marks, state, at),
-    }
+    let rule = rule_of(file, layout, here, state, 0, 0);
+    leads_by(file, layout, marks, state, rule)
 }
 
 // What the event x, y does, as `arrival` has it. Only the output half asks this one, so that the compiler lays it into the half.
@@ -181,20 +199,7 @@ pub(crate) fn output_arrival(
 {
     let rule = rule_of(file, layout, here, state, x, y);
     let step = state.by(file, layout, rule);
-    if !step.permitted {
-        return step;
-    }
-    let next = step.state;
-    let ceilings = layout.ceilings;
-    let number = next.number(ceilings, State::CLOCKS);
-    if marks[number] == 1 {
-        step
-    } else {
-        Step {
-            permitted: false,
-            state,
-        }
-    }
+    if_marked(layout, marks, state, step)
 }
 
 // The event x, 0 takes the state to a marked one. Only the input half asks this, so that the compiler lays it into the half.
@@ -209,8 +214,6 @@ pub(crate) fn input_reaches(
     requires { ⌜ Ready (now file) layout here (now marks) state ⌝ }
     ensures { λ r. ⌜ r ≡ reaches (policyOf (layout .reading) (now (file .entry))) (now (marks .entry)) (place (layout .clocks) state) x 0 ⌝ }
 {
-    match rule_of(file, layout, here, state, x, 0) {
-        DecidedBy::Nothing => false,
-        DecidedBy::At(at) => leads(file, layout, marks, state, at),
-    }
+    let rule = rule_of(file, layout, here, state, x, 0);
+    leads_by(file, layout, marks, state, rule)
 }
