@@ -21,8 +21,8 @@ use Rattle.policy.specs.Layout.{checkedUnder}
 use Rattle.policy.specs.LayoutLaws.{under-says}
 use Rattle.policy.specs.declared.Layout.{Layout}
 use Rattle.policy.specs.declared.Checked.{Checked}
-use Rattle.enforcer.specs.State.{placeIn, stateOf, clocksGood, inRange, stateGood, isMarked}
-use Rattle.enforcer.specs.Entries.{chosen, marksRefusal, stateRefusal}
+use Rattle.enforcer.specs.State.{placeIn, place, stateOf, clocksGood, inRange, stateGood, isMarked}
+use Rattle.enforcer.specs.Entries.{chosen, marksRefusal, stateRefusal, inputRefusal, inputOf, inputPast, outputFrom, outputRefusal, outputOf, outputPast}
 use Rattle.enforcer.specs.Ready.{Laid, Standing}
 use Rattle.enforcer.specs.Laid.{Numbered, stateNumber, laid-of, laid-well, laid-locations, laid-most, laid-place, laid-number}
 use Rattle.enforcer.specs.declared.state.State.{State}
@@ -189,3 +189,32 @@ granted-standing {file} {marks} {l = l} {s = s} k e z =
       enough = e;
       inside = rw (laid-place k s) (good-inside (policyOf (l .reading) file) s (state-granted (l .reading) file marks s .0 z .0));
     }
+
+-- A half by what it finds past the refusals up to 10: first 16, and past that only 15 and 17 are left.
+module _ (reading : ℕ) (file marks : List ℕ) {r : Checked} (e : r ≡ checkedUnder reading file) (none : marksRefusal reading file marks ≡ 0)
+    (s : State) {n : ℕ} (q : n ≡ stateRefusal (r .layout .reading) file marks s) where
+  granted : Granted reading file marks (r .layout)
+  granted = granted-laid marks e none
+
+  pub input-16 : (x : ℕ) → (n ≡ 0 → ⊥) → inputOf reading file marks s x ≡ refused n
+  unfolding inputOf inputRefusal
+  input-16 x h = rw (none, ← granted .named) (chosen-first _ _ _ q h)
+
+  pub output-16 : (x y : ℕ) → (n ≡ 0 → ⊥) → outputOf reading file marks s x y ≡ record { answer = refused n; state = s }
+  unfolding outputOf outputRefusal
+  output-16 x y h = rw (none, ← granted .named) (ap (outputFrom s) (chosen-first _ _ _ q h))
+
+  module _ (z : n ≡ 0) where
+    good : stateRefusal (r .layout .reading) file marks s ≡ 0
+    good = sym q ∙ z
+
+    pub half-standing : Standing file (r .layout) marks s
+    half-standing = granted-standing (granted .laid) (granted .enough) good
+
+    pub input-left : (x : ℕ) → inputOf reading file marks s x ≡ inputPast (r .layout .reading) file marks (place (r .layout .clocks) s) x
+    unfolding inputOf inputRefusal
+    input-left x = rw (none, ← granted .named, good, laid-place (granted .laid) s)
+
+    pub output-left : (x y : ℕ) → outputOf reading file marks s x y ≡ outputPast (r .layout .reading) file marks s (place (r .layout .clocks) s) x y
+    unfolding outputOf outputRefusal
+    output-left x y = rw (none, ← granted .named, good, laid-place (granted .laid) s)

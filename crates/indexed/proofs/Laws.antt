@@ -15,10 +15,10 @@ use Rattle.policy.specs.declared.Checked.{Checked}
 use Rattle.index.specs.Index.{indexOf, isIndex}
 use Rattle.index.specs.Sections.{Sections}
 use Rattle.enforcer.specs.Ready.{Standing}
-use Rattle.enforcer.specs.Entries.{marksRefusal, stateRefusal, inputOf, inputRefusal, inputPast, outputOf, outputRefusal, outputFrom, outputPast}
+use Rattle.enforcer.specs.Entries.{marksRefusal, stateRefusal, inputPast, outputPast}
 use Rattle.enforcer.specs.State.{place}
-use Rattle.enforcer.specs.Laid.{laid-of, laid-place, laid-sections}
-use Rattle.enforcer.specs.States.{chosen-first, Granted, marks-by, granted-laid, granted-standing}
+use Rattle.enforcer.specs.Laid.{laid-of, laid-sections}
+use Rattle.enforcer.specs.States.{Granted, marks-by, granted-laid, input-16, output-16, half-standing, input-left, output-left}
 use Rattle.enforcer.specs.declared.state.State.{State}
 use Rattle.indexed.specs.Entries.{indexRefusal, earlyRefusal, inputIndexedOf, outputIndexedOf}
 use Rattle.indexed.specs.Same.{input-same, output-same, early-granted}
@@ -50,40 +50,27 @@ module _ (reading : ℕ) (file : List ℕ) {r : Checked} (e : r ≡ checkedUnder
     pub early-index : index ≡ indexOf file
     early-index = early-granted reading file index marks none .0
 
+    granted : marksRefusal reading file marks ≡ 0
+    granted = early-granted reading file index marks none .1
+
     pub early-laid : Granted reading file marks (r .layout)
-    early-laid = granted-laid marks e (early-granted reading file index marks none .1)
+    early-laid = granted-laid marks e granted
 
-    module _ (s : State) where
+    module _ (s : State) {n : ℕ} (q : n ≡ stateRefusal (r .layout .reading) file marks s) where
       -- 16 is what is refused then.
-      pub input-state : (x : ℕ) {n : ℕ} → n ≡ stateRefusal (r .layout .reading) file marks s → (n ≡ 0 → ⊥) →
-          inputIndexedOf reading file index marks s x ≡ refused n
-      unfolding inputOf inputRefusal
-      input-state x q h =
-          input-same reading file index marks s early-index x
-          ∙ rw (early-granted reading file index marks none .1, ← early-laid .named) (chosen-first _ _ _ q h)
+      pub input-state : (x : ℕ) → (n ≡ 0 → ⊥) → inputIndexedOf reading file index marks s x ≡ refused n
+      input-state x h = input-same reading file index marks s early-index x ∙ input-16 reading file marks e granted s q x h
 
-      pub output-state : (x y : ℕ) {n : ℕ} → n ≡ stateRefusal (r .layout .reading) file marks s → (n ≡ 0 → ⊥) →
-          outputIndexedOf reading file index marks s x y ≡ record { answer = refused n; state = s }
-      unfolding outputOf outputRefusal
-      output-state x y q h =
-          output-same reading file index marks s early-index x y
-          ∙ rw (early-granted reading file index marks none .1, ← early-laid .named) (ap (outputFrom s) (chosen-first _ _ _ q h))
+      pub output-state : (x y : ℕ) → (n ≡ 0 → ⊥) → outputIndexedOf reading file index marks s x y ≡ record { answer = refused n; state = s }
+      output-state x y h = output-same reading file index marks s early-index x y ∙ output-16 reading file marks e granted s q x y h
 
-      module _ (good : stateRefusal (r .layout .reading) file marks s ≡ 0) where
+      -- Past 16 only 15 and 17 are left.
+      module _ (z : n ≡ 0) where
         pub early-standing : Standing file (r .layout) marks s
-        early-standing = granted-standing (early-laid .laid) (early-laid .enough) good
+        early-standing = half-standing reading file marks e granted s q z
 
-        -- Past 16 only 15 and 17 are left.
-        pub input-left : (x : ℕ) → inputIndexedOf reading file index marks s x ≡ inputPast (r .layout .reading) file marks (place (r .layout .clocks) s) x
-        unfolding inputOf inputRefusal
-        input-left x =
-            input-same reading file index marks s early-index x
-            ∙ rw (early-granted reading file index marks none .1, ← early-laid .named, good, laid-place (early-laid .laid) s)
+        pub input-past : (x : ℕ) → inputIndexedOf reading file index marks s x ≡ inputPast (r .layout .reading) file marks (place (r .layout .clocks) s) x
+        input-past x = input-same reading file index marks s early-index x ∙ input-left reading file marks e granted s q z x
 
-        pub output-left : (x y : ℕ) →
-            outputIndexedOf reading file index marks s x y
-            ≡ outputPast (r .layout .reading) file marks s (place (r .layout .clocks) s) x y
-        unfolding outputOf outputRefusal
-        output-left x y =
-            output-same reading file index marks s early-index x y
-            ∙ rw (early-granted reading file index marks none .1, ← early-laid .named, good, laid-place (early-laid .laid) s)
+        pub output-past : (x y : ℕ) → outputIndexedOf reading file index marks s x y ≡ outputPast (r .layout .reading) file marks s (place (r .layout .clocks) s) x y
+        output-past x y = output-same reading file index marks s early-index x y ∙ output-left reading file marks e granted s q z x y

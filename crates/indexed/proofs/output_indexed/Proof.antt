@@ -2,13 +2,12 @@
 use mathlib.Core.Path.{_≡_, sym, _∙_}
 use borrow.Author.Needs.{needs}
 use denote.Ref.{now}
-use Rattle.enforcer.specs.Entries.{stateRefusal}
 use Rattle.enforcer.specs.Ready.{Standing}
 use Rattle.enforcer.specs.Laid.{laid-sections, standing-location}
 use Rattle.enforcer.specs.States.{Granted}
 use Rattle.indexed.specs.Entries.{earlyRefusal}
 use Rattle.indexed.specs.Same.{output-early}
-use Rattle.indexed.proofs.Laws.{early-index, early-laid, early-standing, output-state, output-left}
+use Rattle.indexed.proofs.Laws.{early-index, early-laid, early-standing, output-state, output-past}
 use Rattle.indexed.proofs.output_indexed.Statement.{statement}
 use Rattle.indexed.proofs.output_indexed.Tie as tie
 
@@ -37,20 +36,14 @@ state-refusal-requires c κs = (laid (c .before) .laid, laid (c .before) .enough
 returns-2 : tie.Need-returns-2
 returns-2 c =
     let e = c .before .before .before in
-    record { said = sym (output-state _ _ (e .before .before .check-under .ensures) _ _ (none e) _ _ _ (c .before .state-refusal .ensures) (c .if2 .taken)) }
+    record { said = sym (output-state _ _ (e .before .before .check-under .ensures) _ _ (none e) _ (c .before .state-refusal .ensures) _ _ (c .if2 .taken)) }
 
 -- No 16, so the state is in range.
-good : (c : tie.Else2) →
-    let e = c .before .before .before in
-    let a = e .before .before .before .before .before .before .args in
-    stateRefusal (e .before .before .check-under .result .layout .reading) (now (a .file)) (now (a .marks)) (a .state) ≡ 0
-good c = sym (c .before .state-refusal .ensures) ∙ c .if2 .left
-
 standing : (c : tie.Else2) →
     let e = c .before .before .before in
     let a = e .before .before .before .before .before .before .args in
     Standing (now (a .file)) (e .before .before .check-under .result .layout) (now (a .marks)) (a .state)
-standing c = let e = c .before .before .before in early-standing _ _ (e .before .before .check-under .ensures) _ _ (none e) _ (good c)
+standing c = let e = c .before .before .before in early-standing _ _ (e .before .before .check-under .ensures) _ _ (none e) _ (c .before .state-refusal .ensures) (c .if2 .left)
 
 own-at-requires : tie.Need-own-at-requires
 own-at-requires c κs =
@@ -64,7 +57,7 @@ returns-3 : tie.Need-returns-3
 returns-3 c =
     let s = c .before .before in
     let e = s .before .before .before in
-    record { said = c .output-by .ensures ∙ sym (output-left _ _ (e .before .before .check-under .ensures) _ _ (none e) _ (good s) _ _) }
+    record { said = c .output-by .ensures ∙ sym (output-past _ _ (e .before .before .check-under .ensures) _ _ (none e) _ (s .before .state-refusal .ensures) (s .if2 .left) _ _) }
 
 pub output-indexed-spec : {M : Type 1} → statement M
 output-indexed-spec =

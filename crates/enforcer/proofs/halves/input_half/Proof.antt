@@ -5,12 +5,11 @@ use borrow.Author.Needs.{needs}
 use denote.Ref.{now}
 use Rattle.policy.specs.Rules.{inputValues}
 use Rattle.policy.specs.File.{policyOf}
-use Rattle.policy.specs.declared.Layout.{Layout}
-use Rattle.enforcer.specs.Entries.{marksRefusal, stateRefusal, inputRefusal, inputOf, inputPast}
+use Rattle.enforcer.specs.Entries.{marksRefusal, inputRefusal, inputOf, inputPast}
 use Rattle.enforcer.specs.State.{place}
 use Rattle.enforcer.specs.Ready.{Standing}
-use Rattle.enforcer.specs.Laid.{laid-limits, laid-inputs, laid-place}
-use Rattle.enforcer.specs.States.{chosen-first, Granted, marks-by, granted-laid, granted-standing}
+use Rattle.enforcer.specs.Laid.{laid-limits, laid-inputs}
+use Rattle.enforcer.specs.States.{chosen-first, marks-by, granted-laid, input-16, half-standing, input-left}
 use Rattle.enforcer.specs.AsRead.{input-past-15, input-as-read}
 use Rattle.enforcer.proofs.halves.input_half.Statement.{statement}
 use Rattle.enforcer.proofs.halves.input_half.Tie as tie
@@ -30,37 +29,26 @@ returns : tie.Need-returns
 unfolding inputOf inputRefusal
 returns c = record { said = sym (chosen-first _ _ _ (marked (c .before)) (c .if1 .taken)) }
 
-abbrev laidOut : tie.Else1 → Layout
-laidOut c = c .before .before .check-under .result .layout
-
 -- No refusal up to 10, so the file has the layout, and there are marks enough.
 passed : (c : tie.Else1) → let a = c .before .before .before .before .before .args in marksRefusal (a .reading) (now (a .file)) (now (a .marks)) ≡ 0
 passed c = sym (marked (c .before)) ∙ c .if1 .left
 
-laid : (c : tie.Else1) →
-    let a = c .before .before .before .before .before .args in
-    Granted (a .reading) (now (a .file)) (now (a .marks)) (laidOut c)
-laid c = granted-laid _ (c .before .before .check-under .ensures) (passed c)
-
 state-refusal-requires : tie.Need-state-refusal-requires
-state-refusal-requires c κs = (laid (c .before) .laid, laid (c .before) .enough)
+state-refusal-requires c κs = let g = granted-laid _ (c .before .before .before .check-under .ensures) (passed (c .before)) in (g .laid, g .enough)
 
 returns-2 : tie.Need-returns-2
-unfolding inputOf inputRefusal
 returns-2 c =
-    record { said = sym (rw (passed (c .before .before .before), ← laid (c .before .before .before) .named) (chosen-first _ _ _ (c .before .state-refusal .ensures) (c .if2 .taken))) }
+    let e = c .before .before .before in
+    record { said = sym (input-16 _ _ _ (e .before .before .check-under .ensures) (passed e) _ (c .before .state-refusal .ensures) _ (c .if2 .taken)) }
 
 -- No 16, so the state is in range.
-granted : (c : tie.Else2) →
-    let a = c .before .before .before .before .before .before .before .before .args in
-    stateRefusal (laidOut (c .before .before .before) .reading) (now (a .file)) (now (a .marks)) (a .state) ≡ 0
-granted c = sym (c .before .state-refusal .ensures) ∙ c .if2 .left
-
 standing : (c : tie.Else2) →
     let s = c .before .before .before .before .before in
     let a = s .before .before .before .args in
     Standing (now (a .file)) (s .check-under .result .layout) (now (a .marks)) (a .state)
-standing c = let l = laid (c .before .before .before) in granted-standing (l .laid) (l .enough) (granted c)
+standing c =
+    let e = c .before .before .before in
+    half-standing _ _ _ (e .before .before .check-under .ensures) (passed e) _ (c .before .state-refusal .ensures) (c .if2 .left)
 
 -- What is left to ask past 16: whether x is within the inputs' values, and which input is chosen.
 left : (c : tie.Else2) →
@@ -68,10 +56,9 @@ left : (c : tie.Else2) →
     let a = s .before .before .before .args in
     inputOf (a .reading) (now (a .file)) (now (a .marks)) (a .state) (a .x)
     ≡ inputPast (s .check-under .result .layout .reading) (now (a .file)) (now (a .marks)) (place (s .check-under .result .layout .clocks) (a .state)) (a .x)
-unfolding inputOf inputRefusal
 left c =
     let e = c .before .before .before in
-    rw (passed e, ← laid e .named, granted c, laid-place (laid e .laid) (e .before .before .before .before .before .args .state))
+    input-left _ _ _ (e .before .before .check-under .ensures) (passed e) _ (c .before .state-refusal .ensures) (c .if2 .left) _
 
 values-requires : tie.Need-values-requires
 values-requires c κs = omega (arith, laid-limits (standing c .laid))
