@@ -8,6 +8,7 @@ use lib.ListN.{length, drop, length-append}
 use Rattle.streams.specs.Answer.{Answer, refused, gives, answer}
 use Rattle.policy.specs.Rules.{Rule}
 use Rattle.policy.specs.Bytes.{ruleBytes, rulesBytes}
+use Rattle.policy.specs.ReadBack.{rules-append}
 use Rattle.texts.specs.Wrote.{Wrote}
 use Rattle.texts.specs.WroteLaws.{wrote-none, wrote-then}
 use Rattle.wording.specs.Words.{Line, linesOf}
@@ -46,11 +47,6 @@ lines-grow line d e (l ∷ ls) h = go (readLine d l) refl h (λ f. lines-grow (s
         let first = line-grows d f l s in
         let then = rest f k in
         (first .0 ++ then .0, then .1 ∙ ap (λ (z : List Rule). z ++ then .0) (first .1) ∙ append-assoc (d .rules) (first .0) (then .0))
-
-rules-append : (rs ss : List Rule) → rulesBytes (rs ++ ss) ≡ rulesBytes rs ++ rulesBytes ss
-unfolding rulesBytes
-rules-append [] ss = refl
-rules-append (r ∷ rs) ss = ap (λ (z : List ℕ). ruleBytes r ++ z) (rules-append rs ss) ∙ sym (append-assoc (ruleBytes r) (rulesBytes rs) (rulesBytes ss))
 
 -- What a line adds.
 abbrev pub takenBytes : Taken → List ℕ

@@ -6,9 +6,8 @@ use native.Mathlib.Numerals.{add-one}
 use native.Mathlib.Omega.{arith}
 use lib.ListN.{length, take, drop, set, length-append, length-drop, drop-of-length-le}
 use lib.Seq.{set-out, sets, length-sets, sets-eq, take-all, take-append-seam, drop-append-seam, drop-drop, drop-cons}
-use Rattle.policy.specs.Rules.{Rule}
 use Rattle.policy.specs.File.{byteAt, pairAt, part, pairsFrom, boundsFrom, ruleSize, ruleFrom, rulesFrom, inputCount, outputsAt, outputCount, inputTags, outputTags}
-use Rattle.policy.specs.Bytes.{pairBytes, pairsBytes, boundsBytes, rulesBytes}
+use Rattle.policy.specs.Bytes.{pairBytes, pairsBytes, boundsBytes}
 use Rattle.policy.specs.Frame.{Framed}
 use Rattle.join.specs.Lay.{LaidAt, bytesFrom}
 
@@ -124,11 +123,6 @@ module _ (f : List ℕ) (b : (i : ℕ) → byteAt f i < 256) where
       let e : 4 * suc k ≡ suc (suc (suc (suc (4 * k)))) = omega arith in
       let s : at + 4 ≡ at + 2 + 2 = omega arith in
       rw (e, bounds-copied (at + 4) k, s, two-copied (at + 2) (4 * k)) (two-copied at (suc (suc (4 * k))))
-
-pub rules-append : (rs ss : List Rule) → rulesBytes (rs ++ ss) ≡ rulesBytes rs ++ rulesBytes ss
-unfolding rulesBytes
-rules-append [] ss = refl
-rules-append (r ∷ rs) ss = rw (rules-append rs ss, append-assoc)
 
 -- The rules from the number i on: the first, and those after it.
 pub next-rule : (k : ℕ) (f : List ℕ) (at n i : ℕ) → i < n →

@@ -87,6 +87,11 @@ pub rule-length : (clocks : ℕ) (r : Rule) → Bounded clocks r → length (rul
 unfolding ruleBytes
 rule-length clocks r b = omega (arith, bounds-length (r .bounds))
 
+pub rules-append : (rs ss : List Rule) → rulesBytes (rs ++ ss) ≡ rulesBytes rs ++ rulesBytes ss
+unfolding rulesBytes
+rules-append [] ss = refl
+rules-append (r ∷ rs) ss = rw (rules-append rs ss, append-assoc)
+
 pub rules-length : (clocks : ℕ) {rs : List Rule} → Each (Bounded clocks) rs → length (rulesBytes rs) ≡ length rs * ruleSize clocks
 unfolding rulesBytes
 rules-length clocks each-none = omega arith
