@@ -71,10 +71,6 @@ module _ (text : List ℕ) where
   unfoldable pub rulesLeft : ℕ → ℕ → List ℕ
   rulesLeft passed at = rulesAmong (suc passed) (linesOf (drop at text))
 
-  pub left-first : rulesLeft 0 0 ≡ ruleNumbers text
-  unfolding rulesLeft
-  left-first = refl
-
   pub left-none : (passed at : ℕ) → length text ≤ at → rulesLeft passed at ≡ []
   unfolding rulesLeft rulesAmong linesOf split
   left-none passed at h = ap (λ (l : List ℕ). rulesAmong (suc passed) (linesOf l)) (drop-of-length-le text h)
