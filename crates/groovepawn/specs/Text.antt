@@ -7,7 +7,7 @@ use native.Mathlib.Omega.{arith}
 use lib.Dec.{leb, ltb, eqb}
 use lib.ListN.{length, getD}
 use borrow.Author.Tests.{ne-eqb}
-use Rattle.streams.specs.Answer.{Answer, answer, unless, _orElse_}
+use Rattle.streams.specs.Answer.{Answer, answer}
 use Rattle.streams.specs.AnswerLaws.{answer-up-to, none-refused, unless-le, else-le}
 use Rattle.policy.specs.Check.{refusalOf}
 use Rattle.policy.specs.CheckLaws.{refusal-le}
@@ -22,7 +22,8 @@ use Rattle.compiling.specs.declared.reader.ReadText.{ReadText}
 use Rattle.showing.specs.Entry.{writeRefusal, writtenOver, lengthUnless}
 use Rattle.pointing.specs.RuleAt.{lineOfRule, ruleFound}
 use Rattle.pointing.specs.NameAt.{nameGiven}
-use Rattle.pointing.specs.Short.{stopped-by, Shaped, given-shaped}
+use Rattle.wording.specs.Given.{stopped-by}
+use Rattle.pointing.specs.Short.{Shaped, given-shaped}
 use Rattle.pointing.specs.declared.ruleat.RuleAt.{RuleAt}
 use Rattle.pointing.specs.declared.nameat.NameAt.{NameAt}
 use Rattle.groovepawn.specs.Words.{answerWord}

@@ -1,53 +1,24 @@
 -- What is known of the answers: how large a refusal is, that a name is short, and which numbers stay 0.
-use mathlib.Core.Path.{_≡_, refl, ap, sym, _∙_}
-use mathlib.Core.Logic.{_⊎_, ⊎-elim}
-use mathlib.Core.Bool.{Bool, true, false, cond, _&&_, _||_, and-eq-true-iff, false≢true}
+use mathlib.Core.Path.{_≡_, refl, ap, sym}
+use mathlib.Core.Bool.{Bool, true, false, cond, _&&_, _||_, false≢true}
 use mathlib.Core.List.{List, [], _∷_}
 use Prim.Native.Nat.{ℕ, zero, suc, _+_, _≤_, _<_}
 use native.Mathlib.Omega.{arith}
-use lib.Dec.{leb, ltb, eqb}
+use lib.Dec.{leb, ltb}
 use lib.ListN.{length, getD}
-use borrow.Author.Tests.{leb-true, eqb-true}
 use Rattle.streams.specs.Answer.{Answer, refused, gives}
 use Rattle.policy.specs.Check.{ceilingGood}
 use Rattle.texts.specs.Text.{ascii}
 use Rattle.wording.specs.Words.{Word, Line, wordsOf, eachWords, split, linesOf}
-use Rattle.wording.specs.Names.{same, find, is, isLower, every, isName, must}
-use Rattle.wording.specs.NamesBack.{same-true}
+use Rattle.wording.specs.Names.{same, find, is}
+use Rattle.wording.specs.NamesBack.{same-true, name-few}
 use Rattle.wording.specs.Reader.{Draft, empty, withInput, withOutput, signalLine, inputLine, outputLine, clockLine, newPlace, locationLine, readLine}
 use Rattle.wording.specs.Reader.{FromText, stops, reads, proceed, readLines, fileFromText}
 use Rattle.wording.specs.Kept.{Keeps, stops-here, goes-on, kept, keeps-must, keeps-if, keeps-free, keeps-numbered}
 use Rattle.wording.specs.Good.{Signalled, unnamed, named, keeps-name, keeps-signals}
-use Rattle.wording.specs.Refuses.{inLine}
-use Rattle.wording.specs.Given.{refused-so, read-said}
+use Rattle.wording.specs.Given.{stopped-by, read-said}
 use Rattle.pointing.specs.NameAt.{declares, nameWord, wordPlace, standing, nameIn, pick, namesFrom, nameGiven}
 use Rattle.pointing.specs.declared.nameat.NameAt.{NameAt}
-
--- "at most 16 bytes"
-name-few : (w : Word) → isName w ≡ true → length w ≤ 16
-unfolding isName
-name-few [] h = omega arith
-name-few (c ∷ cs) h =
-    let a = and-eq-true-iff (isLower c) _ .0 h in
-    let b = and-eq-true-iff (every _ cs) _ .0 (a .1) in
-    let l = leb-true (length cs) 15 (and-eq-true-iff (leb (length cs) 15) _ .0 (b .1) .0) in
-    omega arith
-
-in-line-few : (n : ℕ) → inLine n ≡ true → (0 < n) × (n ≤ 34)
-in-line-few n h = go (eqb n 4) refl (eqb n 7) refl h
-  where
-    go : (a : Bool) → eqb n 4 ≡ a → (b : Bool) → eqb n 7 ≡ b → (a || (b || (leb 30 n && leb n 34))) ≡ true → (0 < n) × (n ≤ 34)
-    go true e b f k = let z = eqb-true n 4 e in (omega arith, omega arith)
-    go false e true f k = let z = eqb-true n 7 f in (omega arith, omega arith)
-    go false e false f k =
-        let both = and-eq-true-iff (leb 30 n) (leb n 34) .0 k in
-        let low = leb-true 30 n (both .0) in
-        let high = leb-true n 34 (both .1) in (omega arith, omega arith)
-
--- A text that is not read is refused by one of the numbers 1 to 34.
-pub stopped-by : (text : List ℕ) (n line : ℕ) → fileFromText text ≡ stops n line → (0 < n) × (n ≤ 34)
-stopped-by text n line h =
-    ⊎-elim (λ k. in-line-few n (k .0)) (λ k. ⊎-elim (λ e. (omega arith, omega arith)) (λ e. (omega arith, omega arith)) (k .0)) (refused-so text n line h)
 
 -- A line that is read and declares has a short name, or none.
 module _ (d : Draft) where

@@ -1,8 +1,6 @@
 -- What is written and printed by each way through the reader and the writer.
-use mathlib.Core.Path.{_≡_, refl, sym, ap, subst, _∙_}
-use mathlib.Core.Bool.{true, false≢true}
+use mathlib.Core.Path.{_≡_, refl, sym, ap, _∙_}
 use mathlib.Core.List.{List, []}
-use mathlib.Core.Logic.{_⊎_, ⊎-elim}
 use Prim.Native.Nat.{ℕ, zero, suc, _≤_, _<_}
 use native.Mathlib.Nat.{zero-add}
 use native.Mathlib.Omega.{arith}
@@ -13,11 +11,9 @@ use Rattle.streams.specs.Answer.{_orElse_, unless}
 use Rattle.policy.specs.Check.{refusalOf}
 use Rattle.policy.specs.Frame.{frame, longest}
 use Rattle.texts.specs.Wrote.{Wrote}
-use Rattle.wording.specs.Words.{linesOf}
 use Rattle.wording.specs.Reader.{FromText, stops, reads, fileFromText}
 use Rattle.wording.specs.Writer.{textOfFile}
-use Rattle.wording.specs.Refuses.{inLine}
-use Rattle.wording.specs.Given.{refused-so}
+use Rattle.wording.specs.Given.{stopped-by}
 use Rattle.wording.specs.Back.{text-passes}
 use Rattle.wording.specs.Longest.{written-at-most}
 use Rattle.compiling.specs.Promise.{ReadTextPromise, fitted, answered, filled}
@@ -32,13 +28,7 @@ use Rattle.translating.specs.ToText.{printed as shown}
 
 -- A text is refused by a number above 0.
 pub stops-above : (text : List ℕ) (n line : ℕ) → fileFromText text ≡ stops n line → n ≡ 0 → ⊥
-stops-above text n line e z = ⊎-elim in-line whole (refused-so text n line e)
-  where
-    in-line : (inLine n ≡ true) × (1 ≤ line) × (line ≤ length (linesOf text)) → ⊥
-    in-line k = false≢true (subst (λ (m : ℕ). inLine m ≡ true) z (k .0))
-
-    whole : ((n ≡ 2) ⊎ (n ≡ 9)) × (line ≡ 0) → ⊥
-    whole k = ⊎-elim (λ (a : n ≡ 2). omega arith) (λ (a : n ≡ 9). omega arith) (k .0)
+stops-above text n line e z = omega (arith, stopped-by text n line e .0)
 
 module _ (text : List ℕ) where
   -- The text is too long.

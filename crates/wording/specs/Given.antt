@@ -1,6 +1,6 @@
 -- What a text that is read gives, and what is refused of one that is not.
 use mathlib.Core.Path.{_≡_, refl, ap, sym, _∙_}
-use mathlib.Core.Logic.{_⊎_}
+use mathlib.Core.Logic.{_⊎_, ⊎-elim}
 use mathlib.Core.Bool.{Bool, true, false}
 use mathlib.Core.List.{List}
 use Prim.Native.Nat.{ℕ, zero, suc, _≤_, _<_}
@@ -22,7 +22,7 @@ use Rattle.wording.specs.Words.{linesOf}
 use Rattle.wording.specs.Reader.{Draft, empty, FromText, stops, reads, readLines, saidBy, policyFrom, policyFromText, passed, filed, fileFromText}
 use Rattle.wording.specs.Writer.{textOfFile}
 use Rattle.wording.specs.Good.{Good, all-good, good-nearly}
-use Rattle.wording.specs.Refuses.{inLine, in-line}
+use Rattle.wording.specs.Refuses.{inLine, in-line, in-line-few}
 use Rattle.wording.specs.Back.{any-file-back, text-passes}
 
 -- The file that a draft gives is refused, if at all, for its locations or for its states.
@@ -58,6 +58,11 @@ refused-so text n line h = go (readLines 1 empty (linesOf text)) refl h
     go (reads d) e g =
         let p = policyFrom 1 d in
         _⊎_.inr (whole (leb 1 (p .locations)) (leb (states p) 65536) (refusalOf (bytesOf p)) (bytesOf p) (good-refusal d (all-good (linesOf text) d e)) g)
+
+-- So it is one of the numbers 1 to 34.
+pub stopped-by : (text : List ℕ) (n line : ℕ) → fileFromText text ≡ stops n line → (0 < n) × (n ≤ 34)
+stopped-by text n line h =
+    ⊎-elim (λ k. in-line-few n (k .0)) (λ k. ⊎-elim (λ e. (omega arith, omega arith)) (λ e. (omega arith, omega arith)) (k .0)) (refused-so text n line h)
 
 -- What a text that is read says: the draft of its lines, whose policy is well formed and has this file.
 pub record Said (text f : List ℕ) : Type 0 where

@@ -5,7 +5,7 @@ use mathlib.Core.List.{List, [], _∷_, _++_}
 use mathlib.Core.Option.{none, some}
 use Prim.Native.Nat.{ℕ, zero, suc, _+_, _≤_, _<_}
 use native.Mathlib.Omega.{arith}
-use lib.Dec.{eqb}
+use lib.Dec.{leb, eqb}
 use lib.ListN.{length}
 use borrow.Author.Tests.{leb-true, le-leb, eqb-true, eqb-false, eq-eqb, ne-eqb}
 use Rattle.streams.specs.Answer.{Answer, refused, gives}
@@ -14,7 +14,7 @@ use Rattle.texts.specs.Text.{digit, decimal}
 use Rattle.texts.specs.Decimal.{valueFrom, by-digits, reads-back}
 use Rattle.wording.specs.Words.{Word, parts, isSign, kind}
 use Rattle.wording.specs.Laid.{allOf, whole}
-use Rattle.wording.specs.Names.{same, find, isDigit, every, isNumber, numbered, through, _andThen_, nameOf, namesFrom, lettersOf}
+use Rattle.wording.specs.Names.{same, find, isDigit, every, isNumber, numbered, through, _andThen_, nameOf, namesFrom, lettersOf, isLower, isName}
 
 pub same-self : (w : Word) → same w w ≡ true
 unfolding same
@@ -31,6 +31,16 @@ same-true (a ∷ v) (b ∷ w) h =
     let first = eqb-true a b (both .0) in
     let rest = same-true v w (both .1) in
     λ i. first i ∷ rest i
+
+-- A name has at most 16 bytes.
+pub name-few : (w : Word) → isName w ≡ true → length w ≤ 16
+unfolding isName
+name-few [] h = omega arith
+name-few (c ∷ cs) h =
+    let a = and-eq-true-iff (isLower c) _ .0 h in
+    let b = and-eq-true-iff (every _ cs) _ .0 (a .1) in
+    let l = leb-true (length cs) 15 (and-eq-true-iff (leb (length cs) 15) _ .0 (b .1) .0) in
+    omega arith
 
 -- No two numbers have one name.
 value : Word → ℕ

@@ -1,12 +1,13 @@
 -- What a line is refused by: 4, 7 or 30 to 34.
 use mathlib.Core.Path.{_≡_, refl, ap, sym, _∙_}
-use mathlib.Core.Bool.{Bool, true, false, cond, _&&_, _||_}
+use mathlib.Core.Bool.{Bool, true, false, cond, _&&_, _||_, and-eq-true-iff}
 use mathlib.Core.List.{List, [], _∷_}
 use mathlib.Core.Option.{Option, none, some}
 use Prim.Native.Nat.{ℕ, suc, _+_, _≤_, _<_}
 use native.Mathlib.Omega.{arith}
 use lib.Dec.{leb, ltb, eqb}
 use lib.ListN.{length}
+use borrow.Author.Tests.{leb-true, eqb-true}
 use Rattle.streams.specs.Answer.{Answer, refused, gives}
 use Rattle.policy.specs.Check.{isCapital, among, ceilingGood, boundsGood}
 use Rattle.texts.specs.Decimal.{valueFrom}
@@ -19,6 +20,17 @@ use Rattle.wording.specs.Reader.{stops, proceed, readLines}
 -- The refusals with a line: 4 and 7, which the file's own check has too, and 30 to 34.
 abbrev pub inLine : ℕ → Bool
 inLine n = eqb n 4 || (eqb n 7 || (leb 30 n && leb n 34))
+
+pub in-line-few : (n : ℕ) → inLine n ≡ true → (0 < n) × (n ≤ 34)
+in-line-few n h = go (eqb n 4) refl (eqb n 7) refl h
+  where
+    go : (a : Bool) → eqb n 4 ≡ a → (b : Bool) → eqb n 7 ≡ b → (a || (b || (leb 30 n && leb n 34))) ≡ true → (0 < n) × (n ≤ 34)
+    go true e b f k = let z = eqb-true n 4 e in (omega arith, omega arith)
+    go false e true f k = let z = eqb-true n 7 f in (omega arith, omega arith)
+    go false e false f k =
+        let both = and-eq-true-iff (leb 30 n) (leb n 34) .0 k in
+        let low = leb-true 30 n (both .0) in
+        let high = leb-true n 34 (both .1) in (omega arith, omega arith)
 
 -- Refused by one of them, if at all.
 pub data Known {A : Type 0} : Answer A → Type 0 where
