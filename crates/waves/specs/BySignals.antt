@@ -2,21 +2,16 @@
 use mathlib.Core.Path.{_≡_, refl, sym, ap, subst, _∙_}
 use mathlib.Core.Bool.{Bool, true, false, _&&_}
 use mathlib.Core.List.{List, _++_}
-use Prim.Native.Nat.{ℕ, zero, suc, _+_, _-_, _^_, _/_, _%_, _≤_, _<_}
+use Prim.Native.Nat.{ℕ, zero, suc, _-_, _^_, _/_, _%_, _≤_, _<_}
 use native.Mathlib.Nat.{pow-le-pow-right, zero-add}
 use native.Mathlib.Omega.{arith}
 use lib.Dec.{leb, ltb}
-use lib.ListN.{length, take, drop}
+use lib.ListN.{length, drop}
 use lib.Seq.{sets-eq}
 use borrow.Author.Tests.{le-leb, lt-leb}
 use Rattle.streams.specs.Answer.{gives, _orElse_, unless, answer}
-use Rattle.policy.specs.File.{part, inputCount, outputCount, outputsAt, inputTags, outputTags}
+use Rattle.policy.specs.File.{inputTags, outputTags}
 use Rattle.policy.specs.Check.{refusalOf, allPass}
-use Rattle.policy.specs.Frame.{frame, in-order}
-use Rattle.policy.specs.Layout.{CheckPromise}
-use Rattle.policy.specs.LayoutLaws.{checked-says}
-use Rattle.policy.specs.declared.Checked.{Checked}
-use Rattle.policy.specs.declared.Layout.{Layout}
 use Rattle.texts.specs.Wrote.{Wrote}
 use Rattle.waves.specs.Checked.{all-fit, fit-all}
 use Rattle.waves.specs.Wave.{waveText}
@@ -79,40 +74,6 @@ module _ (inputs outputs : List ℕ) (g : SignalsGood inputs outputs) (text : Li
       text-one inputs outputs g (k .0) z (omega (arith, k .3, k .4)) (omega (arith, f .3, f .4)) (k .2) (f .2) (sym (k .1) ∙ f .1) in
       subst (TakenBy inputs outputs text out (Taken.Count n)) (sym (k .5 ∙ rw same (sets-eq z out 0 (omega (arith, f .3)) ∙ rw zero-add)))
       (given z (f .1) (f .2) (omega (arith, f .3, f .4)) (omega (arith, f .3)) (f .3))
-
--- What a policy that passes its checks says of its tags, as the code has it.
-pub record Tagged (file : List ℕ) (r : Checked) : Type 0 where
-  pub passes : refusalOf file ≡ 0
-  pub inputs : r .layout .inputs ≡ inputCount file
-  pub outputs : r .layout .outputs ≡ outputCount file
-  pub fewIn : inputCount file ≤ 4
-  pub fewOut : outputCount file ≤ 4
-  pub start : outputsAt file ≡ 1 + inputCount file
-  pub within : outputsAt file + 1 + outputCount file ≤ length file
-
-pub tagged : {file : List ℕ} {r : Checked} → CheckPromise file r → r .refusal ≡ 0 → Tagged file r
-tagged {file} {r} k z =
-    let s = checked-says file in
-    let n = ap (λ (c : Checked). c .refusal) (k .said) in
-    let p : refusalOf file ≡ 0 = sym (s .0) ∙ sym n ∙ z in
-    let l = ap (λ (c : Checked). c .layout) (k .said) ∙ s .1 p in
-    let f = frame file p in
-    let o = in-order file f in
-    record {
-      passes = p;
-      inputs = ap (λ (y : Layout). y .inputs) l;
-      outputs = ap (λ (y : Layout). y .outputs) l;
-      fewIn = f .inputs;
-      fewOut = f .outputs;
-      start = sym (f .inputsEnd);
-      within = omega (arith, f .outputsEnd);
-    }
-
-pub refused-as : {file : List ℕ} {r : Checked} → CheckPromise file r → r .refusal ≡ refusalOf file
-refused-as {file} k = ap (λ (c : Checked). c .refusal) (k .said) ∙ checked-says file .0
-
-pub part-is : (f : List ℕ) (at n start end : ℕ) → start ≡ at → end ≡ at + n → take (end - start) (drop start f) ≡ part f at n
-part-is f at n start end s e = let k : end - start ≡ n = omega arith in rw (k, s)
 
 -- The writer, by what it finds.
 module _ (inputs outputs events before : List ℕ) where

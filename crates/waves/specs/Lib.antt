@@ -5,6 +5,7 @@ pub mod Events
 pub mod Entry
 pub mod Steps
 pub mod Checked
+pub mod Tags
 pub mod Streams
 pub mod Under
 pub mod Lengths

@@ -6,6 +6,7 @@ mod read;
 mod reader;
 mod store;
 mod stream;
+mod tags;
 mod text;
 mod writer;
 

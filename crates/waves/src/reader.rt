@@ -1,6 +1,7 @@
 // The reader: the policy's checks, then the text is read twice, once to decide and once to store.
 use crate::stream::StreamRead;
 use crate::stream::read_stream;
+use crate::tags::tags_of;
 ghost use Rattle.waves.specs.Events.{SignalsGood};
 ghost use Rattle.waves.specs.Promise.{TakePromise};
 ghost use Rattle.waves.specs.BySignals.{TakenBy};
@@ -34,14 +35,13 @@ fn take_checked(inputs: &[u8], outputs: &[u8], text: &[u8], events: &mut [u8]) -
 pub fn take(file: &[u8], text: &[u8], events: &mut [u8]) -> Taken
     ensures { λ r. ⌜ TakePromise (now (file .entry)) (now (text .entry)) (now (events .entry)) r (now (events .exit)) ⌝ }
 {
-    let checked = policy::check(file);
-    if checked.refusal != 0 {
-        return Taken::Refused(checked.refusal);
+    let tags = tags_of(file);
+    if tags.refusal != 0 {
+        return Taken::Refused(tags.refusal);
     }
-    let layout = checked.layout;
-    let inputs_end = 1 + layout.inputs;
-    let outputs_start = inputs_end + 1;
-    let outputs_end = outputs_start + layout.outputs;
+    let inputs_end = tags.inputs_end;
+    let outputs_start = tags.outputs_start;
+    let outputs_end = tags.outputs_end;
     take_checked(
         &file[1..inputs_end],
         &file[outputs_start..outputs_end],

@@ -1,6 +1,7 @@
 // The writer: the checks in their order, then the text.
 use crate::lengths::text_length;
 use crate::stream::ones;
+use crate::tags::tags_of;
 use crate::text::put_text;
 ghost use mathlib.Core.Path.{_≡_};
 ghost use Prim.Native.Nat.{_≤_};
@@ -58,14 +59,13 @@ fn write_checked(inputs: &[u8], outputs: &[u8], events: &[u8], text: &mut [u8]) 
 pub fn write(file: &[u8], events: &[u8], text: &mut [u8]) -> Written
     ensures { λ r. ⌜ WritePromise (now (file .entry)) (now (events .entry)) (now (text .entry)) r (now (text .exit)) ⌝ }
 {
-    let checked = policy::check(file);
-    if checked.refusal != 0 {
-        return Written::Refused(checked.refusal);
+    let tags = tags_of(file);
+    if tags.refusal != 0 {
+        return Written::Refused(tags.refusal);
     }
-    let layout = checked.layout;
-    let inputs_end = 1 + layout.inputs;
-    let outputs_start = inputs_end + 1;
-    let outputs_end = outputs_start + layout.outputs;
+    let inputs_end = tags.inputs_end;
+    let outputs_start = tags.outputs_start;
+    let outputs_end = tags.outputs_end;
     write_checked(
         &file[1..inputs_end],
         &file[outputs_start..outputs_end],

@@ -1,87 +1,57 @@
 -- `waves::writer::write` meets its contract: the policy is refused, or its tags are handed on.
-use mathlib.Core.Path.{refl, sym, subst}
-use mathlib.Core.List.{List}
-use Prim.Native.Nat.{ℕ, _+_, _-_}
+use mathlib.Core.Path.{sym}
 use native.Mathlib.Omega.{arith}
-use lib.ListN.{take, drop}
 use denote.Ref.{now}
-use Rattle.policy.specs.File.{inputCount, outputCount, outputsAt, inputTags, outputTags}
-use Rattle.waves.specs.Events.{SignalsGood}
-use Rattle.waves.specs.Checked.{signals}
-use Rattle.waves.specs.BySignals.{WrittenBy, tagged, refused-as, part-is, write-refused, write-by}
+use Rattle.waves.specs.Tags.{Tagged}
+use Rattle.waves.specs.BySignals.{write-refused, write-by}
 use borrow.Author.Needs.{needs}
 use Rattle.waves.proofs.writer.write.Statement.{statement}
 use Rattle.waves.proofs.writer.write.Tie as tie
 
-check-requires : tie.Need-check-requires
-check-requires c κs = search needs
+tags-of-requires : tie.Need-tags-of-requires
+tags-of-requires c κs = search needs
 
 returns : tie.Need-returns
-returns c = let k = c .before .before .check in write-refused _ (refused-as (k .ensures)) (c .if1 .taken)
+returns c = write-refused _ (c .before .before .tags-of .ensures .refused) (c .if1 .taken)
 
-add-inputs-end : tie.Need-add-inputs-end
-add-inputs-end c = let t = tagged (c .before .before .before .before .check .ensures) (c .before .before .if1 .left) in omega arith
-
-add-outputs-start : tie.Need-add-outputs-start
-add-outputs-start c = let t = tagged (c .before .before .before .before .check .ensures) (c .before .before .if1 .left) in omega arith
-
-add-outputs-end : tie.Need-add-outputs-end
-add-outputs-end c = let t = tagged (c .before .before .before .before .before .check .ensures) (c .before .before .before .if1 .left) in omega arith
+-- The policy passes its checks.
+stand : (c : tie.Else1) → Tagged (now (c .before .before .before .before .before .before .args .file)) (c .before .before .tags-of .result)
+stand c = c .before .before .tags-of .ensures .tagged (c .if1 .left)
 
 sub-write-checked : tie.Need-sub-write-checked
-sub-write-checked c = search needs
+sub-write-checked c = let t = stand c in omega arith
 
 part-write-checked-start : tie.Need-part-write-checked-start
-part-write-checked-start c = search needs
+part-write-checked-start c = let t = stand c in omega arith
 
 part-write-checked-end : tie.Need-part-write-checked-end
-part-write-checked-end c = let t = tagged (c .before .before .before .before .before .check .ensures) (c .before .before .before .if1 .left) in omega arith
+part-write-checked-end c = let t = stand c in omega arith
 
 sub-write-checked-2 : tie.Need-sub-write-checked-2
-sub-write-checked-2 c = search needs
+sub-write-checked-2 c = let t = stand (c .before) in omega arith
 
 part-write-checked-start-2 : tie.Need-part-write-checked-start-2
-part-write-checked-start-2 c = search needs
+part-write-checked-start-2 c = let t = stand (c .before) in omega arith
 
 part-write-checked-end-2 : tie.Need-part-write-checked-end-2
-part-write-checked-end-2 c = let t = tagged (c .before .before .before .before .before .before .check .ensures) (c .before .before .before .before .if1 .left) in omega arith
+part-write-checked-end-2 c = let t = stand (c .before) in omega arith
 
 write-checked-requires : tie.Need-write-checked-requires
-write-checked-requires c κs =
-    let t = tagged (c .before .before .before .before .before .before .before .before .check .ensures) (c .before .before .before .before .before .before .if1 .left) in
-    let f = now (c .before .before .before .before .before .before .before .before .before .before .before .before .args .file) in
-    let l = c .before .before .before .before .before .before .before .before .check .result .layout in
-    let px = part-is f 1 (inputCount f) 1 (1 + l .inputs) refl (omega arith) in
-    let py = part-is f (outputsAt f + 1) (outputCount f) (1 + l .inputs + 1) (1 + l .inputs + 1 + l .outputs) (omega arith) (omega arith) in
-    subst (λ (x : List ℕ). SignalsGood x (take (1 + l .inputs + 1 + l .outputs - (1 + l .inputs + 1)) (drop (1 + l .inputs + 1) f))) (sym px)
-    (subst (SignalsGood (inputTags f)) (sym py) (signals f (t .passes)))
+write-checked-requires c κs = let t = stand (c .before .before .before) in rw (t .inputs, t .outputs) (t .good)
 
 same-length : tie.Need-same-length
 same-length c = search needs
 
 returns-2 : tie.Need-returns-2
 returns-2 c =
-    let t = tagged (c .before .before .before .before .before .before .before .before .before .before .before .check .ensures) (c .before .before .before .before .before .before .before .before .before .if1 .left) in
-    let f = now (c .before .before .before .before .before .before .before .before .before .before .before .before .before .before .before .args .file) in
-    let l = c .before .before .before .before .before .before .before .before .before .before .before .check .result .layout in
-    let px = part-is f 1 (inputCount f) 1 (1 + l .inputs) refl (omega arith) in
-    let py = part-is f (outputsAt f + 1) (outputCount f) (1 + l .inputs + 1) (1 + l .inputs + 1 + l .outputs) (omega arith) (omega arith) in
-    let k = c .before .before .write-checked in
-    let a = c .before .before .before .before .before .before .before .before .before .before .before .before .before .before .before .args in
-    let after = k .last .1 .1 .1 .0 in
-    write-by (t .passes)
-    (subst (λ (x : List ℕ). WrittenBy x (outputTags f) (now (a .events)) (now (a .text)) (k .result) after) px
-    (subst (λ (y : List ℕ). WrittenBy (take (1 + l .inputs - 1) (drop 1 f)) y (now (a .events)) (now (a .text)) (k .result) after) py (k .ensures)))
+    let t = stand (c .before .before .before .before .before .before) in write-by (t .passes) (rw (t .inputs, t .outputs) at (c .before .before .write-checked .ensures))
 
 pub write-spec : {M : Type 1} → statement M
 write-spec =
     tie.close
     (tie.spec
-    check-requires
+    tags-of-requires
     returns
-    add-inputs-end
-    add-outputs-start
-    add-outputs-end
     sub-write-checked
     part-write-checked-start
     part-write-checked-end
