@@ -3,6 +3,7 @@ pub mod Ways
 pub mod Cursor
 pub mod Fallen
 pub mod Path
+pub mod Slices
 pub mod Code
 pub mod Lists
 pub mod Turn
