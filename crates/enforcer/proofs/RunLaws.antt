@@ -1,15 +1,15 @@
 -- What the proofs of the run cite: where its loop stands, a turn, and the two ends; and that a state in range is that of its place.
-use mathlib.Core.Path.{_≡_, refl, sym, ap, ap₂, _∙_}
-use mathlib.Core.Bool.{Bool, true, false, cond, and-eq-true-iff, false≢true}
-use mathlib.Core.List.{List, [], _∷_, _++_, map}
+use mathlib.Core.Path.{_≡_, refl, sym, ap, _∙_}
+use mathlib.Core.Bool.{Bool, true, false, cond, and-eq-true-iff}
+use mathlib.Core.List.{List, [], _++_, map}
 use Prim.Native.Nat.{ℕ, zero, suc, _+_, _-_, _*_, _≤_, _<_, zero-le}
-use native.Mathlib.Nat.{add-zero, zero-add, sub-zero, suc-sub-suc}
+use native.Mathlib.Nat.{add-zero, zero-add}
 use native.Mathlib.Numerals.{add-one}
 use native.Mathlib.Omega.{arith}
-use lib.Dec.{leb, ltb, eqb}
-use lib.ListN.{length, getD, take, drop, set, replicate, length-set, take-append-drop, drop-of-length-le}
+use lib.Dec.{ltb}
+use lib.ListN.{length, getD, take, drop, set, length-set, take-append-drop, drop-of-length-le, length-take}
 use lib.Seq.{drop-cons, append-snoc, drop-set-lt, take-suc-set}
-use borrow.Author.Tests.{le-leb, eqb-true}
+use borrow.Author.Tests.{le-leb}
 use Rattle.streams.specs.Answer.{unless}
 use Rattle.policy.specs.Rules.{Policy}
 use Rattle.policy.specs.File.{policyOf}
@@ -17,13 +17,13 @@ use Rattle.policy.specs.Check.{allPass}
 use Rattle.policy.specs.Stays.{of-some}
 use Rattle.policy.specs.Sound.{Inside}
 use Rattle.policy.specs.declared.Layout.{Layout}
-use Rattle.enforcer.specs.State.{stateOf, clocksGood, stateGood, place}
+use Rattle.enforcer.specs.State.{stateOf, stateGood, place}
 use Rattle.enforcer.specs.Tick as Spec
 use Rattle.enforcer.specs.Ticks.{ticked, ticked-fits, ran-on, ran-none}
 use Rattle.enforcer.specs.Entries.{eventOf, byteOf, eventGood, RunAnswer, marksRefusal, stateRefusal, runFrom, runRefusal, runOf}
 use Rattle.enforcer.specs.Ready.{Laid, Standing}
 use Rattle.enforcer.specs.Laid.{laid-clocks, laid-inputs, laid-outputs, place-back, next-inside}
-use Rattle.enforcer.specs.States.{good-inside}
+use Rattle.enforcer.specs.States.{good-inside, clocks-back}
 use Rattle.enforcer.specs.Chosen.{tickFrom, tick-none, tick-some}
 use Rattle.enforcer.specs.Promises.{RunPromise, ranSaid}
 use Rattle.enforcer.specs.declared.state.State.{State}
@@ -107,17 +107,6 @@ module _ {f : List ℕ} {l : Layout} {marks events out₀ : List ℕ} {s₀ : St
           },
         )
 
-zeros : (vs : List ℕ) → allPass (eqb 0) vs ≡ true → replicate (length vs) 0 ≡ vs
-unfolding allPass
-zeros [] e = refl
-zeros (v ∷ vs) e = let k = and-eq-true-iff (eqb 0 v) _ .0 e in ap₂ {C = List ℕ} _∷_ (eqb-true 0 v (k .0)) (zeros vs (k .1))
-
-clocks-back : (cs vs : List ℕ) → clocksGood cs vs ≡ true → take (length cs) vs ++ replicate (length vs - length cs) 0 ≡ vs
-unfolding clocksGood
-clocks-back [] vs e = rw sub-zero (zeros vs e)
-clocks-back (c ∷ cs) [] e = absurd (false≢true e)
-clocks-back (c ∷ cs) (v ∷ vs) e = rw suc-sub-suc (ap (_∷_ v) (clocks-back cs vs (and-eq-true-iff (leb v c) _ .0 e .1)))
-
 -- A state whose unused clocks are 0 is that of its place.
 pub good-back : {f : List ℕ} {l : Layout} → Laid f l → (s : State) → length (s .clocks) ≡ 4 → stateGood (policyOf (l .reading) f) s ≡ true →
     stateOf (place (l .clocks) s) ≡ s
@@ -126,7 +115,7 @@ good-back {f} {l} k s n e =
     let cs = policyOf (l .reading) f .ceilings in
     let g = and-eq-true-iff (ltb (s .location) (policyOf (l .reading) f .locations)) _ .0 e .1 in
     let i = good-inside (policyOf (l .reading) f) s e .clocks in
-    ap (λ (vs : List ℕ). record { location = s .location; clocks = vs }) (rw (laid-clocks k, i, ← n) (clocks-back cs (s .clocks) g))
+    ap (λ (vs : List ℕ). record { location = s .location; clocks = vs }) (rw (laid-clocks k, i, ← n) (clocks-back cs (s .clocks) (length (s .clocks) - length cs) (omega (arith, i, length-take (length cs) (s .clocks))) g))
 
 -- Past 10, 14 and 16 only 15 is left to ask; l is the layout under the reading that was named.
 pub run-past : (reading : ℕ) (file marks events out : List ℕ) (s : State) (l : Layout) → l .reading ≡ reading → marksRefusal reading file marks ≡ 0 →

@@ -8,7 +8,7 @@ use Prim.Native.Nat.{ℕ, zero, suc, _+_, _-_, _≤_, _<_, zero-le}
 use native.Mathlib.Omega.{arith}
 use lib.Dec.{leb, ltb, eqb, leb·suc-zero, eqb·zero-suc}
 use lib.ListN.{length, getD, take, replicate, length-append, length-replicate, getD-replicate}
-use borrow.Author.Tests.{leb-true, ltb-true, le-leb, lt-ltb}
+use borrow.Author.Tests.{leb-true, ltb-true, le-leb, lt-ltb, eqb-true}
 use Rattle.streams.specs.Answer.{refused, _orElse_, unless}
 use Rattle.streams.specs.AnswerLaws.{none-refused, none-unless}
 use Rattle.policy.specs.Rules.{Policy, Place}
@@ -54,6 +54,21 @@ good-inside p s e =
     let k = and-eq-true-iff (ltb (s .location) (p .locations)) _ .0 e in
     let c = clocks-inside (p .ceilings) (s .clocks) (k .1) in
     record { location = ltb-true _ _ (k .0); clocks = c .0; stopped = c .1 }
+
+only-zeros : (vs : List ℕ) (n : ℕ) → length vs ≡ n → allPass (eqb 0) vs ≡ true → replicate n 0 ≡ vs
+unfolding allPass
+only-zeros [] zero l e = refl
+only-zeros [] (suc n) l e = absurd (omega arith)
+only-zeros (v ∷ vs) zero l e = absurd (omega arith)
+only-zeros (v ∷ vs) (suc n) l e =
+    let k = and-eq-true-iff (eqb 0 v) _ .0 e in ap₂ {C = List ℕ} _∷_ (eqb-true 0 v (k .0)) (only-zeros vs n (omega arith) (k .1))
+
+-- In range, they are the values of the clocks and zeros after them.
+pub clocks-back : (cs vs : List ℕ) (n : ℕ) → length vs ≡ length cs + n → clocksGood cs vs ≡ true → take (length cs) vs ++ replicate n 0 ≡ vs
+unfolding clocksGood
+clocks-back [] vs n l e = only-zeros vs n (omega arith) e
+clocks-back (c ∷ cs) [] n l e = absurd (false≢true e)
+clocks-back (c ∷ cs) (v ∷ vs) n l e = ap (_∷_ v) (clocks-back cs vs n (omega arith) (and-eq-true-iff (leb v c) _ .0 e .1))
 
 all-zeros : (n : ℕ) → allPass (eqb 0) (replicate n 0) ≡ true
 unfolding allPass

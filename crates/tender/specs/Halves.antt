@@ -1,14 +1,14 @@
 -- The two halves used tick after tick, as the station's loop uses them: they release what a run over the same events releases, and from the start that
 -- is the stream of demand 2. Here over the definitions of the entries; over the promises of the code: specs/TickByTick.antt.
-use mathlib.Core.Path.{_≡_, refl, sym, ap, ap₂, subst, _∙_}
-use mathlib.Core.Bool.{true, cond, and-eq-true-iff, false≢true}
+use mathlib.Core.Path.{_≡_, refl, sym, ap, subst, _∙_}
+use mathlib.Core.Bool.{true, cond, and-eq-true-iff}
 use mathlib.Core.List.{List, [], _∷_, _++_, map}
 use mathlib.Core.Option.{Option, none, some, bind}
 use Prim.Native.Nat.{ℕ, zero, suc, _+_, _-_, _%_, _≤_}
 use native.Mathlib.Omega.{arith}
-use lib.Dec.{leb, ltb, eqb}
-use lib.ListN.{length, take, drop, replicate, length-take}
-use borrow.Author.Tests.{lt-ltb, ltb-true, eqb-true}
+use lib.Dec.{ltb}
+use lib.ListN.{length, drop, length-take}
+use borrow.Author.Tests.{lt-ltb, ltb-true}
 use Rattle.streams.specs.Answer.{refused, gives}
 use Rattle.streams.specs.AnswerLaws.{none-refused, none-unless}
 use Rattle.streams.specs.Stream.{Event, Stream}
@@ -16,9 +16,9 @@ use Rattle.policy.specs.Rules.{Policy, Place, start, Fits, fits-none, fits-more
 use Rattle.policy.specs.File.{policyOf}
 use Rattle.policy.specs.Check.{allPass}
 use Rattle.policy.specs.Checked.{well-sound}
-use Rattle.enforcer.specs.State.{placeIn, stateOf, clocksGood, stateGood}
+use Rattle.enforcer.specs.State.{placeIn, stateOf, stateGood}
 use Rattle.enforcer.specs.Laid.{placeIn-stateOf}
-use Rattle.enforcer.specs.States.{good-inside, marks-granted, state-granted}
+use Rattle.enforcer.specs.States.{good-inside, marks-granted, state-granted, clocks-back}
 use Rattle.enforcer.specs.Tick.{ReleasedTick, inputChoice, outputTick, tick, ran}
 use Rattle.enforcer.specs.Tick as Run
 use Rattle.enforcer.specs.Ticks.{ticked, input-stands, ran-on, ran-none}
@@ -110,20 +110,6 @@ module _ (reading : ℕ) (file marks : List ℕ) (s : State) where
       and-eq-true-iff (xGood reading file x) (yGood reading file y) .0 b .1
 
 -- A state that is not out of range is the state of its place.
-zeros : (vs : List ℕ) (n : ℕ) → length vs ≡ n → allPass (eqb 0) vs ≡ true → replicate n 0 ≡ vs
-unfolding allPass
-zeros [] zero l e = refl
-zeros [] (suc n) l e = absurd (omega arith)
-zeros (v ∷ vs) zero l e = absurd (omega arith)
-zeros (v ∷ vs) (suc n) l e =
-    let k = and-eq-true-iff (eqb 0 v) _ .0 e in ap₂ {C = List ℕ} _∷_ (eqb-true 0 v (k .0)) (zeros vs n (omega arith) (k .1))
-
-clocks-back : (cs vs : List ℕ) (n : ℕ) → length vs ≡ length cs + n → clocksGood cs vs ≡ true → take (length cs) vs ++ replicate n 0 ≡ vs
-unfolding clocksGood
-clocks-back [] vs n l e = zeros vs n (omega arith) e
-clocks-back (c ∷ cs) [] n l e = absurd (false≢true e)
-clocks-back (c ∷ cs) (v ∷ vs) n l e = ap (_∷_ v) (clocks-back cs vs n (omega arith) (and-eq-true-iff (leb v c) _ .0 e .1))
-
 state-back : (p : Policy) (s : State) → length (s .clocks) ≡ 4 → stateGood p s ≡ true → stateOf (placeIn p s) ≡ s
 unfolding stateGood
 state-back p s four e =
