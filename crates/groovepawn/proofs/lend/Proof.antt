@@ -68,12 +68,9 @@ use Rattle.groovepawn.proofs.lend.Code as code
 abbrev stayed : Stays (lend.ended .signature .params) (lend.ended .kept)
 stayed = (stay-none (λ _. S.the-row) yes, (stay-none (λ _. u8) yes, (stay-none-slice (0 ∷ []) tt (plain (λ _. u8)) yes, (stay-none-slice (1 ∷ []) tt (plain (λ _. u8)) yes, (stay-none (λ _. u8) yes, (stay-none (λ _. u8) yes, tt))))))
 
--- the machine values of a state, of an answer and of an output
+-- the machine values of a state and of an output
 abbrev state-val : State → Val
 state-val = LL.val S.the-type S′.the-laws
-
-abbrev answer-val : HalfAnswer → Val
-answer-val = EL.val N.the-type N′.the-laws
 
 abbrev output-val : Output → Val
 output-val = LL.val O.the-type O′.the-laws
