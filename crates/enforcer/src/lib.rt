@@ -32,6 +32,7 @@ pub use reach::here_by;
 pub use reach::own_of;
 pub use reach::values;
 pub use runs::Ran;
+pub use runs::events_good;
 pub use runs::run;
 pub use share::Share;
 pub use share::part_of;

@@ -30,7 +30,7 @@ pub struct Ran {
 }
 
 // No event has a bit beyond its signals.
-fn events_good(file: &[u8], layout: Layout, events: &[u8]) -> bool
+pub fn events_good(file: &[u8], layout: Layout, events: &[u8]) -> bool
     requires { ⌜ Laid (now file) layout ⌝ }
     ensures { λ r. ⌜ r ≡ allPass (eventGood (layout .reading) (now (file .entry))) (now (events .entry)) ⌝ }
 {

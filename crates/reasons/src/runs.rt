@@ -4,9 +4,9 @@ use crate::halves::tell;
 use crate::words::both;
 use enforcer::Ran;
 use enforcer::State;
+use enforcer::events_good;
 use enforcer::marks_refusal;
 use enforcer::state_refusal;
-use enforcer::values;
 use index::NUMBERS;
 use index::own_at;
 use policy::Checked;
@@ -76,27 +76,6 @@ pub fn shortest(
             ),
         ),
     )
-}
-
-// No event has a bit beyond its signals.
-fn events_fit(file: &[u8], layout: Layout, events: &[u8]) -> bool
-    requires { ⌜ Laid (now file) layout ⌝ }
-    ensures { λ r. ⌜ r ≡ allPass (eventGood (layout .reading) (now (file .entry))) (now (events .entry)) ⌝ }
-{
-    let inputs = values(layout.inputs);
-    let outputs = values(layout.outputs);
-    let mut i = 0;
-    while i < events.len() {
-        let event = events[i] as usize;
-        if inputs <= event % 16 {
-            return false;
-        }
-        if outputs <= event / 16 {
-            return false;
-        }
-        i += 1;
-    }
-    true
 }
 
 // A word for each event, by the tables and the index of the rules. Returns the state after them.
@@ -189,7 +168,7 @@ fn explained(
     if others {
         return refused(state, 20);
     }
-    if !events_fit(file, layout, events) {
+    if !events_good(file, layout, events) {
         return refused(state, 15);
     }
     let after = explain_all(file, layout, marks, ticks, rests, state, events, words);

@@ -37,8 +37,8 @@ returns c =
     let s = c .before .before .before .before .before .before .before .before in
     λ work z. rw (c .refused .ensures) (answers-no _ _ _ _ _ _ work (run-20 _ _ _ _ _ _ work z (sym (s .pre .0 .1) ∙ c .before .if1 .taken)) (λ e. omega arith))
 
-events-fit-requires : tie.Need-events-fit-requires
-events-fit-requires c κs = search needs
+events-good-requires : tie.Need-events-good-requires
+events-good-requires c κs = search needs
 
 refused-requires-2 : tie.Need-refused-requires-2
 refused-requires-2 c κs = search needs
@@ -50,14 +50,14 @@ returns-2 c =
     λ work z.
     rw (c .refused2 .ensures)
     (answers-no _ _ _ _ _ _ work
-    (run-15 _ _ _ _ _ _ work z (sym (s .pre .0 .1) ∙ f .before .if1 .left) (sym (f .events-fit .ensures) ∙ not-true _ (c .before .if2 .taken))) (λ e. omega arith))
+    (run-15 _ _ _ _ _ _ work z (sym (s .pre .0 .1) ∙ f .before .if1 .left) (sym (f .events-good .ensures) ∙ not-true _ (c .before .if2 .taken))) (λ e. omega arith))
 
 explain-all-requires : tie.Need-explain-all-requires
 explain-all-requires c κs =
     let f = c .before .before in
     let s = c .before .before .before .before .before .before .before .before .before .before in (
       (starts s, s .pre .1 .2),
-      (marks-prepared (policyOf (s .args .layout .reading) (now (s .args .file))) (now (s .args .marks)) (sym (s .pre .0 .1) ∙ f .before .if1 .left), s .pre .0 .2, sym (f .events-fit .ensures) ∙ not-false _ (c .before .if2 .left)),
+      (marks-prepared (policyOf (s .args .layout .reading) (now (s .args .file))) (now (s .args .marks)) (sym (s .pre .0 .1) ∙ f .before .if1 .left), s .pre .0 .2, sym (f .events-good .ensures) ∙ not-false _ (c .before .if2 .left)),
     )
 
 same-length : tie.Need-same-length
@@ -70,7 +70,7 @@ returns-3 c =
     let f = d .before in
     let s = f .before .before .before .before .before .before .before .before in
     λ work z.
-    answers-all _ _ (s .pre .0 .0) _ _ _ work z (sym (s .pre .0 .1) ∙ f .before .if1 .left) (sym (f .events-fit .ensures) ∙ not-false _ (d .if2 .left)) (g .ready)
+    answers-all _ _ (s .pre .0 .0) _ _ _ work z (sym (s .pre .0 .1) ∙ f .before .if1 .left) (sym (f .events-good .ensures) ∙ not-false _ (d .if2 .left)) (g .ready)
     (s .pre .1 .2) g
 
 pub explained-spec : {M : Type 1} → statement M
@@ -79,7 +79,7 @@ explained-spec =
     (tie.spec
     refused-requires
     returns
-    events-fit-requires
+    events-good-requires
     refused-requires-2
     returns-2
     explain-all-requires
