@@ -9,6 +9,7 @@ pub use chooser::standing;
 pub use sets::all_below;
 pub use sets::gather;
 pub use sets::is_left;
+pub use sets::nothing_left;
 pub use sets::outs;
 pub use sets::room;
 pub use sets::take;

@@ -1,6 +1,7 @@
 // Sets of outputs, one for each input, one bit an output.
 ghost use mathlib.Core.Path.{_≡_};
-ghost use Prim.Native.Nat.{_≤_, _<_};
+ghost use mathlib.Core.Bool.{true};
+ghost use Prim.Native.Nat.{ℕ, _≤_, _<_};
 ghost use lib.Dec.{ltb};
 ghost use lib.ListN.{length, getD, replicate};
 ghost use lib.Bits.{bitAnd, bitOr, bitXor};
@@ -90,6 +91,21 @@ pub fn is_left(left: &[u16; 16], inputs: usize, care: usize, value: usize, set: 
         x = after(care, x);
     }
     false
+}
+
+// Nothing is left with the first inputs.
+pub fn nothing_left(left: &[u16; 16], inputs: usize) -> bool
+    requires { ⌜ inputs ≤ 16 ⌝ }
+    ensures { λ r. ⌜ (r ≡ true → (x : ℕ) → x < inputs → getD (now (left .entry)) x 0 ≡ 0) ⌝ }
+{
+    let mut x = 0;
+    while x < inputs {
+        if left[x] != 0 {
+            return false;
+        }
+        x += 1;
+    }
+    true
 }
 
 // Takes from what is left what agrees with the care bits, the value and the set.

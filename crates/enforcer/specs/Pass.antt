@@ -196,6 +196,15 @@ module _ (s : Place) (p : Policy) (marks : List ℕ) where
           let z : takes (looked stopped p s) r x (getD left x 0) ≡ 0 = omega arith in
           rw (z, or-zero-r)
 
+  -- With nothing left the rules still to come find nothing.
+  pub gathering-empty : {rs : List Rule} {left found : List ℕ} → Gathering rs left found → ((x : ℕ) → x < inputValues p → getD left x 0 ≡ 0) → Gathering [] left found
+  unfolding gathered
+  gathering-empty {rs} {left} {found} g z =
+      record {
+        within = λ x h. g .within x h ∙ ap (λ (l : ℕ). gathered s p marks rs x l (getD found x 0)) (z x h) ∙ gathered-empty s p marks rs x (getD found x 0);
+        past = g .past;
+      }
+
   -- What a rule that leads on takes is allowed.
   takes-found : {r : Rule} {rs : List Rule} {left found : List ℕ} → Gathering (r ∷ rs) left found → leads s p marks r ≡ true →
       (x : ℕ) → x < inputValues p → 0 < takes (looked stopped p s) r x (getD left x 0) → 0 < allowed p marks s x
@@ -305,6 +314,10 @@ module _ (s : Place) (p : Policy) where
     pub passing-found : WellFormed p → some ≡ true → (marks : List ℕ) → ((t : ℕ) → F t → isMarked marks t ≡ false) → isMarked marks to ≡ true →
         someBelow (mayStand p marks s) (inputValues p) ≡ true
     passing-found k e marks h m = gathering-found s p marks k (g .gathering marks h) (rw (e, m) at (w .went marks))
+
+  -- With nothing left the rules still to come are as if passed.
+  pub passing-empty : {F : ℕ → Type 0} {rs : List Rule} {left : List ℕ} → Passing F rs left → ((x : ℕ) → x < inputValues p → getD left x 0 ≡ 0) → Passing F [] left
+  passing-empty g z = record { gathering = λ marks h. gathering-empty s p marks (g .gathering marks h) z }
 
   -- After the last rule: no event leads to a state that was not found.
   pub passing-done : WellFormed p → {F : ℕ → Type 0} {left : List ℕ} → Passing F [] left → (marks : List ℕ) →
