@@ -32,15 +32,19 @@ asksOf p i = asks (p .inputs) (p .outputs) (getD (p .rules) i noRule)
 unfoldable pub ruleWords : Policy → ℕ → List ℕ
 ruleWords p i = ascii "rule " ++ decimal i ++ ascii " forbids it: " ++ asksOf p i ++ ascii "\n"
 
+-- At most k, with what follows the number: one for 1, and more for any other.
+unfoldable pub mostWords : (one more : List ℕ) → ℕ → List ℕ
+mostWords one more k = ascii "after it at most " ++ decimal k ++ cond (eqb k 1) one more
+
 -- "that the stream could have gone on for at most k more ticks after it"
-unfoldable pub ticksWords : ℕ → List ℕ
-ticksWords k = ascii "after it at most " ++ decimal k ++ cond (eqb k 1) (ascii " more tick\n") (ascii " more ticks\n")
+abbrev pub ticksWords : ℕ → List ℕ
+ticksWords k = mostWords (ascii " more tick\n") (ascii " more ticks\n") k
 
 -- "with at most k later events ending at rest"
 unfoldable pub restsWords : ℕ → List ℕ
 restsWords k =
     cond (eqb k 0) (ascii "after it never at rest again\n")
-    (ascii "after it at most " ++ decimal k ++ cond (eqb k 1) (ascii " more time at rest\n") (ascii " more times at rest\n"))
+    (mostWords (ascii " more time at rest\n") (ascii " more times at rest\n") k)
 
 -- In an operator's words: `broken` stands before the words of a violation, and `half` before the others. "It is .. given exactly for an edited half": a half
 -- that is kept has no line.
@@ -94,50 +98,45 @@ module _ (p : Policy) (i : ℕ) where
   unfolding asksOf
   rule-short k l = omega (arith, rule-length, decimal-short i 2 (omega (arith, k .ruleCount)), asks-short p k noRule i l)
 
+module _ (one more : List ℕ) (k : ℕ) where
+  pub most-one : k ≡ 1 → mostWords one more k ≡ ascii "after it at most " ++ decimal k ++ one
+  unfolding mostWords
+  most-one e = rw (eq-eqb k 1 e)
+
+  pub most-more : (k ≡ 1 → ⊥) → mostWords one more k ≡ ascii "after it at most " ++ decimal k ++ more
+  unfolding mostWords
+  most-more h = rw (ne-eqb k 1 h)
+
+  most-short : k < 65536 → length one ≤ 20 → length more ≤ 20 → length (mostWords one more k) ≤ 42
+  unfolding mostWords
+  most-short l h g = go (eqb k 1)
+    where
+      counted : (after : List ℕ) → length after ≤ 20 → length (ascii "after it at most " ++ decimal k ++ after) ≤ 42
+      counted after m = omega (arith, three-length (ascii "after it at most ") (decimal k) after, decimal-short k 4 (omega arith))
+
+      go : (t : Bool) → length (ascii "after it at most " ++ decimal k ++ cond t one more) ≤ 42
+      go true = counted one h
+      go false = counted more g
+
 module _ (k : ℕ) where
-  pub ticks-one : k ≡ 1 → ticksWords k ≡ ascii "after it at most " ++ decimal k ++ ascii " more tick\n"
-  unfolding ticksWords
-  ticks-one e = rw (eq-eqb k 1 e)
-
-  pub ticks-more : (k ≡ 1 → ⊥) → ticksWords k ≡ ascii "after it at most " ++ decimal k ++ ascii " more ticks\n"
-  unfolding ticksWords
-  ticks-more h = rw (ne-eqb k 1 h)
-
   pub rests-none : k ≡ 0 → restsWords k ≡ ascii "after it never at rest again\n"
   unfolding restsWords
   rests-none e = rw (eq-eqb k 0 e)
 
-  pub rests-one : k ≡ 1 → restsWords k ≡ ascii "after it at most " ++ decimal k ++ ascii " more time at rest\n"
+  pub rests-some : (k ≡ 0 → ⊥) → restsWords k ≡ mostWords (ascii " more time at rest\n") (ascii " more times at rest\n") k
   unfolding restsWords
-  rests-one e = rw (ne-eqb k 0 (λ z. omega arith), eq-eqb k 1 e)
+  rests-some h = rw (ne-eqb k 0 h)
 
-  pub rests-more : (k ≡ 0 → ⊥) → (k ≡ 1 → ⊥) → restsWords k ≡ ascii "after it at most " ++ decimal k ++ ascii " more times at rest\n"
+  ticks-short : k < 65536 → length (ticksWords k) ≤ 42
+  ticks-short l = most-short (ascii " more tick\n") (ascii " more ticks\n") k l (omega arith) (omega arith)
+
+  rests-short : k < 65536 → length (restsWords k) ≤ 42
   unfolding restsWords
-  rests-more h g = rw (ne-eqb k 0 h, ne-eqb k 1 g)
-
-  counted : k < 65536 → (words after : List ℕ) → length words + length after ≤ 37 → length (words ++ decimal k ++ after) ≤ 42
-  counted l words after m = omega (arith, three-length words (decimal k) after, decimal-short k 4 (omega arith))
-
-  pub ticks-short : k < 65536 → length (ticksWords k) ≤ 42
-  unfolding ticksWords
-  ticks-short l = go (eqb k 1)
+  rests-short l = go (eqb k 0)
     where
-      go : (t : Bool) → length (ascii "after it at most " ++ decimal k ++ cond t (ascii " more tick\n") (ascii " more ticks\n")) ≤ 42
-      go true = counted l (ascii "after it at most ") (ascii " more tick\n") (omega arith)
-      go false = counted l (ascii "after it at most ") (ascii " more ticks\n") (omega arith)
-
-  pub rests-short : k < 65536 → length (restsWords k) ≤ 42
-  unfolding restsWords
-  rests-short l = go (eqb k 0) (eqb k 1)
-    where
-      go : (s t : Bool) →
-          length
-          (cond s (ascii "after it never at rest again\n")
-          (ascii "after it at most " ++ decimal k ++ cond t (ascii " more time at rest\n") (ascii " more times at rest\n")))
-          ≤ 42
-      go true t = omega arith
-      go false true = counted l (ascii "after it at most ") (ascii " more time at rest\n") (omega arith)
-      go false false = counted l (ascii "after it at most ") (ascii " more times at rest\n") (omega arith)
+      go : (t : Bool) → length (cond t (ascii "after it never at rest again\n") (mostWords (ascii " more time at rest\n") (ascii " more times at rest\n") k)) ≤ 42
+      go true = omega arith
+      go false = most-short (ascii " more time at rest\n") (ascii " more times at rest\n") k l (omega arith) (omega arith)
 
 -- A line has at most 152 bytes after what stands before its words.
 pub reason-short : (p : Policy) → WellFormed p → (broken half : List ℕ) (q : Reason) → Named (length (p .rules)) q → countOf q < 65536 →

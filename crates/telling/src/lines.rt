@@ -13,7 +13,7 @@ ghost use Rattle.texts.specs.Wrote.{Wrote};
 ghost use Rattle.enforcer.specs.Ready.{Laid};
 ghost use Rattle.reasons.specs.Reasons.{countOf};
 ghost use Rattle.reasons.specs.Promise.{reasonSaid, bothSaid};
-ghost use Rattle.telling.specs.Text.{ruleWords, ticksWords, restsWords, Named, reasonLine, reasonLines};
+ghost use Rattle.telling.specs.Text.{ruleWords, mostWords, restsWords, Named, reasonLine, reasonLines};
 
 // A half and words.
 fn put_plain(text: &mut [u8], at: usize, half: &[u8], words: &[u8]) -> usize
@@ -36,39 +36,31 @@ fn put_rule(text: &mut [u8], at: usize, half: &[u8], file: &[u8], layout: Layout
     put_bytes(text, end, b"\n")
 }
 
-fn put_ticks(text: &mut [u8], at: usize, half: &[u8], k: usize) -> usize
-    requires { ⌜ at + length (now half) + length (ticksWords k) ≤ length (now text) ⌝ }
-    ensures { λ r. ⌜ Wrote (now (text .entry)) at (now (half .entry) ++ ticksWords k) r (now (text .exit)) ⌝ }
+// A half and how many at the most: `one` follows a 1, and `more` any other number.
+fn put_most(text: &mut [u8], at: usize, half: &[u8], k: usize, one: &[u8], more: &[u8]) -> usize
+    requires { ⌜ at + length (now half) + length (mostWords (now one) (now more) k) ≤ length (now text) ⌝ }
+    ensures { λ r. ⌜ Wrote (now (text .entry)) at (now (half .entry) ++ mostWords (now (one .entry)) (now (more .entry)) k) r (now (text .exit)) ⌝ }
 {
     let half_end = put_bytes(text, at, half);
     if k == 1 {
-        return put_about(text, half_end, b"after it at most ", k, b" more tick\n");
+        return put_about(text, half_end, b"after it at most ", k, one);
     }
-    put_about(text, half_end, b"after it at most ", k, b" more ticks\n")
+    put_about(text, half_end, b"after it at most ", k, more)
 }
 
 fn put_rests(text: &mut [u8], at: usize, half: &[u8], k: usize) -> usize
     requires { ⌜ at + length (now half) + length (restsWords k) ≤ length (now text) ⌝ }
     ensures { λ r. ⌜ Wrote (now (text .entry)) at (now (half .entry) ++ restsWords k) r (now (text .exit)) ⌝ }
 {
-    let half_end = put_bytes(text, at, half);
     if k == 0 {
-        return put_bytes(text, half_end, b"after it never at rest again\n");
+        return put_plain(text, at, half, b"after it never at rest again\n");
     }
-    if k == 1 {
-        return put_about(
-            text,
-            half_end,
-            b"after it at most ",
-            k,
-            b" more time at rest\n",
-        );
-    }
-    put_about(
+    put_most(
         text,
-        half_end,
-        b"after it at most ",
+        at,
+        half,
         k,
+        b" more time at rest\n",
         b" more times at rest\n",
     )
 }
@@ -91,7 +83,7 @@ fn put_reason(
         Reason::Kept => at,
         Reason::Rule(i) => put_rule(text, at, broken, file, layout, i),
         Reason::Unmatched => put_plain(text, at, broken, b"no rule allows it\n"),
-        Reason::Ticks(k) => put_ticks(text, at, half, k),
+        Reason::Ticks(k) => put_most(text, at, half, k, b" more tick\n", b" more ticks\n"),
         Reason::Rests(k) => put_rests(text, at, half, k),
     }
 }

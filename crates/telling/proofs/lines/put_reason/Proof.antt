@@ -53,10 +53,16 @@ put-plain-requires c κs =
 enum-known-reason-2 : tie.Need-enum-known-reason-2
 enum-known-reason-2 c = search needs
 
-put-ticks-requires : tie.Need-put-ticks-requires
-put-ticks-requires c κs =
-    let k = c .before .before .reason2 .given in
-    let s = c .before .before .before .before .before .before .before .before in
+slice-aggregate-put-most : tie.Need-slice-aggregate-put-most
+slice-aggregate-put-most c = search needs
+
+slice-aggregate-put-most-2 : tie.Need-slice-aggregate-put-most-2
+slice-aggregate-put-most-2 c = search needs
+
+put-most-requires : tie.Need-put-most-requires
+put-most-requires c κs =
+    let k = c .before .before .before .before .reason2 .given in
+    let s = c .before .before .before .before .before .before .before .before .before .before in
     omega (arith, room s (k .1), length-append (now (s .args .half)) (ticksWords (k .0 .0)))
 
 enum-known-reason-3 : tie.Need-enum-known-reason-3
@@ -87,7 +93,9 @@ same-length-3 : tie.Need-same-length-3
 same-length-3 c = search needs
 
 returns-4 : tie.Need-returns-4
-returns-4 c = let k = c .before .before .before .before .before in rw (ap (line (k .before .before .before .before .before .before)) (k .reason2 .given .1)) (c .before .before .put-ticks .ensures)
+returns-4 c =
+    let k = c .before .before .before .before .before .before .before in
+    rw (ap (line (k .before .before .before .before .before .before)) (k .reason2 .given .1)) (c .before .before .put-most .ensures)
 
 same-length-4 : tie.Need-same-length-4
 same-length-4 c = search needs
@@ -106,7 +114,9 @@ put-reason-spec =
     slice-aggregate-put-plain
     put-plain-requires
     enum-known-reason-2
-    put-ticks-requires
+    slice-aggregate-put-most
+    slice-aggregate-put-most-2
+    put-most-requires
     enum-known-reason-3
     put-rests-requires
     returns
