@@ -6,7 +6,6 @@ use lib.ListN.{length}
 use Rattle.streams.specs.Answer.{_orElse_, unless}
 use Rattle.policy.specs.File.{pairAt, part}
 use Rattle.policy.specs.Check.{readingRefusal}
-use Rattle.console.specs.declared.frame.Part.{Part}
 
 -- Of a count at `at` and the bytes that it counts: "count whole (1), within its limit (2), .. all there (1)".
 unfoldable pub countRefusal : List ℕ → (at most : ℕ) → ℕ
@@ -38,16 +37,6 @@ module _ (input : List ℕ) where
   abbrev pub eventsPart : List ℕ
   eventsPart = part input eventsStart (pairAt input policyEnd)
 
-  -- The refusal, and where the part stands.
-  abbrev pub policyFramed : Part
-  policyFramed = record { refusal = policyFrameRefusal; start = 2; end = policyEnd }
-
-  abbrev pub eventsFramed : Part
-  eventsFramed = record { refusal = eventsFrameRefusal; start = eventsStart; end = eventsEnd }
-
   -- Of a program that is told its reading: "22 for any other number, before all else".
   abbrev pub inputRefusal : (reading : ℕ) → ℕ
   inputRefusal reading = readingRefusal reading orElse policyFrameRefusal
-
-  abbrev pub inputFramed : (reading : ℕ) → Part
-  inputFramed reading = record { refusal = inputRefusal reading; start = 2; end = policyEnd }

@@ -4,7 +4,7 @@ use mathlib.Core.List.{List, [], _∷_, _++_, append-nil}
 use Prim.Native.Nat.{ℕ, _+_, _-_, _/_, _%_, _≤_}
 use native.Mathlib.Omega.{arith}
 use lib.Dec.{leb}
-use lib.ListN.{length, take, drop, length-append}
+use lib.ListN.{length, take, drop, length-append, length-take}
 use lib.Seq.{getD-append-seam, getD-append-add, take-append-seam, drop-append-add}
 use borrow.Author.Tests.{leb-true, le-leb}
 use Rattle.streams.specs.Answer.{unless}
@@ -44,6 +44,9 @@ events-fit input e =
     let fits = count-fits input (policyEnd input) 16384 (a .0) in
     let none : length input ≤ eventsEnd input = leb-true _ _ (none-unless _ 7 .0 (a .1)) in
     (fits .0, omega (arith, fits .1))
+
+pub events-few : (input : List ℕ) → eventsFrameRefusal input ≡ 0 → length (eventsPart input) ≤ 16384
+events-few input e = simp length-take (omega (arith, events-fit input e))
 
 -- The bytes stand in the input, after their count at `at`.
 record StandsIn (input : List ℕ) (at : ℕ) (bytes : List ℕ) : Type 0 where

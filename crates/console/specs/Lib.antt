@@ -3,9 +3,10 @@ pub mod Lines
 pub mod Reading
 pub mod Frame
 pub mod Framed
+pub mod Outcome
 pub mod Printed
 pub mod Scratch
+pub mod OutcomeLaws
 pub mod Reply
-pub mod Replies
 pub mod Longer
 pub mod FileFront

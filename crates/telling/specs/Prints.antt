@@ -3,75 +3,58 @@
 use mathlib.Core.Path.{_≡_, refl, sym, ap, subst, _∙_}
 use mathlib.Core.Bool.{true}
 use mathlib.Core.List.{List, _++_}
-use Prim.Native.Nat.{ℕ, zero, suc, _≤_}
+use Prim.Native.Nat.{ℕ, zero, suc}
 use native.Mathlib.Omega.{arith}
 use lib.Dec.{leb}
-use lib.ListN.{length}
-use Rattle.streams.specs.Answer.{Answer, refused, gives, _orElse_, unless}
+use lib.ListN.{length, take}
+use Rattle.streams.specs.Answer.{refused, gives, unless}
 use Rattle.streams.specs.AnswerLaws.{none-refused, none-unless}
 use Rattle.policy.specs.Rules.{Policy, Place, start}
 use Rattle.policy.specs.File.{policyOf}
 use Rattle.policy.specs.Check.{allPass}
 use Rattle.policy.specs.Number.{states, numberOf}
-use Rattle.policy.specs.Checked.{well-sound}
+use Rattle.policy.specs.CheckLaws.{under-none}
+use Rattle.policy.specs.Checked.{checked-file, well-sound}
 use Rattle.policy.specs.Stays.{start-inside}
 use Rattle.policy.specs.declared.Layout.{Layout}
-use Rattle.enforcer.specs.State.{placeIn, isMarked, place}
+use Rattle.enforcer.specs.State.{placeIn, stateOf, isMarked, place}
 use Rattle.enforcer.specs.Tick.{Progress, ran}
-use Rattle.enforcer.specs.Entries.{eventGood, RunAnswer, runFrom, marksRefusal, stateRefusal, runRefusal, runOf}
+use Rattle.enforcer.specs.Entries.{eventGood, runFrom, marksRefusal, stateRefusal, runRefusal, runOf}
 use Rattle.enforcer.specs.Code.{startState}
 use Rattle.enforcer.specs.Laid.{laid-well, laid-place, placeIn-stateOf}
-use Rattle.enforcer.specs.States.{Granted, state-granted}
-use Rattle.enforcer.specs.Promises.{RunPromise}
-use Rattle.enforcer.specs.declared.runs.Ran as Code
+use Rattle.enforcer.specs.States.{Granted, marks-granted, state-granted}
 use Rattle.prepare.specs.Table.{marksOf}
-use Rattle.prepare.specs.Entry.{prepareOf}
 use Rattle.prepare.specs.declared.Summary.{Summary}
-use Rattle.prepare.specs.Promise.{preparedSaid, PreparePromise}
-use Rattle.prepare.specs.declared.Prepared.{Prepared as Answered}
 use Rattle.console.specs.Text.{verdictLine, refusedLine}
-use Rattle.console.specs.Frame.{inputRefusal, policyPart, eventsFrameRefusal, eventsPart}
-use Rattle.console.specs.Printed.{lent, ranUnder}
+use Rattle.console.specs.Frame.{policyPart, eventsPart}
+use Rattle.console.specs.Outcome.{lent, outcome}
+use Rattle.console.specs.OutcomeLaws.{Passes, Enforces}
 use Rattle.console.specs.Reply.{Replied, replied-one}
-use Rattle.console.specs.Replies.{Prepares, lent-length, run-over}
-use Rattle.console.specs.Scratch.{prepare-alike, start-is}
+use Rattle.console.specs.Scratch.{start-is}
 use Rattle.telling.specs.Asked.{Asked}
 use Rattle.telling.specs.Told.{Told, told-one, ToldFrom}
 use Rattle.enforcer.specs.declared.state.State.{State}
 
 module _ (reading : ℕ) (input : List ℕ) where
-  -- "second count whole (1), within its limit (2), events all there (1), nothing after them (8); events (15)", as for `enforce`.
-  unfoldable pub eventsRefusal : ℕ
-  eventsRefusal = eventsFrameRefusal input orElse ranUnder reading (policyPart input) (eventsPart input) .refusal
-
   -- The policy of the input, under the reading.
   abbrev pub policyIn : Policy
   policyIn = policyOf reading (policyPart input)
 
-  -- By what prepare answers. The ticks are told from the start, with the marks of prepare.
-  pub data ToldText : Answer Summary → List ℕ → Type 0 where
-    unprepared : {n : ℕ} → ToldText (refused n) (refusedLine n)
-    unread : {n : ℕ} {s : Summary} → eventsRefusal ≡ suc n → ToldText (gives s) (refusedLine (suc n))
-    tells : {s : Summary} {bytes : List ℕ} → eventsRefusal ≡ 0 → Told policyIn (marksOf policyIn) 1 (start policyIn) (eventsPart input) bytes →
-        ToldText (gives s) (verdictLine (s .verdict) (s .states) (s .live) ++ bytes)
-
+  -- The line of the first refusal; or the verdict's line, and the ticks told from the start with the marks of prepare.
   pub data Prints : List ℕ → Type 0 where
-    unframed : {n : ℕ} → inputRefusal input reading ≡ suc n → Prints (refusedLine (suc n))
-    framed : {text : List ℕ} → inputRefusal input reading ≡ 0 → ToldText (prepareOf reading (policyPart input) (lent 65536)) text → Prints text
+    refuses : {n : ℕ} → outcome reading input ≡ refused n → Prints (refusedLine n)
+    tells : {s : Summary} {bytes : List ℕ} → outcome reading input ≡ gives s → Told policyIn (marksOf policyIn) 1 (start policyIn) (eventsPart input) bytes →
+        Prints (verdictLine (s .verdict) (s .states) (s .live) ++ bytes)
 
   -- One text alone is printed.
-  pub text-one : {o : Answer Summary} {a b : List ℕ} → ToldText o a → ToldText o b → a ≡ b
-  text-one unprepared unprepared = refl
-  text-one (unread {n = n} e) (unread {n = m} d) = let q : suc n ≡ suc m = sym e ∙ d in ap refusedLine q
-  text-one (unread e) (tells d t) = absurd (omega arith)
-  text-one (tells e t) (unread d) = absurd (omega arith)
-  text-one (tells {s = s} e t) (tells d u) = ap (λ (bytes : List ℕ). verdictLine (s .verdict) (s .states) (s .live) ++ bytes) (told-one t u)
-
   pub prints-one : {a b : List ℕ} → Prints a → Prints b → a ≡ b
-  prints-one (unframed {n = n} e) (unframed {n = m} d) = let q : suc n ≡ suc m = sym e ∙ d in ap refusedLine q
-  prints-one (unframed e) (framed d t) = absurd (omega arith)
-  prints-one (framed e t) (unframed d) = absurd (omega arith)
-  prints-one (framed e t) (framed d u) = text-one t u
+  prints-one (refuses {n = n} e) (refuses {n = m} d) = let q : n ≡ m = cc in ap refusedLine q
+  prints-one (refuses e) (tells d t) = let z : _≡_ {A = ℕ} 0 1 = cc in absurd (omega arith)
+  prints-one (tells e t) (refuses d) = let z : _≡_ {A = ℕ} 0 1 = cc in absurd (omega arith)
+  prints-one (tells {s = s} e t) (tells {s = r} d u) =
+      let q : s ≡ r = cc in
+      let k = told-one t u in
+      λ i. verdictLine (q i .verdict) (q i .states) (q i .live) ++ k i
 
 -- A text of which that is said is the reply.
 pub record Writes (Said : List ℕ → Type 0) (before : List ℕ) (r : ℕ) (after : List ℕ) : Type 0 where
@@ -96,20 +79,36 @@ from-none : (s : State) (out : List ℕ) (n : ℕ) (r : Progress) → runFrom s 
 from-none s out zero r z = refl
 from-none s out (suc n) r z = absurd (omega arith)
 
-pub run-startable : {reading : ℕ} {input file marks events released after : List ℕ} {r : Code.Ran} → Prepares reading input file marks →
-    RunPromise reading file marks startState events released r after → r .refusal ≡ 0 → Startable reading file marks events
+pub run-startable : {reading : ℕ} {input : List ℕ} {s : Summary} → Passes reading input s →
+    Startable reading (policyPart input) (marksOf (policyOf reading (policyPart input))) (eventsPart input)
 unfolding runOf runRefusal
-run-startable {reading} {file = file} {marks = marks} {events = events} {released = released} p h z =
-    let n = from-none _ released _ _ (sym (ap (λ (q : RunAnswer). q .refusal) (h .said)) ∙ z) in
+run-startable {reading} {input} h =
+    let file = policyPart input in
+    let p = policyOf reading file in
+    let marks = marksOf p in
+    let n = from-none _ _ _ _ (h .ran) in
     let a = none-refused (marksRefusal reading file marks) _ .0 n in
-    let b = none-refused (unless (leb (length events) (length released)) 14) _ .0 (a .1) in
-    let c = none-refused (stateRefusal reading file marks startState) _ .0 (b .1) in
+    let b = none-refused (unless (leb (length (eventsPart input)) (length (lent (length (eventsPart input))))) 14) _ .0 (a .1) in
+    let c = none-refused (stateRefusal reading file marks (stateOf (start p))) _ .0 (b .1) in
+    let passes = under-none reading file .0 (marks-granted reading file marks .0 (a .0) .0) .1 in
     record {
       early = a .0;
-      marked = p .marked;
-      live = state-granted reading file marks startState .0 (c .0) .1;
+      marked = refl;
+      live =
+          subst (λ (z : State). isMarked marks (numberOf p (placeIn p z)) ≡ true) (start-is p (checked-file reading file passes .clocks))
+          (state-granted reading file marks (stateOf (start p)) .0 (c .0) .1);
       good = none-unless _ 14 .0 (c .1);
     }
+
+-- Where `enforce` releases the events, by the slices that the code has.
+module _ {reading : ℕ} {input : List ℕ} {s : Summary} {marks released : List ℕ} (k : Enforces reading input s marks released)
+    {file events : List ℕ} (policy : file ≡ policyPart input) (all : events ≡ eventsPart input) where
+  pub enforced-startable : Startable reading file (take (s .states) marks) events
+  enforced-startable = rw (policy, all, k .marked) (run-startable (k .passes))
+
+  pub enforced-tells : {bytes : List ℕ} → Told (policyOf reading file) (take (s .states) marks) 1 (start (policyOf reading file)) events bytes →
+      Prints reading input (verdictLine (s .verdict) (s .states) (s .live) ++ bytes)
+  enforced-tells t = tells (sym (k .said)) (rw (policy, all, k .marked) at t)
 
 -- By the layout.
 module _ {reading : ℕ} {file marks events : List ℕ} {l : Layout} (k : Granted reading file marks l) (h : Startable reading file marks events) where
@@ -142,44 +141,3 @@ module _ {reading : ℕ} {file marks events : List ℕ} {l : Layout} (k : Grante
   start-told {before} {after} {at} {r} t =
       subst (λ (n : ℕ). ToldFrom (policyOf n file) marks (start (policyOf n file)) events before at r after) (k .named)
       (subst (λ (z : Place). ToldFrom p marks z events before at r after) start-place t)
-
--- What is printed by each way through the checks.
-module _ (reading : ℕ) (input : List ℕ) where
-  pub policy-refused : {n : ℕ} → n ≡ inputRefusal input reading → (n ≡ 0 → ⊥) → Prints reading input (refusedLine n)
-  policy-refused {n = zero} e h = absurd (h refl)
-  policy-refused {n = suc n} e h = unframed (sym e)
-
-  pub policy-framed :
-      {marks after text : List ℕ} {r : Answered} → length marks ≡ 65536 → inputRefusal input reading ≡ 0 → PreparePromise reading (policyPart input) marks r after →
-      ToldText reading input (preparedSaid r) text → Prints reading input text
-  policy-framed {marks} {text = text} n e h t =
-      framed e
-      (subst (λ (o : Answer Summary). ToldText reading input o text)
-      (h .said ∙ sym (prepare-alike reading (policyPart input) (lent 65536) marks (lent-length 65536 ∙ sym n))) t)
-
-  module _ (s : Summary) where
-    pub events-refused : {n : ℕ} → n ≡ eventsFrameRefusal input → (n ≡ 0 → ⊥) → ToldText reading input (gives s) (refusedLine n)
-    unfolding eventsRefusal
-    events-refused {n = zero} e h = absurd (h refl)
-    events-refused {n = suc n} e h = unread {n = n} (rw (← e))
-
-    module _ {file marks : List ℕ} (p : Prepares reading input file marks) (placed : eventsFrameRefusal input ≡ 0)
-        (released : List ℕ) (room : length (eventsPart input) ≤ length released) {r : Code.Ran} {after : List ℕ}
-        (ran : RunPromise reading file marks startState (eventsPart input) released r after) where
-      over : eventsRefusal reading input ≡ r .refusal
-      unfolding eventsRefusal
-      over = rw placed (sym (run-over p released room ran .0))
-
-      pub run-refused : (r .refusal ≡ 0 → ⊥) → ToldText reading input (gives s) (refusedLine (r .refusal))
-      run-refused h = go (r .refusal) over h
-        where
-          go : (n : ℕ) → eventsRefusal reading input ≡ n → (n ≡ 0 → ⊥) → ToldText reading input (gives s) (refusedLine n)
-          go zero e h = absurd (h refl)
-          go (suc n) e h = unread {n = n} e
-
-      pub run-told : r .refusal ≡ 0 → {bytes : List ℕ} → Told (policyOf reading file) marks 1 (start (policyOf reading file)) (eventsPart input) bytes →
-          ToldText reading input (gives s) (verdictLine (s .verdict) (s .states) (s .live) ++ bytes)
-      run-told z {bytes} t =
-          tells (over ∙ z)
-          (subst (λ (f : List ℕ). Told (policyOf reading f) (marksOf (policyOf reading f)) 1 (start (policyOf reading f)) (eventsPart input) bytes) (p .part)
-          (subst (λ (m : List ℕ). Told (policyOf reading file) m 1 (start (policyOf reading file)) (eventsPart input) bytes) (p .marked) t))

@@ -2,22 +2,19 @@
 use crate::tell::tell;
 use console::EVENTS;
 use console::MARKS;
-use console::events_frame;
-use console::input_frame;
+use console::events_in;
+use console::outcome;
+use console::policy_in;
 use console::put_refused;
 use console::put_verdict;
 use enforcer::State;
-use enforcer::run;
-use fast::prepare;
 use policy::Layout;
 use prepare::Prepared;
-use prepare::Summary;
 use reasons::count;
 ghost use mathlib.Core.Path.{_≡_};
 ghost use mathlib.Core.Bool.{true};
 ghost use Prim.Native.Nat.{_+_, _*_, _≤_};
 ghost use lib.ListN.{length};
-ghost use Rattle.streams.specs.Answer.{gives};
 ghost use Rattle.policy.specs.Rules.{start};
 ghost use Rattle.policy.specs.File.{policyOf};
 ghost use Rattle.policy.specs.Number.{states};
@@ -26,11 +23,10 @@ ghost use Rattle.enforcer.specs.State.{place};
 ghost use Rattle.enforcer.specs.Entries.{eventGood};
 ghost use Rattle.enforcer.specs.Ready.{Laid};
 ghost use Rattle.prepare.specs.Table.{marksOf};
-ghost use Rattle.console.specs.Replies.{Prepares};
 ghost use Rattle.telling.specs.Text.{tickRoom};
 ghost use Rattle.telling.specs.Asked.{Asked};
 ghost use Rattle.telling.specs.Told.{ToldFrom};
-ghost use Rattle.telling.specs.Prints.{ToldText, Prints, Writes, Startable};
+ghost use Rattle.telling.specs.Prints.{Prints, Writes, Startable};
 
 // The text at the most: a verdict, 66 bytes, and for each event three lines, 373 bytes.
 pub const TEXT: usize = 66 + 373 * EVENTS;
@@ -88,38 +84,7 @@ fn tell_all(
     )
 }
 
-// The policy is prepared: the events are checked and told.
-fn reply_events(
-    reading: u8,
-    input: &[u8],
-    file: &[u8],
-    marks: &[u8],
-    summary: Summary,
-    released: &mut [u8],
-    ticks: &mut [u32],
-    rests: &mut [u32],
-    text: &mut [u8],
-) -> usize
-    requires { ⌜ Prepares reading (now input) (now file) (now marks) ⌝ }
-    requires { ⌜ (length (now released) ≡ 16384) × (length (now ticks) ≡ 65536) × (length (now rests) ≡ 65536) × (length (now text) ≡ 66 + tickRoom * 16384) ⌝ }
-    ensures { λ r. ⌜ Writes (ToldText reading (now (input .entry)) (gives summary)) (now (text .entry)) r (now (text .exit)) ⌝ }
-{
-    let frame = events_frame(input);
-    if frame.refusal != 0 {
-        return put_refused(text, 0, frame.refusal);
-    }
-    let start = frame.start;
-    let end = frame.end;
-    let events = &input[start..end];
-    let ran = run(reading, file, marks, State::start(), events, released);
-    if ran.refusal != 0 {
-        return put_refused(text, 0, ran.refusal);
-    }
-    let next = put_verdict(text, 0, summary.verdict, summary.states, summary.live);
-    tell_all(reading, file, marks, ticks, rests, events, text, next)
-}
-
-// The reading and the policy are checked, it is prepared, then come the events.
+// The line of the first refusal, or the lines of the run with the reasons.
 fn reply(
     reading: u8,
     input: &[u8],
@@ -132,28 +97,22 @@ fn reply(
     requires { ⌜ (length (now marks) ≡ 65536) × (length (now released) ≡ 16384) × (length (now ticks) ≡ 65536) × (length (now rests) ≡ 65536) × (length (now text) ≡ 66 + tickRoom * 16384) ⌝ }
     ensures { λ r. ⌜ Writes (Prints reading (now (input .entry))) (now (text .entry)) r (now (text .exit)) ⌝ }
 {
-    let frame = input_frame(reading, input);
-    if frame.refusal != 0 {
-        return put_refused(text, 0, frame.refusal);
-    }
-    let start = frame.start;
-    let end = frame.end;
-    let file = &input[start..end];
-    let prepared = prepare(reading, file, marks);
-    match prepared {
+    match outcome(reading, input, marks, released) {
         Prepared::Refused(n) => put_refused(text, 0, n),
         Prepared::Gives(summary) => {
+            let next = put_verdict(text, 0, summary.verdict, summary.states, summary.live);
+            let file = policy_in(input);
+            let events = events_in(input);
             let states = summary.states;
-            reply_events(
+            tell_all(
                 reading,
-                input,
                 file,
                 &marks[..states],
-                summary,
-                released,
                 ticks,
                 rests,
+                events,
                 text,
+                next,
             )
         }
     }

@@ -10,7 +10,7 @@ use native.Mathlib.Omega.{arith}
 use lib.ListN.{length, getD, take, drop, length-append, drop-of-length-le}
 use lib.Seq.{take-at}
 use borrow.Author.Tests.{le-leb}
-use Rattle.streams.specs.Answer.{gives, _orElse_, unless}
+use Rattle.streams.specs.Answer.{gives, answer, _orElse_, unless}
 use Rattle.streams.specs.AnswerLaws.{unless-le, else-le}
 use Rattle.streams.specs.Stream.{Stream, Hopeless}
 use Rattle.streams.specs.Corrections.{corrections}
@@ -35,9 +35,10 @@ use Rattle.texts.specs.Text.{decimal}
 use Rattle.console.specs.Text.{verdictLine, refusedLine}
 use Rattle.texts.specs.Decimal.{valueFrom, reads-back}
 use Rattle.console.specs.Frame.{countRefusal, policyFrameRefusal, policyPart, eventsFrameRefusal, eventsPart}
-use Rattle.console.specs.Printed.{unlessRefused, lent, ranOver, summaryLines, enforcedText, printed}
+use Rattle.console.specs.Outcome.{lent, eventsRefusal, outcome}
+use Rattle.console.specs.OutcomeLaws.{lent-length}
+use Rattle.console.specs.Printed.{unlessRefused, lineOr, ranOver, summaryLines, printed}
 use Rattle.console.specs.Reply.{Replied, replied-front}
-use Rattle.console.specs.Replies.{lent-length}
 use Rattle.tender.specs.Granted.{well-formed, judged, given-passed, given-goes-on, state-ready, ready-state, run-ready}
 use Rattle.tender.specs.Demand2.{ReleasedFor}
 use Rattle.tender.specs.Demand2Shown.{releases, as-many}
@@ -127,8 +128,15 @@ module _ (input : List ℕ) (framed : policyFrameRefusal input ≡ 0) where
       printed input
       ≡ unlessRefused (eventsFrameRefusal input orElse unless (allPass (eventGood 1 (policyPart input)) (eventsPart input)) 15)
       (summaryLines s (eventsPart input) (ranOver (policyPart input) (eventsPart input) .out))
-  unfolding printed enforcedText
-  printed-exactly s e = rw (framed, e, run-refused (policyPart input) s e (eventsPart input))
+  unfolding printed outcome eventsRefusal readingRefusal
+  printed-exactly s e =
+      rw (framed, e, run-refused (policyPart input) s e (eventsPart input))
+      (go (eventsFrameRefusal input orElse unless (allPass (eventGood 1 (policyPart input)) (eventsPart input)) 15)
+      (λ z. summaryLines z (eventsPart input) (ranOver (policyPart input) (eventsPart input) .out)))
+    where
+      go : (n : ℕ) (text : Summary → List ℕ) → lineOr (answer n s) text ≡ unlessRefused n (text s)
+      go zero text = refl
+      go (suc n) text = refl
 
   -- "one event is released for each one read": with events that are all there and within the signals, the lines hold exactly demand 2's stream.
   pub printed-releases :
@@ -154,7 +162,7 @@ module _ (input : List ℕ) (framed : policyFrameRefusal input ≡ 0) where
   -- printed exactly if it is hopeless, whatever the events are.
   pub printed-hopeless :
       refusalOf (policyPart input) ≡ 0 → (printed input ≡ refusedLine 11) ↔ Hopeless (Permits (policyOf 1 (policyPart input)))
-  unfolding printed enforcedText refusalUnder readingRefusal
+  unfolding printed outcome refusalUnder readingRefusal
   printed-hopeless passed =
       let file = policyPart input in
       let p = policyOf 1 file in
@@ -171,7 +179,7 @@ pub printed-eleven :
     (input : List ℕ)
     → (printed input ≡ refusedLine 11)
     ↔ ((policyFrameRefusal input ≡ 0) × (refusalOf (policyPart input) ≡ 0) × Hopeless (Permits (policyOf 1 (policyPart input))))
-unfolding printed enforcedText prepareOf marksRefusal refusalUnder readingRefusal
+unfolding printed outcome prepareOf marksRefusal refusalUnder readingRefusal
 printed-eleven input = (
   λ t. there (policyFrameRefusal input) refl (refusalOf (policyPart input)) refl t,
   λ h. printed-hopeless input (h .0) (h .1) .1 (h .2),

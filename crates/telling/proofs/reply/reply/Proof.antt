@@ -1,126 +1,80 @@
--- `telling::reply::reply` meets its contract: the policy's frame is refused, or prepare refuses, or the events are enforced.
-use mathlib.Core.Path.{_≡_, sym, ap, subst, _∙_}
-use mathlib.Core.List.{List}
-use Prim.Native.Nat.{ℕ, _-_}
+-- `telling::reply::reply` meets its contract: the line of a refusal, or the lines of what is told.
+use mathlib.Core.Path.{sym, ap, subst, _∙_}
+use mathlib.Core.List.{List, _++_}
+use Prim.Native.Nat.{ℕ, _≤_, zero-le}
 use native.Mathlib.Omega.{arith}
-use lib.ListN.{take, drop}
+use lib.ListN.{length}
 use lib.Seq.{length-take-le}
 use denote.Ref.{now}
 use borrow.Author.Needs.{needs}
-use Rattle.streams.specs.AnswerLaws.{none-refused}
-use Rattle.policy.specs.File.{pairAt}
-use Rattle.policy.specs.Check.{readingRefusal}
-use Rattle.prepare.specs.Promise.{preparedSaid, PreparePromise}
-use Rattle.prepare.specs.declared.Prepared.{Prepared}
-use Rattle.prepare.specs.declared.Prepared.the-variants as Prepared
-use Rattle.console.specs.Frame.{policyEnd, policyPart, inputRefusal}
-use Rattle.console.specs.Framed.{count-fits, part-between}
-use Rattle.console.specs.Text.{refusedLine}
+use Rattle.prepare.specs.Promise.{preparedSaid}
+use Rattle.texts.specs.WroteLaws.{wrote-then}
+use Rattle.console.specs.Framed.{events-few}
+use Rattle.console.specs.OutcomeLaws.{Enforces}
 use Rattle.console.specs.Reply.{replied}
-use Rattle.console.specs.Replies.{prepared-marks}
-use Rattle.telling.specs.Prints.{ToldText, unprepared, Prints, policy-refused, policy-framed}
-use Rattle.console.specs.declared.frame.Part.{Part}
+use Rattle.console.specs.Text.{refusedLine, verdictLine}
+use Rattle.telling.specs.Prints.{refuses, enforced-startable, enforced-tells}
 use Rattle.telling.proofs.reply.reply.Statement.{statement}
 use Rattle.telling.proofs.reply.reply.Tie as tie
 
-input-frame-requires : tie.Need-input-frame-requires
-input-frame-requires c κs = search needs
+abbrev start : tie.After-outcome → tie.Start
+start c = c .before .before .before .before .before .before .before .before .before
+
+-- Nothing is refused.
+abbrev place : tie.After-summary → tie.After-outcome
+place c = c .before .before .before .before .before .before
+
+enforced : (c : tie.After-summary) →
+    let o = place c in
+    Enforces (start o .args .reading) (now (start o .args .input)) (c .summary .given .0 .0) (o .outcome .last .1 .1 .0) (o .outcome .last .1 .1 .1 .0)
+enforced c = place c .outcome .ensures .enforces _ (c .summary .given .1)
+
+abbrev verdict : tie.After-events-in → tie.After-put-verdict
+verdict c = c .before .before .before .before
+
+abbrev given : tie.After-events-in → tie.After-summary
+given c = verdict c .before .before .before
+
+outcome-requires : tie.Need-outcome-requires
+outcome-requires c κs = search needs
+
+enum-known-n : tie.Need-enum-known-n
+enum-known-n c = search needs
 
 put-refused-requires : tie.Need-put-refused-requires
 put-refused-requires c κs = search needs
 
+enum-known-summary : tie.Need-enum-known-summary
+enum-known-summary c = search needs
+
+put-verdict-requires : tie.Need-put-verdict-requires
+put-verdict-requires c κs = search needs
+
+policy-in-requires : tie.Need-policy-in-requires
+policy-in-requires c κs = enforced (c .before .before .before .before .before) .passes .policy
+
+events-in-requires : tie.Need-events-in-requires
+events-in-requires c κs = enforced (c .before .before .before .before .before .before) .passes .events
+
+slice-reshare-prefix-tell-all : tie.Need-slice-reshare-prefix-tell-all
+slice-reshare-prefix-tell-all c = enforced (given c) .enough
+
+slice-aggregate-tell-all : tie.Need-slice-aggregate-tell-all
+slice-aggregate-tell-all c = sym (length-take-le _ _ (slice-reshare-prefix-tell-all (c .before)))
+
+tell-all-requires : tie.Need-tell-all-requires
+tell-all-requires c κs =
+    let e = c .before .before .before .before in
+    let v = verdict e in
+    let k = given e in
+    let s = start (place k) in
+    let n = subst (λ (events : List ℕ). length events ≤ 16384) (sym (e .events-in .ensures)) (events-few (now (s .args .input)) (enforced k .passes .events)) in (
+      enforced-startable (enforced k) (e .before .policy-in .ensures) (e .events-in .ensures),
+      (s .pre .2, s .pre .3, n, omega (arith, n, s .pre .4, v .put-verdict .kept .0, v .put-verdict .ensures .1)),
+    )
+
 same-length : tie.Need-same-length
 same-length c = search needs
-
-returns : tie.Need-returns
-returns c =
-    let i = c .before .before .before .before in
-    let f = i .before .before in
-    let s = f .before .before .before .before .before .before .before in
-    record {
-      text = refusedLine (f .input-frame .result .refusal);
-      said = policy-refused _ (now (s .args .input)) (ap (λ (p : Part). p .refusal) (f .input-frame .ensures)) (i .if1 .taken);
-      replied = replied (c .before .before .put-refused .ensures) (c .before .before .put-refused .kept .0);
-    }
-
--- The frame is not refused: where the policy stands.
-abbrev start : tie.Else1 → tie.Start
-start c = c .before .before .before .before .before .before .before .before .before
-
-abbrev reading : tie.Else1 → ℕ
-reading c = start c .args .reading
-
-abbrev input : tie.Else1 → List ℕ
-input c = now (start c .args .input)
-
-abbrev frame : tie.Else1 → Part
-frame c = c .before .before .input-frame .result
-
-passed : (c : tie.Else1) → inputRefusal (input c) (reading c) ≡ 0
-passed c = sym (ap (λ (p : Part). p .refusal) (c .before .before .input-frame .ensures)) ∙ c .if1 .left
-
-placed : (c : tie.Else1) → (frame c .start ≡ 2) × (frame c .end ≡ policyEnd (input c))
-placed c =
-    let e = c .before .before .input-frame .ensures in
-    (ap (λ (p : Part). p .start) e, ap (λ (p : Part). p .end) e)
-
-sub-file : tie.Need-sub-file
-sub-file c = omega (arith, placed c)
-
-part-file-start : tie.Need-part-file-start
-part-file-start c = omega (arith, placed c)
-
-part-file-end : tie.Need-part-file-end
-part-file-end c = omega (arith, placed c, count-fits (input c) 0 5974 (none-refused (readingRefusal (reading c)) _ .0 (passed c) .1))
-
--- It is the policy of the input.
-file-is : (c : tie.Else1) → take (frame c .end - frame c .start) (drop (frame c .start) (input c)) ≡ policyPart (input c)
-file-is c = part-between (input c) 2 (pairAt (input c) 0) (placed c .0) (placed c .1)
-
-prepare-requires : tie.Need-prepare-requires
-prepare-requires c κs = search needs
-
-enum-known-prepared : tie.Need-enum-known-prepared
-enum-known-prepared c = search needs
-
-put-refused-requires-2 : tie.Need-put-refused-requires-2
-put-refused-requires-2 c κs = search needs
-
-enum-known-prepared-2 : tie.Need-enum-known-prepared-2
-enum-known-prepared-2 c = search needs
-
--- What prepare promises of it.
-abbrev place : tie.After-prepare → tie.Else1
-place c = c .before .before .before
-
-abbrev Promised : tie.After-prepare → List ℕ → Prepared → Type 0
-Promised c file r = PreparePromise (reading (place c)) file (now (start (place c) .args .marks)) r (c .prepare .last .1 .1 .0)
-
-prepared : (c : tie.After-prepare) → Promised c (policyPart (input (place c))) (c .prepare .result)
-prepared c = subst (λ (file : List ℕ). Promised c file (c .prepare .result)) (file-is (place c)) (c .prepare .ensures)
-
-said : (c : tie.After-prepare) (text : List ℕ) → ToldText (reading (place c)) (input (place c)) (preparedSaid (c .prepare .result)) text → Prints (reading (place c)) (input (place c)) text
-said c text t = policy-framed _ _ (start (place c) .pre .0) (passed (place c)) (prepared c) t
-
--- It gives a summary: the marks of the policy stand in front.
-abbrev answered : tie.After-prepared2 → tie.After-prepare
-answered c = c .before .before .before .before
-
-known : (c : tie.After-prepared2) → Promised (answered c) (policyPart (input (place (answered c)))) (Prepared.Gives (c .prepared2 .given .0 .0))
-known c = subst (Promised (answered c) (policyPart (input (place (answered c))))) (c .prepared2 .given .1) (prepared (answered c))
-
-slice-reshare-prefix-reply-events : tie.Need-slice-reshare-prefix-reply-events
-slice-reshare-prefix-reply-events c = prepared-marks (known (c .before)) .1
-
-slice-aggregate-reply-events : tie.Need-slice-aggregate-reply-events
-slice-aggregate-reply-events c = sym (length-take-le _ _ (slice-reshare-prefix-reply-events (c .before)))
-
-reply-events-requires : tie.Need-reply-events-requires
-reply-events-requires c κs =
-    let k = c .before .before .before .before .before .before in
-    let p = place (answered k) in
-    let m = prepared-marks (known k) in
-    (record { part = file-is p; passes = rw (file-is p) (m .0); marked = rw (file-is p) (m .2) }, (start p .pre .1, start p .pre .2, start p .pre .3, start p .pre .4))
 
 same-length-2 : tie.Need-same-length-2
 same-length-2 c = search needs
@@ -128,16 +82,15 @@ same-length-2 c = search needs
 same-length-3 : tie.Need-same-length-3
 same-length-3 c = search needs
 
-returns-2 : tie.Need-returns-2
-returns-2 c =
-    let r = c .before .before in
-    let k = r .before .before .before in
-    let p = k .before .before .before .before in
-    let n = k .prepared .given .0 .0 in
+returns : tie.Need-returns
+returns c =
+    let f = c .before .before in
+    let k = f .before .before .before in
+    let o = k .before .before .before .before .before .before in
     record {
-      text = refusedLine n;
-      said = said p (refusedLine n) (subst (λ (a : Prepared). ToldText (reading (place p)) (input (place p)) (preparedSaid a) (refusedLine n)) (sym (k .prepared .given .1)) unprepared);
-      replied = replied (r .put-refused2 .ensures) (r .put-refused2 .kept .0);
+      text = refusedLine (k .n .given .0 .0);
+      said = refuses (sym (o .outcome .ensures .said) ∙ ap preparedSaid (k .n .given .1));
+      replied = replied (f .put-refused .ensures) (f .put-refused .kept .0);
     }
 
 same-length-4 : tie.Need-same-length-4
@@ -155,42 +108,41 @@ same-length-7 c = search needs
 same-length-8 : tie.Need-same-length-8
 same-length-8 c = search needs
 
-returns-3 : tie.Need-returns-3
-returns-3 c =
-    let r = c .before .before .before .before .before .before .before .before in
-    let k = r .before .before .before .before .before .before .before in
-    let p = answered k in
-    let w = r .reply-events .ensures in
+returns-2 : tie.Need-returns-2
+returns-2 c =
+    let t = c .before .before .before .before .before .before in
+    let e = t .before .before .before .before .before in
+    let v = verdict e in
+    let k = given e in
+    let s = k .summary .given .0 .0 in
+    let w = t .tell-all .ensures in
     record {
-      text = w .text;
-      said = said p (w .text) (subst (λ (a : Prepared). ToldText (reading (place p)) (input (place p)) (preparedSaid a) (w .text)) (sym (k .prepared2 .given .1)) (w .said));
-      replied = w .replied;
+      text = verdictLine (s .verdict) (s .states) (s .live) ++ w .bytes;
+      said = enforced-tells (enforced k) (e .before .policy-in .ensures) (e .events-in .ensures) (w .told);
+      replied = replied (wrote-then zero-le (v .put-verdict .ensures .0) (w .wrote)) (t .tell-all .kept .1 .1 .1 .1 .1 .1 .0 ∙ v .put-verdict .kept .0);
     }
 
 pub reply-spec : {M : Type 1} → statement M
 reply-spec =
     tie.close
     (tie.spec
-    input-frame-requires
+    outcome-requires
+    enum-known-n
     put-refused-requires
+    enum-known-summary
+    put-verdict-requires
+    policy-in-requires
+    events-in-requires
+    slice-reshare-prefix-tell-all
+    slice-aggregate-tell-all
+    tell-all-requires
     same-length
-    returns
-    sub-file
-    part-file-start
-    part-file-end
-    prepare-requires
-    enum-known-prepared
-    put-refused-requires-2
-    enum-known-prepared-2
-    slice-reshare-prefix-reply-events
-    slice-aggregate-reply-events
-    reply-events-requires
     same-length-2
     same-length-3
-    returns-2
+    returns
     same-length-4
     same-length-5
     same-length-6
     same-length-7
     same-length-8
-    returns-3)
+    returns-2)

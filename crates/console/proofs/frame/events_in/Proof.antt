@@ -1,0 +1,52 @@
+-- `console::frame::events_in` meets its contract: the events end with the input.
+use mathlib.Core.Path.{_≡_, sym, ap}
+use Prim.Native.Nat.{ℕ, _+_}
+use native.Mathlib.Omega.{arith}
+use lib.ListN.{length}
+use denote.Ref.{now}
+use borrow.Author.Needs.{needs}
+use Rattle.policy.specs.File.{pairAt}
+use Rattle.console.specs.Frame.{policyEnd, eventsStart, eventsEnd}
+use Rattle.console.specs.Framed.{events-fit, part-between}
+use Rattle.console.proofs.frame.events_in.Statement.{statement}
+use Rattle.console.proofs.frame.events_in.Tie as tie
+
+ends : (c : tie.After-pair-at) → let input = now (c .before .before .args .input) in eventsEnd input ≡ length input
+ends c = let s = c .before .before in events-fit (now (s .args .input)) (s .pre) .1
+
+pair-at-requires : tie.Need-pair-at-requires
+pair-at-requires c κs = search needs
+
+add-start : tie.Need-add-start
+add-start c = search needs
+
+add-start-2 : tie.Need-add-start-2
+add-start-2 c = search needs
+
+sub-result : tie.Need-sub-result
+sub-result c = omega (arith, c .pair-at .ensures .0, ends c)
+
+part-result-start : tie.Need-part-result-start
+part-result-start c = omega (arith, c .pair-at .ensures .0, ends c)
+
+part-result-end : tie.Need-part-result-end
+part-result-end c = search needs
+
+returns : tie.Need-returns
+returns c =
+    let p = c .before in
+    let input = now (p .before .before .args .input) in
+    part-between input (eventsStart input) (pairAt input (policyEnd input)) {start = 2 + p .pair-at .result + 2} {end = length input}
+    (ap (λ (n : ℕ). 2 + n + 2) (p .pair-at .ensures .0)) (sym (ends p))
+
+pub events-in-spec : {M : Type 1} → statement M
+events-in-spec =
+    tie.close
+    (tie.spec
+    pair-at-requires
+    add-start
+    add-start-2
+    sub-result
+    part-result-start
+    part-result-end
+    returns)
