@@ -15,5 +15,6 @@ pub mod Turns
 pub mod Roots
 pub mod Reached
 pub mod Entry
+pub mod InSlices
 pub mod Promise
 pub mod PromiseLaws
