@@ -1,15 +1,13 @@
 -- What the code has of a rule whose words it reads, as what the definitions have of it.
-use mathlib.Core.Path.{_≡_, refl, ap, sym, _∙_}
-use mathlib.Core.Bool.{Bool, true, false}
+use mathlib.Core.Path.{_≡_, refl, ap}
 use mathlib.Core.List.{List, [], _∷_}
 use Prim.Native.Nat.{ℕ, zero, suc, _+_, _*_, _/_, _%_, _^_, _≤_, _<_, min, max}
 use native.Mathlib.Omega.{arith}
-use lib.Dec.{eqb}
-use lib.ListN.{length, getD, set}
+use lib.ListN.{getD, set}
 use borrow.Author.Tests.{eq-eqb, ne-eqb}
 use Rattle.streams.specs.Answer.{Answer, refused, gives, answer}
 use Rattle.policy.specs.Rules.{Bound}
-use Rattle.wording.specs.Reader.{Part, opening, more, arrow, sign, atLeast, atMost, goes, gone, clears, Begun, unset, atLeastOf, atMostOf, change, onBound, onSignal, onReset}
+use Rattle.wording.specs.Reader.{Part, opening, more, arrow, sign, atLeast, atMost, goes, gone, clears, Begun, atLeastOf, atMostOf, change, onBound, onSignal, onReset}
 use Rattle.conditions.specs.declared.steps.Parsed.{Parsed}
 use Rattle.conditions.specs.declared.steps.Step.{Step}
 

@@ -12,7 +12,7 @@ use Rattle.policy.specs.File.{policyOf}
 use Rattle.enforcer.specs.Tick.{reaches, mayStand, inputChoice}
 use Rattle.enforcer.specs.Code.{stepFrom}
 use Rattle.enforcer.specs.Arrived.{arrival, arrival-says, arrival-some, output-kept}
-use Rattle.enforcer.specs.Entries.{OutputAnswer, inputPast, outputPast}
+use Rattle.enforcer.specs.Entries.{inputPast, outputPast}
 use Rattle.enforcer.specs.declared.state.State.{State}
 use Rattle.enforcer.specs.declared.next.Step.{Step}
 

@@ -1,5 +1,5 @@
 -- The call of the check: its word, that one answer alone meets it, that the answer comes back from its word, and that it tells how many marks are enough.
-use mathlib.Core.Path.{_≡_, refl, sym, ap, _∙_}
+use mathlib.Core.Path.{_≡_, refl, sym, _∙_}
 use mathlib.Core.List.{List}
 use Prim.Native.Nat.{ℕ, zero, suc, _+_, _*_, _/_, _%_, _≤_}
 use native.Mathlib.Omega.{arith}

@@ -1,17 +1,14 @@
 -- What a word does in each part of a rule, by the number of the word of the language that it is.
 use mathlib.Core.Path.{_≡_, refl, ap, sym, _∙_}
-use mathlib.Core.Bool.{Bool, true, false}
-use mathlib.Core.List.{List, []}
-use mathlib.Core.Option.{Option, none, some}
-use Prim.Native.Nat.{ℕ, zero, suc, _≤_, _<_}
+use mathlib.Core.Bool.{true, false}
+use mathlib.Core.List.{[]}
+use Prim.Native.Nat.{ℕ, zero, suc, _<_}
 use native.Mathlib.Omega.{arith}
-use lib.Dec.{leb, eqb}
 use lib.ListN.{getD}
-use borrow.Author.Tests.{eq-eqb, ne-eqb, lt-ltb, le-ltb}
+use borrow.Author.Tests.{eq-eqb, ne-eqb}
 use Rattle.streams.specs.Answer.{Answer, refused, gives, answer}
-use Rattle.texts.specs.Decimal.{valueFrom}
 use Rattle.wording.specs.Words.{Word}
-use Rattle.wording.specs.Names.{same, find, isNumber, _andThen_, must, known, numbered}
+use Rattle.wording.specs.Names.{same, find, _andThen_, known, numbered}
 use Rattle.words.specs.Spans.{placeBelow}
 use Rattle.words.specs.Keywords.{keywords, keyword-is}
 use Rattle.words.specs.Counted.{numberOf, numbered-then}

@@ -1,15 +1,12 @@
 -- A rule's words, one after another, by what the code has of it.
 use mathlib.Core.Path.{_≡_, refl, ap, sym, _∙_}
-use mathlib.Core.Bool.{Bool, true, false, cond}
 use mathlib.Core.List.{List, [], _∷_}
-use Prim.Native.Nat.{ℕ, zero, suc, _+_, _-_, _≤_, _<_}
+use Prim.Native.Nat.{ℕ, zero, suc, _-_, _≤_, _<_}
 use native.Mathlib.Omega.{arith}
-use lib.Dec.{ltb}
-use lib.ListN.{length, getD, take, drop, replicate, drop-of-length-le}
+use lib.ListN.{length, take, drop, replicate, drop-of-length-le}
 use borrow.Author.Tests.{lt-ltb, le-ltb}
-use Rattle.streams.specs.Answer.{Answer, refused, gives, answer}
-use Rattle.policy.specs.Rules.{Bound}
-use Rattle.wording.specs.Words.{Word, Line, wordsOf}
+use Rattle.streams.specs.Answer.{Answer, gives, answer}
+use Rattle.wording.specs.Words.{wordsOf}
 use Rattle.wording.specs.Names.{_andThen_, through}
 use Rattle.words.specs.Lex.{Next}
 use Rattle.wording.specs.Reader.{Scope, Begun, noBound, bare, wordAt, ruleWord}

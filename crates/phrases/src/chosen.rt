@@ -11,7 +11,7 @@ use crate::ways::on_opening;
 use conditions::steps::Parsed;
 use conditions::steps::Step;
 ghost use mathlib.Core.Path.{_≡_};
-ghost use Prim.Native.Nat.{ℕ, _≤_, _<_};
+ghost use Prim.Native.Nat.{ℕ, _≤_};
 ghost use lib.ListN.{length};
 ghost use Rattle.words.specs.Spans.{spans, Within};
 ghost use Rattle.wording.specs.Reader.{wordAt};

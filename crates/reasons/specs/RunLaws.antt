@@ -1,6 +1,6 @@
 -- The walk of `why_run` over the events: where its loop stands, a turn, and its end; what no refusal makes sure of, and what is answered then.
 use mathlib.Core.Path.{_≡_, refl, sym, ap, subst, _∙_}
-use mathlib.Core.Bool.{Bool, true, false, not, _&&_, and-eq-true-iff}
+use mathlib.Core.Bool.{Bool, true, false, _&&_, and-eq-true-iff}
 use mathlib.Core.List.{List, [], _∷_, _++_, map, map-append}
 use mathlib.Core.Logic.{by-cases}
 use mathlib.Core.Option.{some}
@@ -22,14 +22,13 @@ use Rattle.policy.specs.Number.{states, numberOf}
 use Rattle.policy.specs.Sound.{WellFormed, Inside}
 use Rattle.policy.specs.Checked.{well-sound, all-at}
 use Rattle.policy.specs.declared.Layout.{Layout}
-use Rattle.enforcer.specs.State.{isMarked, place, placeIn, stateOf}
+use Rattle.enforcer.specs.State.{isMarked, place, stateOf}
 use Rattle.enforcer.specs.Tick.{ReleasedTick, Progress, tick, ran}
 use Rattle.enforcer.specs.Ticks.{ticked, ran-on}
-use Rattle.enforcer.specs.Code.{eventXY}
 use Rattle.enforcer.specs.Entries.{eventOf, xGood, yGood, eventGood, marksRefusal, stateRefusal, runRefusal, runOf}
 use Rattle.enforcer.specs.Ready.{Laid, Standing}
 use Rattle.enforcer.specs.Laid.{laid-well, laid-place, place-back, placeIn-stateOf}
-use Rattle.enforcer.specs.States.{inside-good, state-granted, granted-standing}
+use Rattle.enforcer.specs.States.{inside-good, state-granted}
 use Rattle.enforcer.specs.declared.state.State.{State}
 use Rattle.prepare.specs.Enforcing.{AsPrepared, MarkedPlace}
 use Rattle.prepare.specs.Enforces.{tick-ready, ticked-ready}
@@ -39,7 +38,7 @@ use Rattle.reasons.specs.Entry.{Reasons, otherMarks, whyRefusal, WhyAnsw
 use Rattle.reasons.specs.Edited.{marks-prepared}
 use Rattle.reasons.specs.Halves.{BothTold, Moves}
 use Rattle.reasons.specs.Word.{reasonsWord}
-use Rattle.reasons.specs.Runs.{Room, shortestOf, roomRefusal, earlyRefusal, whyRunRefusal, stateBefore, WhyThere, WhyRunAnswers, refuses, explains}
+use Rattle.reasons.specs.Runs.{Room, shortestOf, roomRefusal, earlyRefusal, whyRunRefusal, WhyThere, WhyRunAnswers, refuses, explains}
 
 -- With the marks of prepare a run from a marked place goes on for every event, and stands in a marked place.
 module _ (p : Policy) (ok : WellFormed p) (marks : List ℕ) (by : AsPrepared p marks) where

@@ -6,7 +6,7 @@ use native.Mathlib.Omega.{arith}
 use lib.ListN.{length, take, drop}
 use borrow.Author.Tests.{le-leb, lt-leb}
 use Rattle.policy.specs.Check.{refusalOf}
-use Rattle.policy.specs.Layout.{CheckPromise, layoutOf, checkedOf}
+use Rattle.policy.specs.Layout.{CheckPromise, layoutOf}
 use Rattle.policy.specs.LayoutLaws.{checked-says}
 use Rattle.policy.specs.declared.Checked.{Checked}
 use Rattle.texts.specs.Wrote.{Wrote}

@@ -1,6 +1,6 @@
 -- Of two corrections one is nearer, and no two tie.
 use mathlib.Core.Path.{_≡_, refl, sym, ap, _∙_, subst}
-use mathlib.Core.Logic.{_⊎_, inl, inr, ⊎-elim, dite}
+use mathlib.Core.Logic.{inl, inr, ⊎-elim, dite}
 use Prim.Native.Nat.{ℕ, zero, suc, _/_, _%_, _≤_, _<_}
 use native.Mathlib.Decide.{decLe}
 use native.Mathlib.Nat.{eq-or-lt-of-le, eq-zero-or-pos, le-of-suc-le-suc, not-suc-le-zero}

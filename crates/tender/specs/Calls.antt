@@ -1,14 +1,13 @@
 -- Each function in C is the entry below it: what it returned and left keeps that entry's promise, with the answer that the header's macros read from its word.
 -- So whatever is said of the entries' promises holds of the functions in C.
 use mathlib.Core.Path.{_≡_, refl, sym, ap, ap₂, subst, _∙_}
-use mathlib.Core.Bool.{Bool, true, false, cond}
+use mathlib.Core.Bool.{Bool, true, cond}
 use mathlib.Core.List.{List}
 use mathlib.Core.Logic.{_↔_}
 use Prim.Native.Nat.{ℕ, zero, suc, _/_, _%_, _^_, _<_}
 use native.Mathlib.Omega.{arith}
-use lib.Dec.{eqb}
 use lib.ListN.{length}
-use borrow.Author.Tests.{eq-eqb, eqb-true}
+use borrow.Author.Tests.{eq-eqb}
 use Rattle.streams.specs.Answer.{refused, gives, answer}
 use Rattle.streams.specs.Answer as Said
 use Rattle.streams.specs.AnswerLaws.{given-only}

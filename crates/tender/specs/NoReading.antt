@@ -3,14 +3,11 @@
 use mathlib.Core.Path.{_≡_, refl, sym, ap, _∙_}
 use mathlib.Core.Bool.{Bool, true, false, cond}
 use mathlib.Core.List.{List}
-use Prim.Native.Nat.{ℕ, _%_}
+use Prim.Native.Nat.{ℕ}
 use native.Mathlib.Omega.{arith}
 use lib.ListN.{length}
-use borrow.Author.Tests.{eqb-true}
-use Rattle.streams.specs.Answer.{Answer, refused, gives, _orElse_}
-use Rattle.policy.specs.declared.Checked.{Checked}
 use Rattle.policy.specs.Layout.{checkedUnder, noLayout}
-use Rattle.enforcer.specs.Entries.{OutputAnswer, RunAnswer, inputOf, outputOf, runOf}
+use Rattle.enforcer.specs.Entries.{OutputAnswer}
 use Rattle.enforcer.specs.Promises.{InputPromise, OutputPromise, RunPromise, input-one, output-one, run-one}
 use Rattle.enforcer.specs.declared.state.State.{State}
 use Rattle.enforcer.specs.declared.halves.HalfAnswer.{HalfAnswer}
@@ -23,15 +20,15 @@ use Rattle.prepare.specs.declared.Prepared.the-variants as Prepared
 use Rattle.fast.specs.Entry.{Work, shortest, lentRefusal}
 use Rattle.fast.specs.Promise.{FastPromise}
 use Rattle.fast.specs.PromiseLaws.{first-refusals}
-use Rattle.indexed.specs.Entries.{earlyRefusal, indexRefusal, inputIndexedOf, outputIndexedOf}
+use Rattle.indexed.specs.Entries.{earlyRefusal, indexRefusal}
 use Rattle.indexed.specs.Promises.{InputIndexedPromise, OutputIndexedPromise, input-one as input-indexed-one, output-one as output-indexed-one}
-use Rattle.reasons.specs.Entry.{WhyAnswers, refuses, answers-one}
+use Rattle.reasons.specs.Entry.{refuses, answers-one}
 use Rattle.reasons.specs.Promise.{WhyPromise, why-one}
 use Rattle.reasons.specs.Word.{whyWord}
 use Rattle.reasons.specs.Runs.{Room, shortestOf, roomRefusal, earlyRefusal as earlyRunRefusal, whyRunRefusal, WhyRunPromise, refuses as run-refuses, run-answers-one, why-run-one}
 use Rattle.reasons.specs.declared.entry.WhyAnswer.{WhyAnswer}
 use Rattle.reasons.specs.declared.entry.WhyAnswer.the-variants as WhyAnswer
-use Rattle.bays.specs.Five.{stateWords, stateIn, words-back}
+use Rattle.bays.specs.Five.{stateIn}
 use Rattle.bays.specs.Odd.{oddRefusal}
 use Rattle.bays.specs.Entries.{BayAnswer}
 use Rattle.bays.specs.Promises.{BayInputPromise, BayOutputPromise, bay-input-one, bay-output-one}
@@ -40,11 +37,11 @@ use Rattle.meter.specs.Promises.{MeterInputPromise, MeterOutputPromise, meter-i
 use Rattle.cleaning.specs.Promise.{CleanPromise, clean-one}
 use Rattle.cleaning.specs.declared.Cleaned.{Cleaned}
 use Rattle.cleaning.specs.declared.Cleaned.the-variants as Cleaned
-use Rattle.groovepawn.specs.Words.{answerWord, summaryWord, ranWord, isState, prepareWord, inputWord, outputWord, outputState, runWord, runState, runOut}
+use Rattle.groovepawn.specs.Words.{answerWord, summaryWord, ranWord, isState, prepareWord, inputWord, outputWord, runWord}
 use Rattle.groovepawn.specs.Calls.{PrepareCall, InputCall, OutputCall, RunCall}
 use Rattle.groovepawn.specs.Stays.{output-stays, run-stays}
 use Rattle.groovepawn.specs.Fast.{FastCall}
-use Rattle.groovepawn.specs.Indexed.{InputIndexedCall, OutputIndexedCall, inputIndexedWord, outputIndexedWord, outputIndexedState, oddIndexed}
+use Rattle.groovepawn.specs.Indexed.{InputIndexedCall, OutputIndexedCall, inputIndexedWord, outputIndexedWord, oddIndexed}
 use Rattle.groovepawn.specs.IndexedLaws.{output-indexed-stays}
 use Rattle.groovepawn.specs.Bays.{BayInputCall, BayOutputCall}
 use Rattle.groovepawn.specs.Meter.{MeterInputCall, MeterOutputCall}

@@ -1,7 +1,7 @@
 -- The halves of the code, used tick after tick: what they release is what the run of the code releases, from the start it is demand 2's stream, and they never stop.
 use mathlib.Core.Path.{_≡_, refl, sym, ap, subst, _∙_}
 use mathlib.Core.List.{List, [], _∷_, _++_, map}
-use Prim.Native.Nat.{ℕ, _+_, _-_, _≤_, _<_}
+use Prim.Native.Nat.{ℕ, _≤_, _<_}
 use lib.ListN.{length, drop, length-map}
 use borrow.Author.Tests.{lt-ltb, ltb-true}
 use Rattle.streams.specs.Answer.{gives}

@@ -4,7 +4,6 @@ use texts::put_decimal;
 ghost use mathlib.Core.Path.{_≡_};
 ghost use Prim.Native.Nat.{_+_, _≤_};
 ghost use lib.ListN.{length};
-ghost use Rattle.texts.specs.Text.{decimal};
 ghost use Rattle.texts.specs.Wrote.{Wrote};
 ghost use Rattle.waves.specs.Wave.{varLine, varLines, timeLine, valueLine, valueLines, eventLines};
 ghost use Rattle.waves.specs.Streams.{opening};

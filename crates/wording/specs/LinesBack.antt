@@ -1,5 +1,5 @@
 -- The lines of a policy are read as that policy.
-use mathlib.Core.Path.{_≡_, refl, ap, ap₂, sym, _∙_}
+use mathlib.Core.Path.{_≡_, refl, ap, sym, _∙_}
 use mathlib.Core.Bool.{Bool, true, false, not, _||_, and-eq-true-iff}
 use mathlib.Core.List.{List, [], _∷_, _++_, append-assoc, append-nil}
 use mathlib.Core.Option.{Option, none, some}
@@ -18,7 +18,6 @@ use Rattle.texts.specs.Decimal.{decimal-short}
 use Rattle.wording.specs.Words.{Word, Line}
 use Rattle.wording.specs.Names.{same, find, isLower, isDigit, every, isPlain, isName, through, _andThen_, nameOf, namesFrom}
 use Rattle.wording.specs.NamesBack.{find-name, find-none, names-length, names-more, number-is, number-read, digits-in, through-none, through-more}
-use Rattle.wording.specs.ConditionsBack.{Unnamed}
 use Rattle.wording.specs.RuleBack.{Declared, rule-read}
 use Rattle.wording.specs.Reader.{Draft, empty, signalLine, inputLine, outputLine, clockLine, newPlace, locationLine, risen, atLine, addRule, readLine, reads, proceed, readLines, policyFrom}
 use Rattle.wording.specs.Writer.{clockName, placeName, clockLines, leftWords, locationLines, signalLines, isAt, atLines, ruleWords, ruleLines, policyLines}

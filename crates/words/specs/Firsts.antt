@@ -1,12 +1,12 @@
 -- The words of a line that is a part of the text, as parts of the text.
-use mathlib.Core.Path.{_≡_, refl, ap, sym, _∙_}
-use mathlib.Core.Bool.{Bool, true, false, cond}
+use mathlib.Core.Path.{_≡_, ap, sym, _∙_}
+use mathlib.Core.Bool.{cond}
 use mathlib.Core.List.{List, [], _∷_}
 use Prim.Native.Nat.{ℕ, zero, suc, _+_, _-_, _≤_, _<_}
 use native.Mathlib.Omega.{arith}
 use lib.Dec.{ltb}
 use lib.ListN.{length, take, drop, length-take}
-use lib.Seq.{take-take, take-nil, drop-nil}
+use lib.Seq.{take-take, take-nil}
 use borrow.Author.Tests.{lt-ltb, le-ltb}
 use Rattle.policy.specs.File.{part}
 use Rattle.wording.specs.Words.{Word, Line, wordsOf}

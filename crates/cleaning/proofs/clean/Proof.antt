@@ -21,9 +21,6 @@ numbered c =
     let a = c .before .before .before .before .args in
     ap (λ (r : Checked). r .refusal) (c .check-under .ensures) ∙ under-says (a .reading) (now (a .file)) .0
 
-check-under-requires : tie.Need-check-under-requires
-check-under-requires c κs = search needs
-
 returns : tie.Need-returns
 returns c =
     let k = c .before in
@@ -36,12 +33,6 @@ clean-with-requires c κs =
     let a = k .before .before .before .before .args in
     laid-of (a .reading) (now (a .file)) (k .check-under .result) (k .check-under .ensures) (c .before .before .before .before .before .if1 .left) .0
 
-same-length : tie.Need-same-length
-same-length c = search needs
-
-same-length-2 : tie.Need-same-length-2
-same-length-2 c = search needs
-
 returns-2 : tie.Need-returns-2
 returns-2 c =
     let k = c .before .before .before .before .before .before .before .before .before .before .before in
@@ -53,4 +44,4 @@ returns-2 c =
     (subst (λ (n : ℕ). WritesPromise (cleanedFile n (now (a .file))) (struckList n (now (a .file))) (now (a .out)) (now (a .list)) (w .result) (w .last .1 .1 .1 .1 .0) (w .last .1 .1 .1 .1 .1 .0)) l (w .ensures))
 
 pub clean-spec : {M : Type 1} → statement M
-clean-spec = tie.close (tie.spec check-under-requires returns clean-with-requires same-length same-length-2 returns-2)
+clean-spec = tie.close (tie.spec (λ c κs. search needs) returns clean-with-requires (λ c. search needs) (λ c. search needs) returns-2)

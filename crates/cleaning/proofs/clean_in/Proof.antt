@@ -72,18 +72,6 @@ write-requires c κs =
       rules = length-take-le _ (d .find .last .1 .1 .1 .0) (found d .1);
     }
 
-same-length : tie.Need-same-length
-same-length c = search needs
-
-same-length-2 : tie.Need-same-length-2
-same-length-2 c = search needs
-
-same-length-3 : tie.Need-same-length-3
-same-length-3 c = search needs
-
-same-length-4 : tie.Need-same-length-4
-same-length-4 c = search needs
-
 returns : tie.Need-returns
 returns c =
     let s = c .before .before .before .before .before .before .before .before .before .before .before .before .before .before .before .before .before .before .before .before .before in
@@ -104,16 +92,5 @@ pub clean-in-spec : {M : Type 1} → statement M
 clean-in-spec =
     tie.close
     (tie.spec
-    slice-relend-prefix-find
-    slice-aggregate-find
-    find-requires
-    slice-reshare-prefix-write
-    slice-aggregate-write
-    slice-reshare-prefix-write-2
-    slice-aggregate-write-2
-    write-requires
-    same-length
-    same-length-2
-    same-length-3
-    same-length-4
-    returns)
+    slice-relend-prefix-find slice-aggregate-find find-requires slice-reshare-prefix-write slice-aggregate-write slice-reshare-prefix-write-2
+    slice-aggregate-write-2 write-requires (λ c. search needs) (λ c. search needs) (λ c. search needs) (λ c. search needs) returns)

@@ -5,20 +5,11 @@ use Rattle.join.specs.Laying.{laid-nowhere}
 use Rattle.cleaning.proofs.list_length.Statement.{statement}
 use Rattle.cleaning.proofs.list_length.Tie as tie
 
-slice-relend-prefix-lay-list : tie.Need-slice-relend-prefix-lay-list
-slice-relend-prefix-lay-list c = search needs
-
-slice-aggregate-lay-list : tie.Need-slice-aggregate-lay-list
-slice-aggregate-lay-list c = search needs
-
 lay-list-requires : tie.Need-lay-list-requires
 lay-list-requires c κs = c .before .before .before .before .before .pre
-
-same-length : tie.Need-same-length
-same-length c = search needs
 
 returns : tie.Need-returns
 returns c = let e = c .before .before .lay-list .ensures in (omega (arith, e .ends), rw (laid-nowhere e))
 
 pub list-length-spec : {M : Type 1} → statement M
-list-length-spec = tie.close (tie.spec slice-relend-prefix-lay-list slice-aggregate-lay-list lay-list-requires same-length returns)
+list-length-spec = tie.close (tie.spec (λ c. search needs) (λ c. search needs) lay-list-requires (λ c. search needs) returns)

@@ -5,20 +5,11 @@ use Rattle.join.specs.Laying.{laid-nowhere}
 use Rattle.cleaning.proofs.policy_length.Statement.{statement}
 use Rattle.cleaning.proofs.policy_length.Tie as tie
 
-slice-relend-prefix-lay-policy : tie.Need-slice-relend-prefix-lay-policy
-slice-relend-prefix-lay-policy c = search needs
-
-slice-aggregate-lay-policy : tie.Need-slice-aggregate-lay-policy
-slice-aggregate-lay-policy c = search needs
-
 lay-policy-requires : tie.Need-lay-policy-requires
 lay-policy-requires c κs = c .before .before .before .before .before .pre
-
-same-length : tie.Need-same-length
-same-length c = search needs
 
 returns : tie.Need-returns
 returns c = let e = c .before .before .lay-policy .ensures in (omega (arith, e .ends), rw (laid-nowhere e))
 
 pub policy-length-spec : {M : Type 1} → statement M
-policy-length-spec = tie.close (tie.spec slice-relend-prefix-lay-policy slice-aggregate-lay-policy lay-policy-requires same-length returns)
+policy-length-spec = tie.close (tie.spec (λ c. search needs) (λ c. search needs) lay-policy-requires (λ c. search needs) returns)

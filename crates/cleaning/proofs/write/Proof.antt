@@ -77,16 +77,5 @@ pub write-spec : {M : Type 1} → statement M
 write-spec =
     tie.close
     (tie.spec
-    policy-length-requires
-    list-length-requires
-    same-length
-    same-length-2
-    returns
-    same-length-3
-    same-length-4
-    returns-2
-    lay-policy-requires
-    lay-list-requires
-    same-length-5
-    same-length-6
-    returns-3)
+    policy-length-requires list-length-requires same-length same-length-2 returns same-length-3 same-length-4 returns-2 lay-policy-requires
+    lay-list-requires same-length-5 same-length-6 returns-3)

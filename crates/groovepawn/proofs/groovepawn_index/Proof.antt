@@ -3,17 +3,8 @@ use borrow.Author.Needs.{needs}
 use Rattle.groovepawn.proofs.groovepawn_index.Statement.{statement}
 use Rattle.groovepawn.proofs.groovepawn_index.Tie as tie
 
-build-requires : tie.Need-build-requires
-build-requires c κs = search needs
-
-cast-result : tie.Need-cast-result
-cast-result c = search needs
-
-same-length : tie.Need-same-length
-same-length c = search needs
-
 returns : tie.Need-returns
 returns c = record { said = c .before .before .build .ensures .refuses; index = c .before .before .build .ensures .writes }
 
 pub groovepawn-index-spec : {M : Type 1} → statement M
-groovepawn-index-spec = tie.close (tie.spec build-requires cast-result same-length returns)
+groovepawn-index-spec = tie.close (tie.spec (λ c κs. search needs) (λ c. search needs) (λ c. search needs) returns)

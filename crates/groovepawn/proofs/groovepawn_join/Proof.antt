@@ -10,12 +10,6 @@ use borrow.Author.Needs.{needs}
 use Rattle.groovepawn.proofs.groovepawn_join.Statement.{statement}
 use Rattle.groovepawn.proofs.groovepawn_join.Tie as tie
 
-join-requires : tie.Need-join-requires
-join-requires c κs = search needs
-
-enum-known-n : tie.Need-enum-known-n
-enum-known-n c = search needs
-
 -- The length is that of the entry.
 given : (c : tie.After-n) →
     let a = c .before .before .before .before .before .before .before .before .before .args in
@@ -25,22 +19,10 @@ given c = sym (c .before .before .before .before .join .ensures .answers) ∙ rw
 mul-result : tie.Need-mul-result
 mul-result c = omega (arith, joined-short _ _ _ _ (given (c .before)))
 
-enum-known-n-2 : tie.Need-enum-known-n-2
-enum-known-n-2 c = search needs
-
-cast-result : tie.Need-cast-result
-cast-result c = search needs
-
-same-length : tie.Need-same-length
-same-length c = search needs
-
 returns : tie.Need-returns
 unfolding joinWord
 returns c =
     let n = c .before in record { said = rw (given n); out = n .before .before .before .before .join .ensures .writes }
-
-same-length-2 : tie.Need-same-length-2
-same-length-2 c = search needs
 
 returns-2 : tie.Need-returns-2
 unfolding joinWord
@@ -53,12 +35,5 @@ pub groovepawn-join-spec : {M : Type 1} → statement M
 groovepawn-join-spec =
     tie.close
     (tie.spec
-    join-requires
-    enum-known-n
-    mul-result
-    enum-known-n-2
-    cast-result
-    same-length
-    returns
-    same-length-2
+    (λ c κs. search needs) (λ c. search needs) mul-result (λ c. search needs) (λ c. search needs) (λ c. search needs) returns (λ c. search needs)
     returns-2)

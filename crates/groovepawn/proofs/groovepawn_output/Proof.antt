@@ -5,30 +5,9 @@ use borrow.Author.Needs.{needs}
 use Rattle.groovepawn.proofs.groovepawn_output.Statement.{statement}
 use Rattle.groovepawn.proofs.groovepawn_output.Tie as tie
 
-odd-refusal-requires : tie.Need-odd-refusal-requires
-odd-refusal-requires c κs = search needs
-
-cast-result : tie.Need-cast-result
-cast-result c = search needs
-
 returns : tie.Need-returns
 unfolding outputWord outputState
 returns c = let n = ne-eqb _ 5 (c .before .if1 .taken) in record { said = rw n (c .odd-refusal .ensures); next = rw n }
-
-state-of-requires : tie.Need-state-of-requires
-state-of-requires c κs = search needs
-
-lend-requires : tie.Need-lend-requires
-lend-requires c κs = search needs
-
-put-state-requires : tie.Need-put-state-requires
-put-state-requires c κs = search needs
-
-answer-word-requires : tie.Need-answer-word-requires
-answer-word-requires c κs = search needs
-
-same-length : tie.Need-same-length
-same-length c = search needs
 
 returns-2 : tie.Need-returns-2
 unfolding outputWord outputState
@@ -46,12 +25,5 @@ pub groovepawn-output-spec : {M : Type 1} → statement M
 groovepawn-output-spec =
     tie.close
     (tie.spec
-    odd-refusal-requires
-    cast-result
-    returns
-    state-of-requires
-    lend-requires
-    put-state-requires
-    answer-word-requires
-    same-length
-    returns-2)
+    (λ c κs. search needs) (λ c. search needs) returns (λ c κs. search needs) (λ c κs. search needs) (λ c κs. search needs) (λ c κs. search needs)
+    (λ c. search needs) returns-2)

@@ -5,30 +5,9 @@ use borrow.Author.Needs.{needs}
 use Rattle.groovepawn.proofs.groovepawn_output_indexed.Statement.{statement}
 use Rattle.groovepawn.proofs.groovepawn_output_indexed.Tie as tie
 
-odd-indexed-requires : tie.Need-odd-indexed-requires
-odd-indexed-requires c κs = search needs
-
-cast-result : tie.Need-cast-result
-cast-result c = search needs
-
 returns : tie.Need-returns
 unfolding outputIndexedWord outputIndexedState
 returns c = let n = ne-eqb _ 5 (c .before .if1 .taken) in record { said = rw n (c .odd-indexed .ensures); next = rw n }
-
-state-of-requires : tie.Need-state-of-requires
-state-of-requires c κs = search needs
-
-output-indexed-requires : tie.Need-output-indexed-requires
-output-indexed-requires c κs = search needs
-
-put-state-requires : tie.Need-put-state-requires
-put-state-requires c κs = search needs
-
-answer-word-requires : tie.Need-answer-word-requires
-answer-word-requires c κs = search needs
-
-same-length : tie.Need-same-length
-same-length c = search needs
 
 returns-2 : tie.Need-returns-2
 unfolding outputIndexedWord outputIndexedState
@@ -46,12 +25,5 @@ pub groovepawn-output-indexed-spec : {M : Type 1} → statement M
 groovepawn-output-indexed-spec =
     tie.close
     (tie.spec
-    odd-indexed-requires
-    cast-result
-    returns
-    state-of-requires
-    output-indexed-requires
-    put-state-requires
-    answer-word-requires
-    same-length
-    returns-2)
+    (λ c κs. search needs) (λ c. search needs) returns (λ c κs. search needs) (λ c κs. search needs) (λ c κs. search needs) (λ c κs. search needs)
+    (λ c. search needs) returns-2)

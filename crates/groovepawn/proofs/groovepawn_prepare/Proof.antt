@@ -6,14 +6,8 @@ use Rattle.groovepawn.specs.Bounds.{summary-small}
 use Rattle.groovepawn.proofs.groovepawn_prepare.Statement.{statement}
 use Rattle.groovepawn.proofs.groovepawn_prepare.Tie as tie
 
-prepare-requires : tie.Need-prepare-requires
-prepare-requires c κs = search needs
-
 summary-word-requires : tie.Need-summary-word-requires
 summary-word-requires c κs = λ s e. summary-small _ _ _ s (sym (c .before .before .prepare .ensures .said) ∙ e)
-
-same-length : tie.Need-same-length
-same-length c = search needs
 
 returns : tie.Need-returns
 unfolding prepareWord
@@ -22,4 +16,4 @@ returns c =
     record { said = c .summary-word .ensures ∙ ap summaryWord (e .said); marks = e .marks }
 
 pub groovepawn-prepare-spec : {M : Type 1} → statement M
-groovepawn-prepare-spec = tie.close (tie.spec prepare-requires summary-word-requires same-length returns)
+groovepawn-prepare-spec = tie.close (tie.spec (λ c κs. search needs) summary-word-requires (λ c. search needs) returns)

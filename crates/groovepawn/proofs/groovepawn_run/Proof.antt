@@ -5,39 +5,9 @@ use borrow.Author.Needs.{needs}
 use Rattle.groovepawn.proofs.groovepawn_run.Statement.{statement}
 use Rattle.groovepawn.proofs.groovepawn_run.Tie as tie
 
-odd-refusal-requires : tie.Need-odd-refusal-requires
-odd-refusal-requires c κs = search needs
-
-cast-result : tie.Need-cast-result
-cast-result c = search needs
-
 returns : tie.Need-returns
 unfolding runWord runState runOut
 returns c = let n = ne-eqb _ 5 (c .before .if1 .taken) in record { said = rw n (c .odd-refusal .ensures); next = rw n; released = rw n }
-
-state-of-requires : tie.Need-state-of-requires
-state-of-requires c κs = search needs
-
-run-requires : tie.Need-run-requires
-run-requires c κs = search needs
-
-put-state-requires : tie.Need-put-state-requires
-put-state-requires c κs = search needs
-
-cast-result-2 : tie.Need-cast-result-2
-cast-result-2 c = search needs
-
-mul-result : tie.Need-mul-result
-mul-result c = search needs
-
-add-result : tie.Need-add-result
-add-result c = search needs
-
-same-length : tie.Need-same-length
-same-length c = search needs
-
-same-length-2 : tie.Need-same-length-2
-same-length-2 c = search needs
 
 returns-2 : tie.Need-returns-2
 unfolding runWord runState runOut
@@ -56,15 +26,5 @@ pub groovepawn-run-spec : {M : Type 1} → statement M
 groovepawn-run-spec =
     tie.close
     (tie.spec
-    odd-refusal-requires
-    cast-result
-    returns
-    state-of-requires
-    run-requires
-    put-state-requires
-    cast-result-2
-    mul-result
-    add-result
-    same-length
-    same-length-2
-    returns-2)
+    (λ c κs. search needs) (λ c. search needs) returns (λ c κs. search needs) (λ c κs. search needs) (λ c κs. search needs) (λ c. search needs)
+    (λ c. search needs) (λ c. search needs) (λ c. search needs) (λ c. search needs) returns-2)

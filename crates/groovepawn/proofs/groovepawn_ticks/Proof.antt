@@ -15,15 +15,6 @@ use Rattle.groovepawn.proofs.groovepawn_ticks.Tie as tie
 rounds : (c : tie.Joined1) → upwards (c .if1 .rounding) ≡ isUp (c .before .args .up)
 rounds c = ⊎-elim (λ w. rw (w .1, eq-eqb _ 0 (w .0 .taken))) (λ w. rw (w .1, ne-eqb _ 0 (w .0 .left))) (c .if1 .came)
 
-to-ticks-requires : tie.Need-to-ticks-requires
-to-ticks-requires c κs = search needs
-
-enum-known-t : tie.Need-enum-known-t
-enum-known-t c = search needs
-
-count-requires : tie.Need-count-requires
-count-requires c κs = search needs
-
 few : (c : tie.After-t) → c .t .given .0 .0 .0 ≤ 1000
 few c =
     let j = c .before .before .before in
@@ -32,12 +23,6 @@ few c =
 
 mul-result : tie.Need-mul-result
 mul-result c = omega (arith, few (c .before .before), c .count .ensures)
-
-enum-known-n : tie.Need-enum-known-n
-enum-known-n c = search needs
-
-cast-result : tie.Need-cast-result
-cast-result c = search needs
 
 returns : tie.Need-returns
 unfolding ticksWord
@@ -55,11 +40,4 @@ pub groovepawn-ticks-spec : {M : Type 1} → statement M
 groovepawn-ticks-spec =
     tie.close
     (tie.spec
-    to-ticks-requires
-    enum-known-t
-    count-requires
-    mul-result
-    enum-known-n
-    cast-result
-    returns
-    returns-2)
+    (λ c κs. search needs) (λ c. search needs) (λ c κs. search needs) mul-result (λ c. search needs) (λ c. search needs) returns returns-2)

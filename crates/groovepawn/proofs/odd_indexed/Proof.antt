@@ -6,9 +6,6 @@ use borrow.Author.Needs.{needs}
 use Rattle.groovepawn.proofs.odd_indexed.Statement.{statement}
 use Rattle.groovepawn.proofs.odd_indexed.Tie as tie
 
-check-under-requires : tie.Need-check-under-requires
-check-under-requires c κs = search needs
-
 early-refusal-requires : tie.Need-early-refusal-requires
 early-refusal-requires c κs = c .check-under .ensures
 
@@ -21,4 +18,4 @@ unfolding oddIndexed
 returns-2 c = rw (sym (c .before .early-refusal .ensures) ∙ c .if1 .left)
 
 pub odd-indexed-spec : {M : Type 1} → statement M
-odd-indexed-spec = tie.close (tie.spec check-under-requires early-refusal-requires returns returns-2)
+odd-indexed-spec = tie.close (tie.spec (λ c κs. search needs) early-refusal-requires returns returns-2)

@@ -4,9 +4,6 @@ use Rattle.index.proofs.Laws.{sections-of, build-refused, build-short, 
 use Rattle.index.proofs.build.Statement.{statement}
 use Rattle.index.proofs.build.Tie as tie
 
-check-requires : tie.Need-check-requires
-check-requires c κs = search needs
-
 returns : tie.Need-returns
 returns c = build-refused (c .before .before .check .ensures) (c .if1 .taken)
 
@@ -16,9 +13,6 @@ returns-2 c = build-short (sections-of (c .before .before .before .check .ensure
 fill-requires : tie.Need-fill-requires
 fill-requires c κs = let e = c .before .before in (sections-of (e .before .before .before .check .ensures) (e .before .if1 .left), e .if2 .left)
 
-same-length : tie.Need-same-length
-same-length c = search needs
-
 returns-3 : tie.Need-returns-3
 returns-3 c =
     let f = c .before .before in
@@ -26,5 +20,4 @@ returns-3 c =
     build-done (sections-of (e .before .before .before .check .ensures) (e .before .if1 .left) .passes) (e .if2 .left) (f .fill .ensures)
 
 pub build-spec : {M : Type 1} → statement M
-build-spec =
-    tie.close (tie.spec check-requires returns returns-2 fill-requires same-length returns-3)
+build-spec = tie.close (tie.spec (λ c κs. search needs) returns returns-2 fill-requires (λ c. search needs) returns-3)

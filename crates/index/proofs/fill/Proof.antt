@@ -1,7 +1,7 @@
 -- `index::fill` meets its contract. The invariant: the entries up to the location are written, and `first` rules have a lower source.
 use mathlib.Core.Path.{_≡_, refl, sym, ap, _∙_}
 use mathlib.Core.List.{_++_}
-use Prim.Native.Nat.{_+_, _-_, _*_, _≤_}
+use Prim.Native.Nat.{_-_, _*_, _≤_}
 use native.Mathlib.Omega.{arith}
 use lib.ListN.{length, drop, length-set}
 use denote.Ref.{now}
@@ -33,14 +33,8 @@ loop-holds c = (omega arith, sym (lower-none _), refl)
 entry-at-requires : tie.Need-entry-at-requires Inv-loop μ-loop
 entry-at-requires c κs = (c .before .before .before .before .pre .0, c .before .loop .inv .1)
 
-mul-at : tie.Need-mul-at Inv-loop μ-loop
-mul-at c = omega arith
-
 cast-index : tie.Need-cast-index Inv-loop μ-loop
 cast-index c = omega (arith, few (c .before))
-
-mul-index : tie.Need-mul-index Inv-loop μ-loop
-mul-index c = omega arith
 
 slice-write-index : tie.Need-slice-write-index Inv-loop μ-loop
 slice-write-index c = omega (arith, long (c .before .before), c .before .before .before .before .before .before .pre .1, c .before .before .loop-test .taken)
@@ -48,23 +42,11 @@ slice-write-index c = omega (arith, long (c .before .before), c .before .before 
 cast-index-2 : tie.Need-cast-index-2 Inv-loop μ-loop
 cast-index-2 c = omega (arith, few (c .before .before))
 
-add-index : tie.Need-add-index Inv-loop μ-loop
-add-index c = omega arith
-
-mul-index-2 : tie.Need-mul-index-2 Inv-loop μ-loop
-mul-index-2 c = omega arith
-
 slice-write-index-2 : tie.Need-slice-write-index-2 Inv-loop μ-loop
 slice-write-index-2 c = simp length-set (omega (arith, long (c .before .before .before), c .before .before .before .before .before .before .before .pre .1, c .before .before .before .loop-test .taken))
 
 add-first : tie.Need-add-first Inv-loop μ-loop
 add-first c = omega (arith, few (c .before .before .before), lower-few _ (c .before .before .before .before .before .before .before .before .pre .0 .passes) (c .before .before .before .before .before .loop .location), c .before .before .before .before .before .loop .inv .1)
-
-add-location : tie.Need-add-location Inv-loop μ-loop
-add-location c = omega arith
-
-loop-less : tie.Need-loop-less Inv-loop μ-loop
-loop-less c = omega arith
 
 loop-again : tie.Need-loop-again Inv-loop μ-loop
 loop-again c =
@@ -88,21 +70,5 @@ pub fill-spec : {M : Type 1} → statement M
 fill-spec =
     tie.close
     (tie.spec
-    Inv-loop
-    μ-loop
-    loop-holds
-    entry-at-requires
-    mul-at
-    cast-index
-    mul-index
-    slice-write-index
-    cast-index-2
-    add-index
-    mul-index-2
-    slice-write-index-2
-    add-first
-    add-location
-    loop-less
-    loop-again
-    same-length
-    returns)
+    Inv-loop μ-loop loop-holds entry-at-requires (λ c. omega arith) cast-index (λ c. omega arith) slice-write-index cast-index-2 (λ c. omega arith)
+    (λ c. omega arith) slice-write-index-2 add-first (λ c. omega arith) (λ c. omega arith) loop-again same-length returns)

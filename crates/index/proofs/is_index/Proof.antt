@@ -27,23 +27,11 @@ loop-holds : tie.Need-loop-holds Inv-loop μ-loop
 unfolding entries
 loop-holds c = (omega arith, sym (lower-none _), refl)
 
-mul-at : tie.Need-mul-at Inv-loop μ-loop
-mul-at c = omega arith
-
-mul-t11 : tie.Need-mul-t11 Inv-loop μ-loop
-mul-t11 c = omega arith
-
 shared-slice-read-t13 : tie.Need-shared-slice-read-t13 Inv-loop μ-loop
 shared-slice-read-t13 c = let i = c .before in omega (arith, i .before .before .if1 .left, i .loop-test .taken)
 
 cast-t14 : tie.Need-cast-t14 Inv-loop μ-loop
 cast-t14 c = omega (arith, c .shared-slice-known3 .given (2 * c .before .before .loop .location))
-
-add-t15 : tie.Need-add-t15 Inv-loop μ-loop
-add-t15 c = omega arith
-
-mul-t16 : tie.Need-mul-t16 Inv-loop μ-loop
-mul-t16 c = omega arith
 
 shared-slice-read-t18 : tie.Need-shared-slice-read-t18 Inv-loop μ-loop
 shared-slice-read-t18 c = let i = c .before .before in omega (arith, i .before .before .if1 .left, i .loop-test .taken)
@@ -78,12 +66,6 @@ add-first c =
     let p = l .before .before .before .before .pre .passes in
     omega (arith, same (c .before) .1, entry-few _ p (l .loop .location), lower-few _ p (l .loop .location), l .loop .inv .1)
 
-add-location : tie.Need-add-location Inv-loop μ-loop
-add-location c = omega arith
-
-loop-less : tie.Need-loop-less Inv-loop μ-loop
-loop-less c = omega arith
-
 loop-again : tie.Need-loop-again Inv-loop μ-loop
 loop-again c =
     let i = c .before .before .before .before .before in
@@ -102,22 +84,5 @@ pub is-index-spec : {M : Type 1} → statement M
 is-index-spec =
     tie.close
     (tie.spec
-    Inv-loop
-    μ-loop
-    returns
-    loop-holds
-    mul-at
-    mul-t11
-    shared-slice-read-t13
-    cast-t14
-    add-t15
-    mul-t16
-    shared-slice-read-t18
-    cast-t19
-    is-entry-requires
-    returns-2
-    add-first
-    add-location
-    loop-less
-    loop-again
-    returns-3)
+    Inv-loop μ-loop returns loop-holds (λ c. omega arith) (λ c. omega arith) shared-slice-read-t13 cast-t14 (λ c. omega arith) (λ c. omega arith)
+    shared-slice-read-t18 cast-t19 is-entry-requires returns-2 add-first (λ c. omega arith) (λ c. omega arith) loop-again returns-3)

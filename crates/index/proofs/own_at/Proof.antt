@@ -10,12 +10,6 @@ use Rattle.index.specs.Sections.{sections-limits, sections-own}
 use Rattle.index.proofs.own_at.Statement.{statement}
 use Rattle.index.proofs.own_at.Tie as tie
 
-mul-at : tie.Need-mul-at
-mul-at c = search needs
-
-mul-t6 : tie.Need-mul-t6
-mul-t6 c = search needs
-
 shared-slice-read-t8 : tie.Need-shared-slice-read-t8
 shared-slice-read-t8 c = omega (arith, index-long _ (c .before .pre .1), sections-limits (c .before .pre .0))
 
@@ -35,12 +29,6 @@ mul-t12 c =
     let size : 7 + 4 * s .args .layout .clocks ≤ 23 = omega (arith, sections-limits (s .pre .0)) in
     omega (arith, mul-le-mul few size)
 
-add-t13 : tie.Need-add-t13
-add-t13 c = search needs
-
-mul-t14 : tie.Need-mul-t14
-mul-t14 c = search needs
-
 shared-slice-read-t16 : tie.Need-shared-slice-read-t16
 shared-slice-read-t16 c = let s = c .before .before .before in omega (arith, index-long _ (s .pre .1), sections-limits (s .pre .0))
 
@@ -54,15 +42,5 @@ pub own-at-spec : {M : Type 1} → statement M
 own-at-spec =
     tie.close
     (tie.spec
-    mul-at
-    mul-t6
-    shared-slice-read-t8
-    cast-t9
-    mul-t10
-    add-t11
-    mul-t12
-    add-t13
-    mul-t14
-    shared-slice-read-t16
-    cast-t17
-    returns)
+    (λ c. search needs) (λ c. search needs) shared-slice-read-t8 cast-t9 mul-t10 add-t11 mul-t12 (λ c. search needs) (λ c. search needs)
+    shared-slice-read-t16 cast-t17 returns)

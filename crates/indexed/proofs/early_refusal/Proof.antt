@@ -16,13 +16,10 @@ returns-2 : tie.Need-returns-2
 returns-2 c =
     early-wrong _ _ (c .before .before .before .before .before .before .before .before .pre) _ _ (c .before .before .before .if1 .left) (sym (c .before .is-index .ensures) ∙ not-true _ (c .if2 .taken))
 
-marks-refusal-requires : tie.Need-marks-refusal-requires
-marks-refusal-requires c κs = search needs
-
 returns-3 : tie.Need-returns-3
 returns-3 c =
     early-marks _ _ (c .before .before .before .before .before .before .before .before .before .pre) _ _ (c .before .before .before .before .if1 .left)
     (sym (c .before .before .is-index .ensures) ∙ not-false _ (c .before .if2 .left)) (c .marks-refusal .ensures)
 
 pub early-refusal-spec : {M : Type 1} → statement M
-early-refusal-spec = tie.close (tie.spec returns is-index-requires returns-2 marks-refusal-requires returns-3)
+early-refusal-spec = tie.close (tie.spec returns is-index-requires returns-2 (λ c κs. search needs) returns-3)

@@ -6,15 +6,9 @@ use borrow.Author.Needs.{needs}
 use Rattle.join.proofs.join.Statement.{statement}
 use Rattle.join.proofs.join.Tie as tie
 
-check-requires : tie.Need-check-requires
-check-requires c κs = search needs
-
 returns : tie.Need-returns
 returns c =
     let a = c .before .before .before .before .before .args in refused-first (now (a .out)) (checks-not (c .before .check .ensures)) (c .if1 .taken)
-
-check-requires-2 : tie.Need-check-requires-2
-check-requires-2 c κs = search needs
 
 returns-2 : tie.Need-returns-2
 returns-2 c =
@@ -25,20 +19,8 @@ returns-2 c =
 join-checked-requires : tie.Need-join-checked-requires
 join-checked-requires c κs = (checks (c .before .before .before .before .before .before .check .ensures) (c .before .before .before .before .before .if1 .left), checks (c .before .before .before .before .check2 .ensures) (c .before .before .before .if2 .left))
 
-same-length : tie.Need-same-length
-same-length c = search needs
-
-returns-3 : tie.Need-returns-3
-returns-3 c = search needs
-
 pub join-spec : {M : Type 1} → statement M
 join-spec =
     tie.close
     (tie.spec
-    check-requires
-    returns
-    check-requires-2
-    returns-2
-    join-checked-requires
-    same-length
-    returns-3)
+    (λ c κs. search needs) returns (λ c κs. search needs) returns-2 join-checked-requires (λ c. search needs) (λ c. search needs))

@@ -9,9 +9,6 @@ use borrow.Author.Needs.{needs}
 use Rattle.join.proofs.join_checked.Statement.{statement}
 use Rattle.join.proofs.join_checked.Tie as tie
 
-same-signals-requires : tie.Need-same-signals-requires
-same-signals-requires c κs = search needs
-
 returns : tie.Need-returns
 returns c =
     let s = c .before .before .before .before .before in
@@ -38,9 +35,6 @@ join-within-requires c κs =
       within = sym (c .before .before .within-limits .ensures) ∙ not-false _ (c .before .if2 .left);
     }
 
-same-length : tie.Need-same-length
-same-length c = search needs
-
 returns-3 : tie.Need-returns-3
 returns-3 c = c .before .before .join-within .ensures
 
@@ -48,10 +42,4 @@ pub join-checked-spec : {M : Type 1} → statement M
 join-checked-spec =
     tie.close
     (tie.spec
-    same-signals-requires
-    returns
-    within-limits-requires
-    returns-2
-    join-within-requires
-    same-length
-    returns-3)
+    (λ c κs. search needs) returns within-limits-requires returns-2 join-within-requires (λ c. search needs) returns-3)

@@ -12,9 +12,6 @@ use borrow.Author.Needs.{needs}
 use Rattle.join.proofs.join_within.Statement.{statement}
 use Rattle.join.proofs.join_within.Tie as tie
 
-rules-length-requires : tie.Need-rules-length-requires
-rules-length-requires c κs = search needs
-
 add-rules : tie.Need-add-rules
 add-rules c = omega (arith, few (c .before .before .before .before .before .before .before .before .before .pre))
 
@@ -23,12 +20,6 @@ mul-rules c = omega (arith, few (c .before .before .before .before .before .befo
 
 add-rules-2 : tie.Need-add-rules-2
 add-rules-2 c = omega (arith, few (c .before .before .before .before .before .before .before .before .before .pre))
-
-div-rules : tie.Need-div-rules
-div-rules c = omega arith
-
-same-length : tie.Need-same-length
-same-length c = search needs
 
 returns : tie.Need-returns
 returns c =
@@ -43,9 +34,6 @@ add-if2 : tie.Need-add-if2
 add-if2 c =
     let p = c .before .before .before .before .before .before .before .before .before .before .before .pre in
     omega (arith, few p, sizes (p .first), c .counts-length .ensures, c .before .before .before .before .before .before .rules-length .ensures .1)
-
-same-length-2 : tie.Need-same-length-2
-same-length-2 c = search needs
 
 returns-2 : tie.Need-returns-2
 returns-2 c =
@@ -62,9 +50,6 @@ write-joined-requires c κs =
     let s = c .before .before .before .before .before .before .before .before .before .before .before .before .before in
     let e = c .before .before .before .before .before .before .before .before .rules-length .ensures in
     (s .pre, (rules-counted (s .pre) (e .0), c .before .before .before .if1 .left, omega (arith, e .0, c .before .before .counts-length .ensures, c .before .if2 .left)))
-
-same-length-3 : tie.Need-same-length-3
-same-length-3 c = search needs
 
 returns-3 : tie.Need-returns-3
 returns-3 c =
@@ -84,17 +69,5 @@ pub join-within-spec : {M : Type 1} → statement M
 join-within-spec =
     tie.close
     (tie.spec
-    rules-length-requires
-    add-rules
-    mul-rules
-    add-rules-2
-    div-rules
-    same-length
-    returns
-    counts-length-requires
-    add-if2
-    same-length-2
-    returns-2
-    write-joined-requires
-    same-length-3
-    returns-3)
+    (λ c κs. search needs) add-rules mul-rules add-rules-2 (λ c. omega arith) (λ c. search needs) returns counts-length-requires add-if2
+    (λ c. search needs) returns-2 write-joined-requires (λ c. search needs) returns-3)

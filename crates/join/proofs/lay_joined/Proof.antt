@@ -30,9 +30,6 @@ lay-rules-requires c κs =
     let p = c .before .before .before .before .before .before .pre in
     rw (sizes (p .first) .section, sizes (p .second) .section) (joinable p, rules-section (p .first), rules-section (p .second))
 
-same-length : tie.Need-same-length
-same-length c = search needs
-
 returns : tie.Need-returns
 returns c =
     let p = c .before .before .before .before .before .before .before .before .before .pre in
@@ -43,12 +40,5 @@ pub lay-joined-spec : {M : Type 1} → statement M
 lay-joined-spec =
     tie.close
     (tie.spec
-    sub-lay-rules
-    part-lay-rules-start
-    part-lay-rules-end
-    sub-lay-rules-2
-    part-lay-rules-start-2
-    part-lay-rules-end-2
-    lay-rules-requires
-    same-length
-    returns)
+    sub-lay-rules part-lay-rules-start part-lay-rules-end sub-lay-rules-2 part-lay-rules-start-2 part-lay-rules-end-2 lay-rules-requires
+    (λ c. search needs) returns)

@@ -64,11 +64,4 @@ pub write-joined-spec : {M : Type 1} → statement M
 write-joined-spec =
     tie.close
     (tie.spec
-    lay-counts-requires
-    sub-lay-joined
-    part-lay-joined-start
-    part-lay-joined-end
-    lay-joined-requires
-    add-result
-    same-length
-    returns)
+    lay-counts-requires sub-lay-joined part-lay-joined-start part-lay-joined-end lay-joined-requires add-result same-length returns)

@@ -17,18 +17,6 @@ use Rattle.listing.specs.Ways.{refused-way, GoesOut, given-way}
 use Rattle.listing.proofs.reply.Statement.{statement}
 use Rattle.listing.proofs.reply.Tie as tie
 
-clean-requires : tie.Need-clean-requires
-clean-requires c κs = search needs
-
-enum-known-n : tie.Need-enum-known-n
-enum-known-n c = search needs
-
-put-refused-requires : tie.Need-put-refused-requires
-put-refused-requires c κs = search needs
-
-enum-known-lengths : tie.Need-enum-known-lengths
-enum-known-lengths c = search needs
-
 -- It gives lengths: what clean promises then.
 abbrev start : tie.After-lengths → tie.Start
 start k = k .before .before .before .before .before .before .before .before .before .before .before .before .before
@@ -71,15 +59,6 @@ put-left-requires c κs =
     let h : l .put-list .result + 32 ≤ length (l .put-list .last .0) =
     omega (arith, l .put-list .ensures .1, l .put-list .kept .0, listed k, start k .pre .2) in h
 
-same-length : tie.Need-same-length
-same-length c = search needs
-
-same-length-2 : tie.Need-same-length-2
-same-length-2 c = search needs
-
-same-length-3 : tie.Need-same-length-3
-same-length-3 c = search needs
-
 returns : tie.Need-returns
 returns c =
     let r = c .before .before .put-refused in
@@ -92,15 +71,6 @@ returns c =
       rw (w .1) (replied (subst (Wrote (now (a .cleaned)) 0 [] 0) (sym (w .2)) (wrote-none (now (a .cleaned)) 0)) (d .kept .1 .1 .0)),
       rw (w .0) (replied (r .ensures) (r .kept .0)),
     )
-
-same-length-4 : tie.Need-same-length-4
-same-length-4 c = search needs
-
-same-length-5 : tie.Need-same-length-5
-same-length-5 c = search needs
-
-same-length-6 : tie.Need-same-length-6
-same-length-6 c = search needs
 
 returns-2 : tie.Need-returns-2
 returns-2 c =
@@ -116,19 +86,6 @@ pub reply-spec : {M : Type 1} → statement M
 reply-spec =
     tie.close
     (tie.spec
-    clean-requires
-    enum-known-n
-    put-refused-requires
-    enum-known-lengths
-    slice-reshare-prefix-put-list
-    slice-aggregate-put-list
-    put-list-requires
-    put-left-requires
-    same-length
-    same-length-2
-    same-length-3
-    returns
-    same-length-4
-    same-length-5
-    same-length-6
-    returns-2)
+    (λ c κs. search needs) (λ c. search needs) (λ c κs. search needs) (λ c. search needs) slice-reshare-prefix-put-list slice-aggregate-put-list
+    put-list-requires put-left-requires (λ c. search needs) (λ c. search needs) (λ c. search needs) returns (λ c. search needs) (λ c. search needs)
+    (λ c. search needs) returns-2)

@@ -5,12 +5,9 @@ use Rattle.policy.specs.Layout.{checkedOf, checkedUnder}
 use Rattle.policy.proofs.check.Statement.{statement}
 use Rattle.policy.proofs.check.Tie as tie
 
-check-under-requires : tie.Need-check-under-requires
-check-under-requires c κs = search needs
-
 returns : tie.Need-returns
 unfolding checkedOf checkedUnder refusalUnder readingRefusal
 returns c = record { said = c .check-under .ensures }
 
 pub check-spec : {M : Type 1} → statement M
-check-spec = tie.close (tie.spec check-under-requires returns)
+check-spec = tie.close (tie.spec (λ c κs. search needs) returns)

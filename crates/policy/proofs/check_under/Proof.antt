@@ -111,81 +111,33 @@ left6 c = past5 (c .before .before) .left ∙ ends-late _ (c .if7 .left) (end (c
 states : (c : tie.After-states-of) → c .states-of .result ≡ statesIn (file5 (c .before .before .before))
 states c = c .states-of .ensures ∙ states-read _ _ (shape (c .before .before .before .before .before))
 
-is-reading-requires : tie.Need-is-reading-requires
-is-reading-requires c κs = search needs
-
-refused-requires : tie.Need-refused-requires
-refused-requires c κs = search needs
-
 returns : tie.Need-returns
 returns c = let i = c .before in not-named _ _ (sym (i .before .is-reading .ensures) ∙ not-true _ (i .if1 .taken)) (c .refused .ensures)
-
-inputs-refusal-requires : tie.Need-inputs-refusal-requires
-inputs-refusal-requires c κs = search needs
-
-refused-requires-2 : tie.Need-refused-requires-2
-refused-requires-2 c κs = search needs
 
 returns-2 : tie.Need-returns-2
 returns-2 c =
     refused-here _ _ (read (c .before .before .before)) _ _ (from-inputs _) (c .before .before .inputs-refusal .ensures) (c .before .if2 .taken) (c .refused2 .ensures)
 
-byte-at-requires : tie.Need-byte-at-requires
-byte-at-requires c κs = search needs
-
-add-outputs-at : tie.Need-add-outputs-at
-add-outputs-at c = search needs
-
 outputs-refusal-requires : tie.Need-outputs-refusal-requires
 outputs-refusal-requires c κs = (past1 (c .before) .none, c .byte-at .ensures .0, outputs-at _ (c .byte-at .ensures .0))
-
-refused-requires-3 : tie.Need-refused-requires-3
-refused-requires-3 c κs = search needs
 
 returns-3 : tie.Need-returns-3
 returns-3 c =
     let o = c .before .before in
     refused-here _ _ (read (since1 (o .before .before))) _ _ (past1 (o .before .before) .left) (o .outputs-refusal .ensures) (c .before .if3 .taken) (c .refused3 .ensures)
 
-byte-at-requires-2 : tie.Need-byte-at-requires-2
-byte-at-requires-2 c κs = search needs
-
-add-clocks-at : tie.Need-add-clocks-at
-add-clocks-at c = search needs
-
-add-clocks-at-2 : tie.Need-add-clocks-at-2
-add-clocks-at-2 c = search needs
-
 clocks-refusal-requires : tie.Need-clocks-refusal-requires
 clocks-refusal-requires c κs = (omega arith, clocks-at _ (c .before .before .before .byte-at .ensures .0) (c .byte-at2 .ensures .0))
-
-refused-requires-4 : tie.Need-refused-requires-4
-refused-requires-4 c κs = search needs
 
 returns-4 : tie.Need-returns-4
 returns-4 c =
     let o = c .before .before in
     refused-here _ _ (read (since2 (o .before .before))) _ _ (past2 (o .before .before) .left) (o .clocks-refusal .ensures) (c .before .if4 .taken) (c .refused4 .ensures)
 
-byte-at-requires-3 : tie.Need-byte-at-requires-3
-byte-at-requires-3 c κs = search needs
-
-add-ceilings-of : tie.Need-add-ceilings-of
-add-ceilings-of c = search needs
-
 ceilings-of-requires : tie.Need-ceilings-of-requires
 ceilings-of-requires c κs =
     let o = c .before .before .before in
     (omega arith, clocks-few _ (o .before .before .before .byte-at .ensures .0) (o .byte-at2 .ensures .0) (c .byte-at3 .ensures .0) (past3 (c .before) .none))
-
-add-locations-at : tie.Need-add-locations-at
-add-locations-at c = search needs
-
-mul-locations-at : tie.Need-mul-locations-at
-mul-locations-at c = search needs
-
-add-locations-at-2 : tie.Need-add-locations-at-2
-add-locations-at-2 c = search needs
 
 locations-refusal-requires : tie.Need-locations-refusal-requires
 locations-refusal-requires c κs =
@@ -193,54 +145,24 @@ locations-refusal-requires c κs =
     let o = k .before .before .before in
     (omega arith, locations-at _ (o .before .before .before .byte-at .ensures .0) (o .byte-at2 .ensures .0) (k .byte-at3 .ensures .0))
 
-refused-requires-5 : tie.Need-refused-requires-5
-refused-requires-5 c κs = search needs
-
 returns-5 : tie.Need-returns-5
 returns-5 c =
     let o = c .before .before in
     refused-here _ _ (read (since3 (o .before .before .before))) _ _ (past3 (o .before .before .before) .left) (o .locations-refusal .ensures) (c .before .if5 .taken) (c .refused5 .ensures)
 
-byte-at-requires-4 : tie.Need-byte-at-requires-4
-byte-at-requires-4 c κs = search needs
-
-add-rules-at : tie.Need-add-rules-at
-add-rules-at c = search needs
-
-add-rules-at-2 : tie.Need-add-rules-at-2
-add-rules-at-2 c = search needs
-
 rules-section-refusal-requires : tie.Need-rules-section-refusal-requires
 rules-section-refusal-requires c κs = (omega (arith, shape c .shaped), count-at _ _ (shape c), shape c)
-
-refused-requires-6 : tie.Need-refused-requires-6
-refused-requires-6 c κs = search needs
 
 returns-6 : tie.Need-returns-6
 returns-6 c =
     let o = c .before .before in
     refused-here _ _ (read (since4 (o .before .before))) _ _ (past4 (o .before .before) .left) (o .rules-section-refusal .ensures) (c .before .if6 .taken) (c .refused6 .ensures)
 
-pair-at-requires : tie.Need-pair-at-requires
-pair-at-requires c κs = search needs
-
-add-rules-start : tie.Need-add-rules-start
-add-rules-start c = search needs
-
-mul-rules-end : tie.Need-mul-rules-end
-mul-rules-end c = search needs
-
-add-rules-end : tie.Need-add-rules-end
-add-rules-end c = search needs
-
 mul-rules-end-2 : tie.Need-mul-rules-end-2
 mul-rules-end-2 c = omega (arith, rules-size c)
 
 add-rules-end-2 : tie.Need-add-rules-end-2
 add-rules-end-2 c = omega (arith, rules-size c)
-
-refused-requires-7 : tie.Need-refused-requires-7
-refused-requires-7 c κs = search needs
 
 returns-7 : tie.Need-returns-7
 returns-7 c =
@@ -252,9 +174,6 @@ states-of-requires c κs =
     let s = c .before .before .before .before in
     let small = ceilings-small _ _ (shape s) (past3 (s .before .before .before .before .before) .none) in
     (shape s .shaped .clocks, omega (arith, locations-fit _ (past4 (s .before) .none), shape s .locations), small)
-
-refused-requires-8 : tie.Need-refused-requires-8
-refused-requires-8 c κs = search needs
 
 returns-8 : tie.Need-returns-8
 returns-8 c =
@@ -272,47 +191,9 @@ pub check-under-spec : {M : Type 1} → statement M
 check-under-spec =
     tie.close
     (tie.spec
-    is-reading-requires
-    refused-requires
-    returns
-    inputs-refusal-requires
-    refused-requires-2
-    returns-2
-    byte-at-requires
-    add-outputs-at
-    outputs-refusal-requires
-    refused-requires-3
-    returns-3
-    byte-at-requires-2
-    add-clocks-at
-    add-clocks-at-2
-    clocks-refusal-requires
-    refused-requires-4
-    returns-4
-    byte-at-requires-3
-    add-ceilings-of
-    ceilings-of-requires
-    add-locations-at
-    mul-locations-at
-    add-locations-at-2
-    locations-refusal-requires
-    refused-requires-5
-    returns-5
-    byte-at-requires-4
-    add-rules-at
-    add-rules-at-2
-    rules-section-refusal-requires
-    refused-requires-6
-    returns-6
-    pair-at-requires
-    add-rules-start
-    mul-rules-end
-    add-rules-end
-    mul-rules-end-2
-    add-rules-end-2
-    refused-requires-7
-    returns-7
-    states-of-requires
-    refused-requires-8
-    returns-8
-    returns-9)
+    (λ c κs. search needs) (λ c κs. search needs) returns (λ c κs. search needs) (λ c κs. search needs) returns-2 (λ c κs. search needs)
+    (λ c. search needs) outputs-refusal-requires (λ c κs. search needs) returns-3 (λ c κs. search needs) (λ c. search needs) (λ c. search needs)
+    clocks-refusal-requires (λ c κs. search needs) returns-4 (λ c κs. search needs) (λ c. search needs) ceilings-of-requires (λ c. search needs)
+    (λ c. search needs) (λ c. search needs) locations-refusal-requires (λ c κs. search needs) returns-5 (λ c κs. search needs) (λ c. search needs)
+    (λ c. search needs) rules-section-refusal-requires (λ c κs. search needs) returns-6 (λ c κs. search needs) (λ c. search needs) (λ c. search needs)
+    (λ c. search needs) mul-rules-end-2 add-rules-end-2 (λ c κs. search needs) returns-7 states-of-requires (λ c κs. search needs) returns-8 returns-9)

@@ -5,18 +5,6 @@ use Rattle.texts.specs.WroteLaws.{wrote-then}
 use Rattle.texts.proofs.put_about.Statement.{statement}
 use Rattle.texts.proofs.put_about.Tie as tie
 
-put-bytes-requires : tie.Need-put-bytes-requires
-put-bytes-requires c κs = search needs
-
-put-decimal-requires : tie.Need-put-decimal-requires
-put-decimal-requires c κs = search needs
-
-put-bytes-requires-2 : tie.Need-put-bytes-requires-2
-put-bytes-requires-2 c κs = search needs
-
-same-length : tie.Need-same-length
-same-length c = search needs
-
 returns : tie.Need-returns
 returns c =
     let d = c .before .before .before .before .before .before in
@@ -25,4 +13,4 @@ returns c =
     wrote-then (omega (arith, h)) (wrote-then (omega (arith, h)) (b .put-bytes .ensures) (d .put-decimal .ensures)) (c .before .before .put-bytes2 .ensures)
 
 pub put-about-spec : {M : Type 1} → statement M
-put-about-spec = tie.close (tie.spec put-bytes-requires put-decimal-requires put-bytes-requires-2 same-length returns)
+put-about-spec = tie.close (tie.spec (λ c κs. search needs) (λ c κs. search needs) (λ c κs. search needs) (λ c. search needs) returns)

@@ -34,18 +34,6 @@ fits c =
     let few = subst (λ (events : List ℕ). length events ≤ 16384) (sym (c .events-in .ensures)) (events-few (now (start o .args .input)) (enforced k .passes .events)) in
     omega (arith, few, o .outcome .kept .1 .1 .1 .0, start o .pre)
 
-outcome-requires : tie.Need-outcome-requires
-outcome-requires c κs = search needs
-
-enum-known-n : tie.Need-enum-known-n
-enum-known-n c = search needs
-
-put-refused-requires : tie.Need-put-refused-requires
-put-refused-requires c κs = search needs
-
-enum-told : tie.Need-enum-told
-enum-told c = search needs
-
 events-in-requires : tie.Need-events-in-requires
 events-in-requires c κs = enforced c .passes .events
 
@@ -58,18 +46,6 @@ slice-reshare-prefix-write-file c = fits (c .before)
 slice-aggregate-write-file : tie.Need-slice-aggregate-write-file
 slice-aggregate-write-file c = sym (length-take-le _ _ (slice-reshare-prefix-write-file (c .before)))
 
-write-file-requires : tie.Need-write-file-requires
-write-file-requires c κs = search needs
-
-same-length : tie.Need-same-length
-same-length c = search needs
-
-same-length-2 : tie.Need-same-length-2
-same-length-2 c = search needs
-
-same-length-3 : tie.Need-same-length-3
-same-length-3 c = search needs
-
 returns : tie.Need-returns
 returns c =
     let f = c .before .before in
@@ -77,15 +53,6 @@ returns c =
     let o = k .before .before .before .before .before .before in
     rw (shown-refused (start o .args .reading) (now (start o .args .input)) (sym (ap preparedSaid (k .n .given .1)) ∙ o .outcome .ensures .said))
     (replied (f .put-refused .ensures) (f .put-refused .kept .0))
-
-same-length-4 : tie.Need-same-length-4
-same-length-4 c = search needs
-
-same-length-5 : tie.Need-same-length-5
-same-length-5 c = search needs
-
-same-length-6 : tie.Need-same-length-6
-same-length-6 c = search needs
 
 returns-2 : tie.Need-returns-2
 returns-2 c =
@@ -98,20 +65,6 @@ pub view-spec : {M : Type 1} → statement M
 view-spec =
     tie.close
     (tie.spec
-    outcome-requires
-    enum-known-n
-    put-refused-requires
-    enum-told
-    events-in-requires
-    policy-in-requires
-    slice-reshare-prefix-write-file
-    slice-aggregate-write-file
-    write-file-requires
-    same-length
-    same-length-2
-    same-length-3
-    returns
-    same-length-4
-    same-length-5
-    same-length-6
-    returns-2)
+    (λ c κs. search needs) (λ c. search needs) (λ c κs. search needs) (λ c. search needs) events-in-requires policy-in-requires
+    slice-reshare-prefix-write-file slice-aggregate-write-file (λ c κs. search needs) (λ c. search needs) (λ c. search needs) (λ c. search needs)
+    returns (λ c. search needs) (λ c. search needs) (λ c. search needs) returns-2)

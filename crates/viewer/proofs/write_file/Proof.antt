@@ -14,33 +14,15 @@ use Rattle.viewer.specs.Ways.{file-written, file-refused}
 use Rattle.viewer.proofs.write_file.Statement.{statement}
 use Rattle.viewer.proofs.write_file.Tie as tie
 
-write-requires : tie.Need-write-requires
-write-requires c κs = search needs
-
 -- What the writer promises, by what it answers.
 abbrev Promised : tie.After-write → Written → Type 0
 Promised c r = let a = c .before .before .before .before .before .args in WritePromise (now (a .file)) (now (a .released)) (now (a .text)) r (c .write .last .1 .1 .0)
-
-enum-known-n : tie.Need-enum-known-n
-enum-known-n c = search needs
-
-enum-known-n-2 : tie.Need-enum-known-n-2
-enum-known-n-2 c = search needs
-
-put-refused-requires : tie.Need-put-refused-requires
-put-refused-requires c κs = search needs
-
-same-length : tie.Need-same-length
-same-length c = search needs
 
 returns : tie.Need-returns
 returns c =
     let n = c .before in
     let w = n .before .before .before .before in
     replied (file-written _ _ _ (w .before .before .before .before .before .pre) (subst (Promised w) (n .n .given .1) (w .write .ensures))) (w .write .kept .1 .1 .0)
-
-same-length-2 : tie.Need-same-length-2
-same-length-2 c = search needs
 
 returns-2 : tie.Need-returns-2
 returns-2 c =
@@ -57,11 +39,4 @@ pub write-file-spec : {M : Type 1} → statement M
 write-file-spec =
     tie.close
     (tie.spec
-    write-requires
-    enum-known-n
-    enum-known-n-2
-    put-refused-requires
-    same-length
-    returns
-    same-length-2
-    returns-2)
+    (λ c κs. search needs) (λ c. search needs) (λ c. search needs) (λ c κs. search needs) (λ c. search needs) returns (λ c. search needs) returns-2)

@@ -12,9 +12,6 @@ put-clock-requires c κs =
     let a = s .args in
     omega (arith, s .pre, to-length (a .number) (a .low) (a .high) (c .before .if1 .taken))
 
-slice-aggregate-put-bytes : tie.Need-slice-aggregate-put-bytes
-slice-aggregate-put-bytes c = search needs
-
 put-bytes-requires : tie.Need-put-bytes-requires
 put-bytes-requires c κs =
     let k = c .before .before .before .before in
@@ -40,9 +37,6 @@ put-decimal-requires c κs =
       to-length (a .number) (a .low) (a .high) (i .if1 .taken),
     )
 
-same-length : tie.Need-same-length
-same-length c = search needs
-
 returns : tie.Need-returns
 returns c =
     let d = c .before .before in
@@ -64,9 +58,6 @@ put-clock-requires-2 c κs =
     let a = s .args in
     omega (arith, s .pre, on-length (a .number) (a .low) (a .high) (c .before .before .if1 .left) (c .before .if2 .left))
 
-slice-aggregate-put-bytes-2 : tie.Need-slice-aggregate-put-bytes-2
-slice-aggregate-put-bytes-2 c = search needs
-
 put-bytes-requires-2 : tie.Need-put-bytes-requires-2
 put-bytes-requires-2 c κs =
     let k = c .before .before .before .before in
@@ -74,9 +65,6 @@ put-bytes-requires-2 c κs =
     let s = i .before .before .before in
     let a = s .args in
     omega (arith, s .pre, k .put-clock2 .ensures .next, k .put-clock2 .kept .0, on-length (a .number) (a .low) (a .high) (i .before .if1 .left) (i .if2 .left))
-
-same-length-2 : tie.Need-same-length-2
-same-length-2 c = search needs
 
 returns-3 : tie.Need-returns-3
 returns-3 c =
@@ -91,15 +79,5 @@ pub put-bound-spec : {M : Type 1} → statement M
 put-bound-spec =
     tie.close
     (tie.spec
-    put-clock-requires
-    slice-aggregate-put-bytes
-    put-bytes-requires
-    put-decimal-requires
-    same-length
-    returns
-    returns-2
-    put-clock-requires-2
-    slice-aggregate-put-bytes-2
-    put-bytes-requires-2
-    same-length-2
-    returns-3)
+    put-clock-requires (λ c. search needs) put-bytes-requires put-decimal-requires (λ c. search needs) returns returns-2 put-clock-requires-2
+    (λ c. search needs) put-bytes-requires-2 (λ c. search needs) returns-3)

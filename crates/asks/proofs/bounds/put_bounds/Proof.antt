@@ -21,24 +21,6 @@ room s = rw (bounds-start (now (s .args .rule)) (s .args .clocks)) (s .pre .2)
 loop-holds : tie.Need-loop-holds Inv-loop μ-loop
 loop-holds c = (search needs, under-start _ _ _)
 
-mul-pair-within : tie.Need-mul-pair-within Inv-loop μ-loop
-mul-pair-within c = search needs
-
-add-pair-within : tie.Need-add-pair-within Inv-loop μ-loop
-add-pair-within c = search needs
-
-pair-within-requires : tie.Need-pair-within-requires Inv-loop μ-loop
-pair-within-requires c κs = search needs
-
-mul-pair-within-2 : tie.Need-mul-pair-within-2 Inv-loop μ-loop
-mul-pair-within-2 c = search needs
-
-add-pair-within-2 : tie.Need-add-pair-within-2 Inv-loop μ-loop
-add-pair-within-2 c = search needs
-
-pair-within-requires-2 : tie.Need-pair-within-requires-2 Inv-loop μ-loop
-pair-within-requires-2 c κs = search needs
-
 put-bound-requires : tie.Need-put-bound-requires Inv-loop μ-loop
 put-bound-requires c κs =
     let high = c .before .pair-within2 in
@@ -48,12 +30,6 @@ put-bound-requires c κs =
     let i = l .loop .i in
     under-room (room s) (l .loop .inv .1) (bound i (low .result) (high .result)) (boundsOn (now (s .args .rule)) (s .args .clocks) (i + 1))
     (bounds-turn (now (s .args .rule)) (s .args .clocks) i (c .before .before .before .loop-test .taken) (low .ensures .0) (high .ensures .0))
-
-add-i : tie.Need-add-i Inv-loop μ-loop
-add-i c = search needs
-
-loop-less : tie.Need-loop-less Inv-loop μ-loop
-loop-less c = search needs
 
 loop-again : tie.Need-loop-again Inv-loop μ-loop
 loop-again c =
@@ -69,9 +45,6 @@ loop-again c =
           (p .ensures) (p .kept .0),
     )
 
-same-length : tie.Need-same-length Inv-loop μ-loop
-same-length c = search needs
-
 returns : tie.Need-returns Inv-loop μ-loop
 returns c =
     let l = c .before .loop in
@@ -82,18 +55,5 @@ pub put-bounds-spec : {M : Type 1} → statement M
 put-bounds-spec =
     tie.close
     (tie.spec
-    Inv-loop
-    μ-loop
-    loop-holds
-    mul-pair-within
-    add-pair-within
-    pair-within-requires
-    mul-pair-within-2
-    add-pair-within-2
-    pair-within-requires-2
-    put-bound-requires
-    add-i
-    loop-less
-    loop-again
-    same-length
-    returns)
+    Inv-loop μ-loop loop-holds (λ c. search needs) (λ c. search needs) (λ c κs. search needs) (λ c. search needs) (λ c. search needs)
+    (λ c κs. search needs) put-bound-requires (λ c. search needs) (λ c. search needs) loop-again (λ c. search needs) returns)

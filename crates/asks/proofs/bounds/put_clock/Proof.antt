@@ -7,12 +7,6 @@ use borrow.Author.Needs.{needs}
 use Rattle.asks.proofs.bounds.put_clock.Statement.{statement}
 use Rattle.asks.proofs.bounds.put_clock.Tie as tie
 
-slice-aggregate-put-about : tie.Need-slice-aggregate-put-about
-slice-aggregate-put-about c = search needs
-
-slice-aggregate-put-about-2 : tie.Need-slice-aggregate-put-about-2
-slice-aggregate-put-about-2 c = search needs
-
 put-about-requires : tie.Need-put-about-requires
 put-about-requires c κs = let s = c .before .before .before .before in omega (arith, s .pre, clock-length (s .args .number) (s .args .low))
 
@@ -29,13 +23,10 @@ put-decimal-requires c κs =
       clock-length (s .args .number) (s .args .low),
     )
 
-same-length : tie.Need-same-length
-same-length c = search needs
-
 returns : tie.Need-returns
 returns c =
     let p = c .before .before .before .before .before .before in
     wrote-then (omega (arith, p .before .before .before .before .before .pre)) (p .put-about .ensures) (c .before .before .put-decimal .ensures)
 
 pub put-clock-spec : {M : Type 1} → statement M
-put-clock-spec = tie.close (tie.spec slice-aggregate-put-about slice-aggregate-put-about-2 put-about-requires put-decimal-requires same-length returns)
+put-clock-spec = tie.close (tie.spec (λ c. search needs) (λ c. search needs) put-about-requires put-decimal-requires (λ c. search needs) returns)

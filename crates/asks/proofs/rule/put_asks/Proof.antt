@@ -13,9 +13,6 @@ use borrow.Author.Needs.{needs}
 use Rattle.asks.proofs.rule.put_asks.Statement.{statement}
 use Rattle.asks.proofs.rule.put_asks.Tie as tie
 
-byte-within-requires : tie.Need-byte-within-requires
-byte-within-requires c κs = search needs
-
 -- The three parts.
 abbrev start : tie.After-byte-within → tie.Start
 start c = c .before .before .before .before .before .before
@@ -67,9 +64,6 @@ put-bounds-requires c κs =
       ),
     )
 
-same-length : tie.Need-same-length
-same-length c = search needs
-
 returns : tie.Need-returns
 returns c =
     let e = c .before .before in
@@ -81,12 +75,4 @@ returns c =
     rw (parts b) (wrote-then (omega (arith, s .pre .1)) two (e .put-bounds .ensures))
 
 pub put-asks-spec : {M : Type 1} → statement M
-put-asks-spec =
-    tie.close
-    (tie.spec
-    byte-within-requires
-    put-location-requires
-    put-cared-requires
-    put-bounds-requires
-    same-length
-    returns)
+put-asks-spec = tie.close (tie.spec (λ c κs. search needs) put-location-requires put-cared-requires put-bounds-requires (λ c. search needs) returns)

@@ -7,9 +7,6 @@ use borrow.Author.Needs.{needs}
 use Rattle.asks.proofs.rule.put_location.Statement.{statement}
 use Rattle.asks.proofs.rule.put_location.Tie as tie
 
-slice-aggregate-put-bytes : tie.Need-slice-aggregate-put-bytes
-slice-aggregate-put-bytes c = search needs
-
 put-bytes-requires : tie.Need-put-bytes-requires
 put-bytes-requires c κs = let s = c .before .before .before in omega (arith, s .pre, location-length (s .args .number))
 
@@ -19,9 +16,6 @@ put-decimal-requires c κs =
     let s = p .before .before .before .before in
     omega (arith, s .pre, p .put-bytes .ensures .next, p .put-bytes .kept .0, location-length (s .args .number))
 
-same-length : tie.Need-same-length
-same-length c = search needs
-
 returns : tie.Need-returns
 unfolding location
 returns c =
@@ -29,4 +23,4 @@ returns c =
     wrote-then (omega (arith, p .before .before .before .before .pre)) (p .put-bytes .ensures) (c .before .before .put-decimal .ensures)
 
 pub put-location-spec : {M : Type 1} → statement M
-put-location-spec = tie.close (tie.spec slice-aggregate-put-bytes put-bytes-requires put-decimal-requires same-length returns)
+put-location-spec = tie.close (tie.spec (λ c. search needs) put-bytes-requires put-decimal-requires (λ c. search needs) returns)

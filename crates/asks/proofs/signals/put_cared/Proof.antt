@@ -14,24 +14,6 @@ use borrow.Author.Needs.{needs}
 use Rattle.asks.proofs.signals.put_cared.Statement.{statement}
 use Rattle.asks.proofs.signals.put_cared.Tie as tie
 
-byte-within-requires : tie.Need-byte-within-requires
-byte-within-requires c κs = search needs
-
-byte-within-requires-2 : tie.Need-byte-within-requires-2
-byte-within-requires-2 c κs = search needs
-
-byte-within-requires-3 : tie.Need-byte-within-requires-3
-byte-within-requires-3 c κs = search needs
-
-sub-x-off : tie.Need-sub-x-off
-sub-x-off c = search needs
-
-byte-within-requires-4 : tie.Need-byte-within-requires-4
-byte-within-requires-4 c κs = search needs
-
-sub-y-off : tie.Need-sub-y-off
-sub-y-off c = search needs
-
 -- The two parts, by the bytes that were read.
 abbrev start : tie.After-byte-within4 → tie.Start
 start c = c .before .before .before .before .before .before .before .before
@@ -62,25 +44,16 @@ long c =
     cared-length (now (a .inputs)) (now (a .outputs)) (now (a .rule)) (c .before .before .before .byte-within .ensures .0) (c .before .before .byte-within2 .ensures .0)
     (c .before .byte-within3 .ensures .0) (c .byte-within4 .ensures .0)
 
-slice-aggregate-put-signals : tie.Need-slice-aggregate-put-signals
-slice-aggregate-put-signals c = search needs
-
 put-signals-requires : tie.Need-put-signals-requires
 put-signals-requires c κs =
     let b = c .before .before in
     (b .before .before .before .byte-within .ensures .1, b .before .before .byte-within2 .ensures .1, omega (arith, long b, start b .pre .1))
-
-slice-aggregate-put-signals-2 : tie.Need-slice-aggregate-put-signals-2
-slice-aggregate-put-signals-2 c = search needs
 
 put-signals-requires-2 : tie.Need-put-signals-requires-2
 put-signals-requires-2 c κs =
     let p = c .before .before .before .before in
     let b = p .before .before .before in
     (omega (arith, b .before .byte-within3 .ensures .1), omega (arith, b .byte-within4 .ensures .1), omega (arith, long b, start b .pre .1, p .put-signals .ensures .next, p .put-signals .kept .0))
-
-same-length : tie.Need-same-length
-same-length c = search needs
 
 returns : tie.Need-returns
 returns c =
@@ -93,15 +66,5 @@ pub put-cared-spec : {M : Type 1} → statement M
 put-cared-spec =
     tie.close
     (tie.spec
-    byte-within-requires
-    byte-within-requires-2
-    byte-within-requires-3
-    sub-x-off
-    byte-within-requires-4
-    sub-y-off
-    slice-aggregate-put-signals
-    put-signals-requires
-    slice-aggregate-put-signals-2
-    put-signals-requires-2
-    same-length
-    returns)
+    (λ c κs. search needs) (λ c κs. search needs) (λ c κs. search needs) (λ c. search needs) (λ c κs. search needs) (λ c. search needs)
+    (λ c. search needs) put-signals-requires (λ c. search needs) put-signals-requires-2 (λ c. search needs) returns)

@@ -20,9 +20,6 @@ abbrev μ-loop : tie.MeasureT-loop
 loop-holds : tie.Need-loop-holds Inv-loop μ-loop
 loop-holds c = (search needs, under-start _ _ _)
 
-shared-slice-read-put-name : tie.Need-shared-slice-read-put-name Inv-loop μ-loop
-shared-slice-read-put-name c = search needs
-
 put-name-requires : tie.Need-put-name-requires Inv-loop μ-loop
 put-name-requires c κs =
     let l = c .before .before .before in
@@ -31,12 +28,6 @@ put-name-requires c κs =
     let i = l .loop .i in
     let m = l .loop .mask-on in
     under-room (s .pre) (l .loop .inv .1) (name (getD t i 0) m) (names (drop (i + 1) t) (m / 2)) (names-turn t i m (omega arith))
-
-add-i : tie.Need-add-i Inv-loop μ-loop
-add-i c = search needs
-
-loop-less : tie.Need-loop-less Inv-loop μ-loop
-loop-less c = search needs
 
 loop-again : tie.Need-loop-again Inv-loop μ-loop
 loop-again c =
@@ -47,9 +38,6 @@ loop-again c =
       under-more (s .pre) (l .loop .inv .1) (names-turn (now (s .args .tags)) (l .loop .i) (l .loop .mask-on) (omega arith)) (p .ensures) (p .kept .0),
     )
 
-same-length : tie.Need-same-length Inv-loop μ-loop
-same-length c = search needs
-
 returns : tie.Need-returns Inv-loop μ-loop
 returns c =
     let l = c .before .loop in
@@ -59,13 +47,4 @@ pub put-names-spec : {M : Type 1} → statement M
 put-names-spec =
     tie.close
     (tie.spec
-    Inv-loop
-    μ-loop
-    loop-holds
-    shared-slice-read-put-name
-    put-name-requires
-    add-i
-    loop-less
-    loop-again
-    same-length
-    returns)
+    Inv-loop μ-loop loop-holds (λ c. search needs) put-name-requires (λ c. search needs) (λ c. search needs) loop-again (λ c. search needs) returns)

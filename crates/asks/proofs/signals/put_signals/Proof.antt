@@ -11,9 +11,6 @@ use borrow.Author.Needs.{needs}
 use Rattle.asks.proofs.signals.put_signals.Statement.{statement}
 use Rattle.asks.proofs.signals.put_signals.Tie as tie
 
-add-if1 : tie.Need-add-if1
-add-if1 c = search needs
-
 returns : tie.Need-returns
 returns c =
     let a = c .before .before .before .before .before .args in
@@ -25,9 +22,6 @@ parts : (c : tie.Else1) →
     length (signals (now (a .inputs)) (now (a .outputs)) (a .x) (a .y) (now (a .word)))
     ≡ 1 + length (names (now (a .inputs)) (a .x)) + length (names (now (a .outputs)) (a .y)) + length (now (a .word))
 parts c = let a = c .before .before .before .before .before .args in signals-length (now (a .inputs)) (now (a .outputs)) (a .x) (a .y) (now (a .word)) (c .if1 .left)
-
-slice-aggregate-put-bytes : tie.Need-slice-aggregate-put-bytes
-slice-aggregate-put-bytes c = search needs
 
 put-bytes-requires : tie.Need-put-bytes-requires
 put-bytes-requires c κs = let i = c .before .before in omega (arith, i .before .before .before .before .before .pre, parts i)
@@ -63,9 +57,6 @@ put-bytes-requires-2 c κs =
       m .put-names2 .kept .0,
     )
 
-same-length : tie.Need-same-length
-same-length c = search needs
-
 returns-2 : tie.Need-returns-2
 returns-2 c =
     let e = c .before .before in
@@ -83,12 +74,5 @@ pub put-signals-spec : {M : Type 1} → statement M
 put-signals-spec =
     tie.close
     (tie.spec
-    add-if1
-    returns
-    slice-aggregate-put-bytes
-    put-bytes-requires
-    put-names-requires
-    put-names-requires-2
-    put-bytes-requires-2
-    same-length
-    returns-2)
+    (λ c. search needs) returns (λ c. search needs) put-bytes-requires put-names-requires put-names-requires-2 put-bytes-requires-2
+    (λ c. search needs) returns-2)

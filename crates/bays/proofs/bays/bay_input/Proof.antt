@@ -13,12 +13,6 @@ use Rattle.bays.proofs.bays.bay_input.Statement.{statement}
 use Rattle.bays.proofs.bays.bay_input.Tie as tie
 use Rattle.enforcer.specs.declared.state.State.{State}
 
-bays-in-requires : tie.Need-bays-in-requires
-bays-in-requires c κs = search needs
-
-no-bay-requires : tie.Need-no-bay-requires
-no-bay-requires c κs = search needs
-
 returns : tie.Need-returns
 returns c =
     let n = c .before .before in
@@ -36,9 +30,6 @@ is c = omega (arith, c .before .bays-in .ensures, c .if1 .left)
 bay-state-requires : tie.Need-bay-state-requires
 bay-state-requires c κs = is c
 
-input-half-requires : tie.Need-input-half-requires
-input-half-requires c κs = search needs
-
 returns-2 : tie.Need-returns-2
 returns-2 c =
     let e = c .before .before in
@@ -51,4 +42,4 @@ returns-2 c =
     }
 
 pub bay-input-spec : {M : Type 1} → statement M
-bay-input-spec = tie.close (tie.spec bays-in-requires no-bay-requires returns bay-state-requires input-half-requires returns-2)
+bay-input-spec = tie.close (tie.spec (λ c κs. search needs) (λ c κs. search needs) returns bay-state-requires (λ c κs. search needs) returns-2)

@@ -17,12 +17,6 @@ use Rattle.bays.proofs.bays.bay_output.Statement.{statement}
 use Rattle.bays.proofs.bays.bay_output.Tie as tie
 use Rattle.enforcer.specs.declared.state.State.{State}
 
-bays-in-requires : tie.Need-bays-in-requires
-bays-in-requires c κs = search needs
-
-no-bay-requires : tie.Need-no-bay-requires
-no-bay-requires c κs = search needs
-
 returns : tie.Need-returns
 returns c =
     let n = c .before .before in
@@ -40,14 +34,8 @@ is c = omega (arith, c .before .bays-in .ensures, c .if1 .left)
 bay-state-requires : tie.Need-bay-state-requires
 bay-state-requires c κs = is (c .before)
 
-output-requires : tie.Need-output-requires
-output-requires c κs = search needs
-
 put-bay-requires : tie.Need-put-bay-requires
 put-bay-requires c κs = is (c .before .before .before .before .before)
-
-same-length : tie.Need-same-length
-same-length c = search needs
 
 returns-2 : tie.Need-returns-2
 returns-2 c =
@@ -69,4 +57,6 @@ returns-2 c =
 
 pub bay-output-spec : {M : Type 1} → statement M
 bay-output-spec =
-    tie.close (tie.spec bays-in-requires no-bay-requires returns bay-state-requires output-requires put-bay-requires same-length returns-2)
+    tie.close
+    (tie.spec
+    (λ c κs. search needs) (λ c κs. search needs) returns bay-state-requires (λ c κs. search needs) put-bay-requires (λ c. search needs) returns-2)

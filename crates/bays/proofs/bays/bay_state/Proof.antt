@@ -25,17 +25,8 @@ add-to c = omega (arith, there c)
 mul-state-of : tie.Need-mul-state-of
 mul-state-of c = omega (arith, there c)
 
-sub-state-of : tie.Need-sub-state-of
-sub-state-of c = search needs
-
-part-state-of-start : tie.Need-part-state-of-start
-part-state-of-start c = search needs
-
 part-state-of-end : tie.Need-part-state-of-end
 part-state-of-end c = omega (arith, there c)
-
-state-of-requires : tie.Need-state-of-requires
-state-of-requires c κs = search needs
 
 returns : tie.Need-returns
 returns c =
@@ -44,4 +35,7 @@ returns c =
     c .state-of .ensures ∙ ap (λ (n : ℕ). stateIn (take n (drop (a .bay * 5) (now (a .states))))) five
 
 pub bay-state-spec : {M : Type 1} → statement M
-bay-state-spec = tie.close (tie.spec mul-from add-to mul-state-of sub-state-of part-state-of-start part-state-of-end state-of-requires returns)
+bay-state-spec =
+    tie.close
+    (tie.spec
+    mul-from add-to mul-state-of (λ c. search needs) (λ c. search needs) part-state-of-end (λ c κs. search needs) returns)

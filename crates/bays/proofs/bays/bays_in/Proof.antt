@@ -9,9 +9,6 @@ returns : tie.Need-returns
 unfolding baysIn
 returns c = rw (ne-eqb _ 0 (c .if1 .taken))
 
-mul-if2 : tie.Need-mul-if2
-mul-if2 c = search needs
-
 returns-2 : tie.Need-returns-2
 unfolding baysIn
 returns-2 c = rw (eq-eqb _ 0 (c .before .if1 .left), lt-leb (c .before .before .args .numbers) 40 (c .if2 .taken))
@@ -21,4 +18,4 @@ unfolding baysIn
 returns-3 c = rw (eq-eqb _ 0 (c .before .if1 .left), le-leb (c .before .before .args .numbers) 40 (c .if2 .left))
 
 pub bays-in-spec : {M : Type 1} → statement M
-bays-in-spec = tie.close (tie.spec returns mul-if2 returns-2 returns-3)
+bays-in-spec = tie.close (tie.spec returns (λ c. search needs) returns-2 returns-3)

@@ -10,9 +10,6 @@ use borrow.Author.Needs.{needs}
 use Rattle.bays.proofs.bays.bays_new.Statement.{statement}
 use Rattle.bays.proofs.bays.bays_new.Tie as tie
 
-bays-in-requires : tie.Need-bays-in-requires
-bays-in-requires c κs = search needs
-
 returns : tie.Need-returns
 unfolding newRefusal newStates
 returns c =
@@ -23,9 +20,6 @@ returns c =
 start-all-requires : tie.Need-start-all-requires
 start-all-requires c κs = (omega (arith, c .before .if1 .left), c .before .before .bays-in .ensures)
 
-same-length : tie.Need-same-length
-same-length c = search needs
-
 returns-2 : tie.Need-returns-2
 unfolding newRefusal newStates
 returns-2 c =
@@ -35,4 +29,4 @@ returns-2 c =
     record { said = rw e; states = rw e (c .before .before .start-all .ensures ∙ ap started (d .before .bays-in .ensures)) }
 
 pub bays-new-spec : {M : Type 1} → statement M
-bays-new-spec = tie.close (tie.spec bays-in-requires returns start-all-requires same-length returns-2)
+bays-new-spec = tie.close (tie.spec (λ c κs. search needs) returns start-all-requires (λ c. search needs) returns-2)

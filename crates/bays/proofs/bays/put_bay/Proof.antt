@@ -26,20 +26,8 @@ add-end c = omega (arith, there c)
 mul-put-state : tie.Need-mul-put-state
 mul-put-state c = omega (arith, there c)
 
-sub-put-state : tie.Need-sub-put-state
-sub-put-state c = search needs
-
-part-put-state-start : tie.Need-part-put-state-start
-part-put-state-start c = search needs
-
 part-put-state-end : tie.Need-part-put-state-end
 part-put-state-end c = omega (arith, there c)
-
-put-state-requires : tie.Need-put-state-requires
-put-state-requires c κs = search needs
-
-same-length : tie.Need-same-length
-same-length c = search needs
 
 returns : tie.Need-returns
 returns c =
@@ -53,12 +41,4 @@ pub put-bay-spec : {M : Type 1} → statement M
 put-bay-spec =
     tie.close
     (tie.spec
-    mul-start
-    add-end
-    mul-put-state
-    sub-put-state
-    part-put-state-start
-    part-put-state-end
-    put-state-requires
-    same-length
-    returns)
+    mul-start add-end mul-put-state (λ c. search needs) (λ c. search needs) part-put-state-end (λ c κs. search needs) (λ c. search needs) returns)

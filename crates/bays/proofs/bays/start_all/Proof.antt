@@ -41,19 +41,10 @@ loop-holds : tie.Need-loop-holds Inv-loop μ-loop
 unfolding started
 loop-holds c = (zero-le, refl, refl)
 
-start-requires : tie.Need-start-requires Inv-loop μ-loop
-start-requires c κs = search needs
-
 put-bay-requires : tie.Need-put-bay-requires Inv-loop μ-loop
 put-bay-requires c κs =
     let l = c .before .before .before in
     omega (arith, ap baysIn (l .loop .inv .2), l .before .before .pre, c .before .before .loop-test .taken)
-
-add-bay : tie.Need-add-bay Inv-loop μ-loop
-add-bay c = search needs
-
-loop-less : tie.Need-loop-less Inv-loop μ-loop
-loop-less c = search needs
 
 loop-again : tie.Need-loop-again Inv-loop μ-loop
 loop-again c =
@@ -78,4 +69,7 @@ returns c =
     l .inv .1 ∙ rw (all, drop-of-length-le states {i = s .args .bays * 5} (omega (arith, five, s .pre)), append-nil)
 
 pub start-all-spec : {M : Type 1} → statement M
-start-all-spec = tie.close (tie.spec Inv-loop μ-loop loop-holds start-requires put-bay-requires add-bay loop-less loop-again same-length returns)
+start-all-spec =
+    tie.close
+    (tie.spec
+    Inv-loop μ-loop loop-holds (λ c κs. search needs) put-bay-requires (λ c. search needs) (λ c. search needs) loop-again same-length returns)

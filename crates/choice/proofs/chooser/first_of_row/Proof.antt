@@ -30,17 +30,8 @@ is-entry c =
     let s = c .before .before .before in
     rw (s .pre .0) (refl, entry-below _ (s .pre .1) _ (c .before .loop-test .taken))
 
-mul-start : tie.Need-mul-start Inv-loop μ-loop
-mul-start c = search needs
-
 loop-holds : tie.Need-loop-holds Inv-loop μ-loop
 loop-holds c = (omega arith, left-starts _ _ _ (c .pre .1) (c .pre .2))
-
-add-value : tie.Need-add-value Inv-loop μ-loop
-add-value c = search needs
-
-element-copy-out-value : tie.Need-element-copy-out-value Inv-loop μ-loop
-element-copy-out-value c = omega arith
 
 cast-if1 : tie.Need-cast-if1 Inv-loop μ-loop
 cast-if1 c = record { fits = omega (arith, is-entry c .1) }
@@ -55,12 +46,6 @@ returns c =
     sym
     (left-found _ _ _ (l .before .pre .1) (e .before .loop-test .taken) (is-entry e .0) (l .loop .inv .1) (c .before .before .if1 .taken)
     (sym (c .before .is-in .ensures) ∙ c .if2 .taken))
-
-add-i : tie.Need-add-i Inv-loop μ-loop
-add-i c = search needs
-
-loop-less : tie.Need-loop-less Inv-loop μ-loop
-loop-less c = search needs
 
 loop-again : tie.Need-loop-again Inv-loop μ-loop
 loop-again c =
@@ -80,4 +65,6 @@ returns-2 c = let l = c .before in sym (left-ends _ _ _ (l .before .pre .1) {i =
 pub first-of-row-spec : {M : Type 1} → statement M
 first-of-row-spec =
     tie.close
-    (tie.spec Inv-loop μ-loop mul-start loop-holds add-value element-copy-out-value cast-if1 is-in-requires returns add-i loop-less loop-again returns-2)
+    (tie.spec
+    Inv-loop μ-loop (λ c. search needs) loop-holds (λ c. search needs) (λ c. omega arith) cast-if1 is-in-requires returns (λ c. search needs)
+    (λ c. search needs) loop-again returns-2)

@@ -5,11 +5,8 @@ use Rattle.choice.specs.Filled.{has-shift}
 use Rattle.choice.proofs.chooser.is_in.Statement.{statement}
 use Rattle.choice.proofs.chooser.is_in.Tie as tie
 
-shr-result : tie.Need-shr-result
-shr-result c = search needs
-
 returns : tie.Need-returns
 returns c = sym (has-shift (c .args .set) (c .args .value))
 
 pub is-in-spec : {M : Type 1} → statement M
-is-in-spec = tie.close (tie.spec shr-result returns)
+is-in-spec = tie.close (tie.spec (λ c. search needs) returns)

@@ -15,26 +15,11 @@ abbrev μ-loop : tie.MeasureT-loop
 loop-holds : tie.Need-loop-holds Inv-loop μ-loop
 loop-holds c = (omega arith, filled-none _ (search needs))
 
-sub-x : tie.Need-sub-x Inv-loop μ-loop
-sub-x c = search needs
-
 mul-all : tie.Need-mul-all Inv-loop μ-loop
 mul-all c = omega (arith, filled-fits (c .before .loop .inv .1) (c .loop-test .taken))
 
-mul-some : tie.Need-mul-some Inv-loop μ-loop
-mul-some c = search needs
-
-array-read-some : tie.Need-array-read-some Inv-loop μ-loop
-array-read-some c = search needs
-
-some-requires : tie.Need-some-requires Inv-loop μ-loop
-some-requires c κs = search needs
-
 add-all : tie.Need-add-all Inv-loop μ-loop
 add-all c = omega (arith, filled-fits (c .before .before .loop .inv .1) (c .before .loop-test .taken), c .some .ensures .0)
-
-loop-less : tie.Need-loop-less Inv-loop μ-loop
-loop-less c = search needs
 
 loop-again : tie.Need-loop-again Inv-loop μ-loop
 loop-again c = (omega arith, filled-more (c .before .before .loop .inv .1) (c .before .loop-test .taken) (c .before .before .loop .inv .0) (c .some .ensures))
@@ -46,15 +31,5 @@ pub standing-spec : {M : Type 1} → statement M
 standing-spec =
     tie.close
     (tie.spec
-    Inv-loop
-    μ-loop
-    loop-holds
-    sub-x
-    mul-all
-    mul-some
-    array-read-some
-    some-requires
-    add-all
-    loop-less
-    loop-again
-    returns)
+    Inv-loop μ-loop loop-holds (λ c. search needs) mul-all (λ c. search needs) (λ c. search needs) (λ c κs. search needs) add-all (λ c. search needs)
+    loop-again returns)

@@ -9,12 +9,9 @@ use Rattle.choice.proofs.sets.after.Tie as tie
 add-result : tie.Need-add-result
 add-result c = omega (arith, or-lt 4 (c .args .x) (c .args .care) (c .pre .1) (c .pre .0))
 
-sub-result : tie.Need-sub-result
-sub-result c = search needs
-
 returns : tie.Need-returns
 unfolding after
 returns c = search needs
 
 pub after-spec : {M : Type 1} → statement M
-after-spec = tie.close (tie.spec add-result sub-result returns)
+after-spec = tie.close (tie.spec add-result (λ c. search needs) returns)

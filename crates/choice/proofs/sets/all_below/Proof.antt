@@ -14,12 +14,6 @@ shift c =
     let l = pow-le-pow-right {n = 2} (omega arith) {i = c .args .n} {j = 16} (omega arith) in
     omega (arith, shl-exact {a = 1} 1 (c .args .n) 32 (omega arith) (omega arith), pow-pos (c .args .n), l)
 
-cast-result : tie.Need-cast-result
-cast-result c = search needs
-
-shl-result : tie.Need-shl-result
-shl-result c = search needs
-
 sub-result : tie.Need-sub-result
 sub-result c = omega (arith, shift c)
 
@@ -30,4 +24,4 @@ returns : tie.Need-returns
 returns c = ap (λ (z : ℕ). z - 1) (shift c .0)
 
 pub all-below-spec : {M : Type 1} → statement M
-all-below-spec = tie.close (tie.spec cast-result shl-result sub-result cast-result-2 returns)
+all-below-spec = tie.close (tie.spec (λ c. search needs) (λ c. search needs) sub-result cast-result-2 returns)

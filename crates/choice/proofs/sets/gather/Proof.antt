@@ -36,42 +36,6 @@ loop-holds c =
       walked-start _ _ _ _ _ (still (a .care) (a .value) (a .led) (now (a .left)) (now (a .found))) (c .pre .2),
     )
 
-mul-found : tie.Need-mul-found Inv-loop μ-loop
-mul-found c = search needs
-
-element-copy-out-found : tie.Need-element-copy-out-found Inv-loop μ-loop
-element-copy-out-found c = omega arith
-
-mul-found-2 : tie.Need-mul-found-2 Inv-loop μ-loop
-mul-found-2 c = search needs
-
-element-copy-out-found-2 : tie.Need-element-copy-out-found-2 Inv-loop μ-loop
-element-copy-out-found-2 c = omega arith
-
-mul-found-3 : tie.Need-mul-found-3 Inv-loop μ-loop
-mul-found-3 c = search needs
-
-element-write-found : tie.Need-element-write-found Inv-loop μ-loop
-element-write-found c = omega arith
-
-mul-left : tie.Need-mul-left Inv-loop μ-loop
-mul-left c = search needs
-
-element-copy-out-left : tie.Need-element-copy-out-left Inv-loop μ-loop
-element-copy-out-left c = omega arith
-
-mul-left-2 : tie.Need-mul-left-2 Inv-loop μ-loop
-mul-left-2 c = search needs
-
-element-copy-out-left-2 : tie.Need-element-copy-out-left-2 Inv-loop μ-loop
-element-copy-out-left-2 c = omega arith
-
-mul-left-3 : tie.Need-mul-left-3 Inv-loop μ-loop
-mul-left-3 c = search needs
-
-element-write-left : tie.Need-element-write-left Inv-loop μ-loop
-element-write-left c = omega arith
-
 after-requires : tie.Need-after-requires Inv-loop μ-loop
 after-requires c κs = let s = c .before .before .before .before .before .before in (s .pre .1, omega arith)
 
@@ -109,22 +73,6 @@ pub gather-spec : {M : Type 1} → statement M
 gather-spec =
     tie.close
     (tie.spec
-    Inv-loop
-    μ-loop
-    loop-holds
-    mul-found
-    element-copy-out-found
-    mul-found-2
-    element-copy-out-found-2
-    mul-found-3
-    element-write-found
-    mul-left
-    element-copy-out-left
-    mul-left-2
-    element-copy-out-left-2
-    mul-left-3
-    element-write-left
-    after-requires
-    loop-less
-    loop-again
-    returns)
+    Inv-loop μ-loop loop-holds (λ c. search needs) (λ c. omega arith) (λ c. search needs) (λ c. omega arith) (λ c. search needs) (λ c. omega arith)
+    (λ c. search needs) (λ c. omega arith) (λ c. search needs) (λ c. omega arith) (λ c. search needs) (λ c. omega arith) after-requires loop-less
+    loop-again returns)

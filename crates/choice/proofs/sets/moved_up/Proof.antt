@@ -7,12 +7,6 @@ use Rattle.choice.specs.Outs.{clear-outs}
 use Rattle.choice.proofs.sets.moved_up.Statement.{statement}
 use Rattle.choice.proofs.sets.moved_up.Tie as tie
 
-mul-result : tie.Need-mul-result
-mul-result c = search needs
-
-element-copy-out-result : tie.Need-element-copy-out-result
-element-copy-out-result c = omega arith
-
 -- The shift is by less than sixteen.
 low : (s : tie.Start) → bitAnd (s .args .value) (s .args .care) < 16
 low s = omega (arith, and-le-r (s .args .value) (s .args .care), s .pre .1)
@@ -27,4 +21,4 @@ returns : tie.Need-returns
 returns c = let s = c .before in rw (s .pre .0) (clear-outs (s .args .care) (s .args .value) (s .pre .1) (s .pre .2))
 
 pub moved-up-spec : {M : Type 1} → statement M
-moved-up-spec = tie.close (tie.spec mul-result element-copy-out-result cast-result shl-result returns)
+moved-up-spec = tie.close (tie.spec (λ c. search needs) (λ c. omega arith) cast-result shl-result returns)

@@ -15,23 +15,8 @@ Inv-loop inputs outputs all sets₀ x₀ sets x = ((x ≤ inputs) × (length set
 abbrev μ-loop : tie.MeasureT-loop
 μ-loop inputs outputs all sets₀ x₀ sets x = inputs - x
 
-all-below-requires : tie.Need-all-below-requires Inv-loop μ-loop
-all-below-requires c κs = search needs
-
 loop-holds : tie.Need-loop-holds Inv-loop μ-loop
 loop-holds c = (search needs, changed-none _ _)
-
-mul-sets : tie.Need-mul-sets Inv-loop μ-loop
-mul-sets c = search needs
-
-array-write-sets : tie.Need-array-write-sets Inv-loop μ-loop
-array-write-sets c = search needs
-
-add-x : tie.Need-add-x Inv-loop μ-loop
-add-x c = search needs
-
-loop-less : tie.Need-loop-less Inv-loop μ-loop
-loop-less c = search needs
 
 loop-again : tie.Need-loop-again Inv-loop μ-loop
 loop-again c = (search needs, changed-more (omega arith) refl (c .before .loop .inv .1))
@@ -47,13 +32,5 @@ pub room-spec : {M : Type 1} → statement M
 room-spec =
     tie.close
     (tie.spec
-    Inv-loop
-    μ-loop
-    all-below-requires
-    loop-holds
-    mul-sets
-    array-write-sets
-    add-x
-    loop-less
-    loop-again
+    Inv-loop μ-loop (λ c κs. search needs) loop-holds (λ c. search needs) (λ c. search needs) (λ c. search needs) (λ c. search needs) loop-again
     returns)

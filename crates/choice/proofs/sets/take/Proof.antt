@@ -18,24 +18,6 @@ abbrev μ-loop : tie.MeasureT-loop
 loop-holds : tie.Need-loop-holds Inv-loop μ-loop
 loop-holds c = walked-start _ _ _ _ _ (rest-still (c .args .care) (c .args .value) (c .args .set) (now (c .args .left))) (c .pre .2)
 
-mul-left : tie.Need-mul-left Inv-loop μ-loop
-mul-left c = search needs
-
-element-copy-out-left : tie.Need-element-copy-out-left Inv-loop μ-loop
-element-copy-out-left c = omega arith
-
-mul-left-2 : tie.Need-mul-left-2 Inv-loop μ-loop
-mul-left-2 c = search needs
-
-element-copy-out-left-2 : tie.Need-element-copy-out-left-2 Inv-loop μ-loop
-element-copy-out-left-2 c = omega arith
-
-mul-left-3 : tie.Need-mul-left-3 Inv-loop μ-loop
-mul-left-3 c = search needs
-
-element-write-left : tie.Need-element-write-left Inv-loop μ-loop
-element-write-left c = omega arith
-
 after-requires : tie.Need-after-requires Inv-loop μ-loop
 after-requires c κs = let s = c .before .before .before .before in (s .pre .1, omega arith)
 
@@ -65,16 +47,5 @@ pub take-spec : {M : Type 1} → statement M
 take-spec =
     tie.close
     (tie.spec
-    Inv-loop
-    μ-loop
-    loop-holds
-    mul-left
-    element-copy-out-left
-    mul-left-2
-    element-copy-out-left-2
-    mul-left-3
-    element-write-left
-    after-requires
-    loop-less
-    loop-again
-    returns)
+    Inv-loop μ-loop loop-holds (λ c. search needs) (λ c. omega arith) (λ c. search needs) (λ c. omega arith) (λ c. search needs) (λ c. omega arith)
+    after-requires loop-less loop-again returns)

@@ -23,22 +23,10 @@ abbrev μ-loop : tie.MeasureT-loop
 loop-holds : tie.Need-loop-holds Inv-loop μ-loop
 loop-holds c = (omega arith, refl, omega arith)
 
-shared-slice-read-one : tie.Need-shared-slice-read-one Inv-loop μ-loop
-shared-slice-read-one c = search needs
-
-one-requires : tie.Need-one-requires Inv-loop μ-loop
-one-requires c κs = search needs
-
 add-r : tie.Need-add-r Inv-loop μ-loop
 add-r c =
     let i = c .before .before in
     omega (arith, i .before .loop .inv, i .loop-test .taken, i .before .before .before .pre .1, c .one .ensures, bit-le (eqb (getD (now (i .before .before .before .args .flags)) (i .before .loop .i) 0) 1))
-
-add-i : tie.Need-add-i Inv-loop μ-loop
-add-i c = search needs
-
-loop-less : tie.Need-loop-less Inv-loop μ-loop
-loop-less c = search needs
 
 loop-again : tie.Need-loop-again Inv-loop μ-loop
 loop-again c =
@@ -59,4 +47,7 @@ returns c =
     (l .inv .1 ∙ ap (rank (flagsOf (now (a .flags)))) e, omega (arith, l .inv .2))
 
 pub rank-spec : {M : Type 1} → statement M
-rank-spec = tie.close (tie.spec Inv-loop μ-loop loop-holds shared-slice-read-one one-requires add-r add-i loop-less loop-again returns)
+rank-spec =
+    tie.close
+    (tie.spec
+    Inv-loop μ-loop loop-holds (λ c. search needs) (λ c κs. search needs) add-r (λ c. search needs) (λ c. search needs) loop-again returns)

@@ -8,9 +8,6 @@ use borrow.Author.Tests.{eq-eqb, ne-eqb}
 use Rattle.cleaning.proofs.list.kind_of.Statement.{statement}
 use Rattle.cleaning.proofs.list.kind_of.Tie as tie
 
-shared-slice-read-if1 : tie.Need-shared-slice-read-if1
-shared-slice-read-if1 c = search needs
-
 returns : tie.Need-returns
 returns c = (sym (ap (λ (t : Bool). cond {A = ℕ} t 3 2) (eq-eqb _ 1 (c .if1 .taken))), omega arith)
 
@@ -18,4 +15,4 @@ returns-2 : tie.Need-returns-2
 returns-2 c = (sym (ap (λ (t : Bool). cond {A = ℕ} t 3 2) (ne-eqb _ 1 (c .if1 .left))), omega arith)
 
 pub kind-of-spec : {M : Type 1} → statement M
-kind-of-spec = tie.close (tie.spec shared-slice-read-if1 returns returns-2)
+kind-of-spec = tie.close (tie.spec (λ c. search needs) returns returns-2)

@@ -12,9 +12,6 @@ lay-locations-requires c κs = flags-few (c .before .before .before .before .bef
 lay-rules-struck-requires : tie.Need-lay-rules-struck-requires
 lay-rules-struck-requires c κs = (c .before .before .before .before .before .before .before .before .before .pre, c .before .before .before .lay-locations .ensures .1)
 
-same-length : tie.Need-same-length
-same-length c = search needs
-
 returns : tie.Need-returns
 returns c =
     let p = c .before .before .before .before .before .before in
@@ -22,4 +19,4 @@ returns c =
     laid-as (struck-whole (now (a .entered)) (now (a .used)) (now (a .file)) (a .layout)) (laid-more (p .lay-locations .ensures .0) (c .before .before .lay-rules-struck .ensures))
 
 pub lay-list-spec : {M : Type 1} → statement M
-lay-list-spec = tie.close (tie.spec lay-locations-requires lay-rules-struck-requires same-length returns)
+lay-list-spec = tie.close (tie.spec lay-locations-requires lay-rules-struck-requires (λ c. search needs) returns)

@@ -23,19 +23,10 @@ abbrev μ-loop : tie.MeasureT-loop
 loop-holds : tie.Need-loop-holds Inv-loop μ-loop
 loop-holds c = (omega arith, omega arith, left-start _ _ _)
 
-shared-slice-read-kept : tie.Need-shared-slice-read-kept Inv-loop μ-loop
-shared-slice-read-kept c = search needs
-
 lay-unless-requires : tie.Need-lay-unless-requires Inv-loop μ-loop
 lay-unless-requires c κs =
     let i = c .before .before in
     (omega arith, omega (arith, i .loop-test .taken, i .before .before .before .before .pre), omega (arith, i .loop-test .taken, i .before .loop .inv .1, i .before .before .before .before .pre))
-
-add-i : tie.Need-add-i Inv-loop μ-loop
-add-i c = search needs
-
-loop-less : tie.Need-loop-less Inv-loop μ-loop
-loop-less c = search needs
 
 loop-again : tie.Need-loop-again Inv-loop μ-loop
 loop-again c =
@@ -54,4 +45,6 @@ returns c =
 
 pub lay-locations-spec : {M : Type 1} → statement M
 lay-locations-spec =
-    tie.close (tie.spec Inv-loop μ-loop loop-holds shared-slice-read-kept lay-unless-requires add-i loop-less loop-again same-length returns)
+    tie.close
+    (tie.spec
+    Inv-loop μ-loop loop-holds (λ c. search needs) lay-unless-requires (λ c. search needs) (λ c. search needs) loop-again same-length returns)

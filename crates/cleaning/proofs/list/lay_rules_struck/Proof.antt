@@ -39,9 +39,6 @@ loop-holds c =
     let k = s .pre .0 in
     (rest-start k, omega arith, left-same (left-start _ _ _) (struck-start (now (s .args .entered)) (now (s .args .used)) (k .laid) (k .rules)))
 
-shared-slice-read-kept : tie.Need-shared-slice-read-kept Inv-loop μ-loop
-shared-slice-read-kept c = search needs
-
 byte-within-requires : tie.Need-byte-within-requires Inv-loop μ-loop
 byte-within-requires c κs =
     let i = c .before in
@@ -108,18 +105,5 @@ pub lay-rules-struck-spec : {M : Type 1} → statement M
 lay-rules-struck-spec =
     tie.close
     (tie.spec
-    Inv-loop
-    μ-loop
-    mul-size
-    add-size
-    loop-holds
-    shared-slice-read-kept
-    byte-within-requires
-    kind-of-requires
-    lay-unless-requires
-    add-p
-    add-i
-    loop-less
-    loop-again
-    same-length
-    returns)
+    Inv-loop μ-loop mul-size add-size loop-holds (λ c. search needs) byte-within-requires kind-of-requires lay-unless-requires add-p add-i loop-less
+    loop-again same-length returns)

@@ -8,19 +8,10 @@ use Rattle.cleaning.proofs.list.lay_unless.Tie as tie
 returns : tie.Need-returns
 returns c = (rw (c .if1 .taken) (laid-none _ _), omega arith)
 
-put-requires : tie.Need-put-requires
-put-requires c κs = search needs
-
-put-pair-requires : tie.Need-put-pair-requires
-put-pair-requires c κs = search needs
-
-same-length : tie.Need-same-length
-same-length c = search needs
-
 returns-2 : tie.Need-returns-2
 returns-2 c =
     let p = c .before .before .before .before .before .before in
     (rw (p .before .before .if1 .left) (laid-more (p .put .ensures) (c .before .before .put-pair .ensures)), omega (arith, p .put .ensures .ends, c .before .before .put-pair .ensures .ends))
 
 pub lay-unless-spec : {M : Type 1} → statement M
-lay-unless-spec = tie.close (tie.spec returns put-requires put-pair-requires same-length returns-2)
+lay-unless-spec = tie.close (tie.spec returns (λ c κs. search needs) (λ c κs. search needs) (λ c. search needs) returns-2)

@@ -15,9 +15,6 @@ returns c = (rw (not-true (c .before .before .before .before .args .kept) (c .if
 lay-rule-requires : tie.Need-lay-rule-requires
 lay-rule-requires c κs = c .before .before .before .before .before .pre
 
-same-length : tie.Need-same-length
-same-length c = search needs
-
 returns-2 : tie.Need-returns-2
 returns-2 c =
     let h = c .before .before .before .before in
@@ -29,4 +26,4 @@ returns-2 c =
     )
 
 pub lay-kept-spec : {M : Type 1} → statement M
-lay-kept-spec = tie.close (tie.spec returns lay-rule-requires same-length returns-2)
+lay-kept-spec = tie.close (tie.spec returns lay-rule-requires (λ c. search needs) returns-2)

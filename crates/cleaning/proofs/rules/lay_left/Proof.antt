@@ -29,9 +29,6 @@ loop-holds c =
     let a = c .before .before .before .args in
     (omega arith, omega arith, left-same (left-start _ _ _) (left-from (now (a .entered)) (now (a .file)) (a .start) (length (now (a .entered)))))
 
-shared-slice-read-if1 : tie.Need-shared-slice-read-if1 Inv-loop μ-loop
-shared-slice-read-if1 c = search needs
-
 add-byte-within : tie.Need-add-byte-within Inv-loop μ-loop
 add-byte-within c = let i = c .before .before in omega (arith, i .loop-test .taken, entry i .pre)
 
@@ -88,18 +85,5 @@ pub lay-left-spec : {M : Type 1} → statement M
 lay-left-spec =
     tie.close
     (tie.spec
-    Inv-loop
-    μ-loop
-    loop-holds
-    shared-slice-read-if1
-    add-byte-within
-    byte-within-requires
-    put-requires
-    add-i
-    loop-less
-    loop-again
-    add-i-2
-    loop-less-2
-    loop-again-2
-    same-length
-    returns)
+    Inv-loop μ-loop loop-holds (λ c. search needs) add-byte-within byte-within-requires put-requires add-i loop-less loop-again add-i-2 loop-less-2
+    loop-again-2 same-length returns)

@@ -63,9 +63,6 @@ lay-rules-requires c κs = (
   omega (arith, c .before .before .before .put-pair .ensures .ends, c .before .before .before .before .before .before .before .lay-left .ensures .1, begins (c .before .before .before .before .before .before .before .before .before .before .before .before .before .before .before), c .before .before .before .before .before .before .before .before .before .before .before .put .ensures .ends),
 )
 
-same-length : tie.Need-same-length
-same-length c = search needs
-
 returns : tie.Need-returns
 returns c =
     let s = c .before .before .before .before .before .before .before .before .before .before .before .before .before .before .before .before .before .before .before .before .before .before .before .before .before .before .before .before in
@@ -77,15 +74,5 @@ pub lay-policy-spec : {M : Type 1} → statement M
 lay-policy-spec =
     tie.close
     (tie.spec
-    sub-locations
-    sub-locations-2
-    rank-requires
-    rank-requires-2
-    copy-requires
-    put-requires
-    add-lay-left
-    lay-left-requires
-    put-pair-requires
-    lay-rules-requires
-    same-length
-    returns)
+    sub-locations sub-locations-2 rank-requires rank-requires-2 copy-requires put-requires add-lay-left lay-left-requires put-pair-requires
+    lay-rules-requires (λ c. search needs) returns)

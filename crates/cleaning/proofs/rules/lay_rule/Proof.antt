@@ -63,9 +63,6 @@ copy-requires-2 c κs =
       omega (arith, c .before .before .before .put2 .ensures .ends, c .before .before .before .before .before .before .before .copy .ensures .ends, bytes-length (now (s .args .file)) (s .args .p + 1) 5, c .before .before .before .before .before .before .before .before .before .before .before .put .ensures .ends, s .pre .0),
     )
 
-same-length : tie.Need-same-length
-same-length c = search needs
-
 returns : tie.Need-returns
 returns c =
     let s = c .before .before .before .before .before .before .before .before .before .before .before .before .before .before .before .before .before .before .before .before .before .before .before in
@@ -81,17 +78,5 @@ pub lay-rule-spec : {M : Type 1} → statement M
 lay-rule-spec =
     tie.close
     (tie.spec
-    byte-within-requires
-    rank-requires
-    add-byte-within
-    byte-within-requires-2
-    renumber-requires
-    put-requires
-    add-copy
-    copy-requires
-    put-requires-2
-    add-copy-2
-    mul-copy
-    copy-requires-2
-    same-length
-    returns)
+    byte-within-requires rank-requires add-byte-within byte-within-requires-2 renumber-requires put-requires add-copy copy-requires put-requires-2
+    add-copy-2 mul-copy copy-requires-2 (λ c. search needs) returns)

@@ -47,9 +47,6 @@ loop-holds c =
     let k = s .pre .0 in
     (rest-start k, omega arith, left-same (left-start _ _ _) (cleaned-start (flagsOf (now (s .args .entered))) (now (s .args .used)) (k .laid) (k .rules)))
 
-shared-slice-read-kept : tie.Need-shared-slice-read-kept Inv-loop μ-loop
-shared-slice-read-kept c = search needs
-
 lay-kept-requires : tie.Need-lay-kept-requires Inv-loop μ-loop
 lay-kept-requires c κs =
     let i = c .before .before in
@@ -99,16 +96,4 @@ pub lay-rules-spec : {M : Type 1} → statement M
 lay-rules-spec =
     tie.close
     (tie.spec
-    Inv-loop
-    μ-loop
-    mul-size
-    add-size
-    loop-holds
-    shared-slice-read-kept
-    lay-kept-requires
-    add-p
-    add-i
-    loop-less
-    loop-again
-    same-length
-    returns)
+    Inv-loop μ-loop mul-size add-size loop-holds (λ c. search needs) lay-kept-requires add-p add-i loop-less loop-again same-length returns)

@@ -18,39 +18,12 @@ abbrev μ-loop : tie.MeasureT-loop
 loop-holds : tie.Need-loop-holds Inv-loop μ-loop
 loop-holds c = (omega arith, omega arith, under-start _ _ _)
 
-mul-c : tie.Need-mul-c Inv-loop μ-loop
-mul-c c = search needs
-
-array-read-c : tie.Need-array-read-c Inv-loop μ-loop
-array-read-c c = search needs
-
-high-byte-requires : tie.Need-high-byte-requires Inv-loop μ-loop
-high-byte-requires c κs = search needs
-
-low-byte-requires : tie.Need-low-byte-requires Inv-loop μ-loop
-low-byte-requires c κs = search needs
-
-slice-aggregate-put-bytes : tie.Need-slice-aggregate-put-bytes Inv-loop μ-loop
-slice-aggregate-put-bytes c = search needs
-
-put-bytes-requires : tie.Need-put-bytes-requires Inv-loop μ-loop
-put-bytes-requires c κs = search needs
-
-add-i : tie.Need-add-i Inv-loop μ-loop
-add-i c = search needs
-
-loop-less : tie.Need-loop-less Inv-loop μ-loop
-loop-less c = search needs
-
 loop-again : tie.Need-loop-again Inv-loop μ-loop
 loop-again c =
     let p = c .before .before .put-bytes in
     let l = c .before .before .before .before .before .before .before .before .loop in
     let a = c .before .before .before .before .before .before .before .before .before .before .args in
     (omega arith, omega (arith, p .ensures .next, l .inv .1), under-on (omega arith) (l .inv .2) (pairs-turn (a .t3) (a .clocks) (l .i) (omega arith) (omega arith) (c .before .before .before .before .before .before .high-byte .ensures) (c .before .before .before .before .before .low-byte .ensures)) (p .ensures) (p .kept .0))
-
-same-length : tie.Need-same-length Inv-loop μ-loop
-same-length c = search needs
 
 returns : tie.Need-returns Inv-loop μ-loop
 returns c =
@@ -62,17 +35,5 @@ pub put-pairs-spec : {M : Type 1} → statement M
 put-pairs-spec =
     tie.close
     (tie.spec
-    Inv-loop
-    μ-loop
-    loop-holds
-    mul-c
-    array-read-c
-    high-byte-requires
-    low-byte-requires
-    slice-aggregate-put-bytes
-    put-bytes-requires
-    add-i
-    loop-less
-    loop-again
-    same-length
-    returns)
+    Inv-loop μ-loop loop-holds (λ c. search needs) (λ c. search needs) (λ c κs. search needs) (λ c κs. search needs) (λ c. search needs)
+    (λ c κs. search needs) (λ c. search needs) (λ c. search needs) loop-again (λ c. search needs) returns)

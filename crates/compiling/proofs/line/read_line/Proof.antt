@@ -8,12 +8,6 @@ use Rattle.declarations.specs.Table.{placeNames, draftOf, fit-at, placed-same}
 use Rattle.compiling.proofs.line.read_line.Statement.{statement}
 use Rattle.compiling.proofs.line.read_line.Tie as tie
 
-word-in-requires : tie.Need-word-in-requires
-word-in-requires c κs = search needs
-
-unsaid-requires : tie.Need-unsaid-requires
-unsaid-requires c κs = search needs
-
 returns : tie.Need-returns
 returns c =
     let s = c .before .before .before .before .before .before in
@@ -29,27 +23,6 @@ returns c =
       s .pre .3,
     )
 
-sub-keyword : tie.Need-sub-keyword
-sub-keyword c = search needs
-
-part-keyword-start : tie.Need-part-keyword-start
-part-keyword-start c = search needs
-
-part-keyword-end : tie.Need-part-keyword-end
-part-keyword-end c = search needs
-
-keyword-requires : tie.Need-keyword-requires
-keyword-requires c κs = search needs
-
-words-behind-requires : tie.Need-words-behind-requires
-words-behind-requires c κs = search needs
-
-same-length : tie.Need-same-length
-same-length c = search needs
-
-same-length-2 : tie.Need-same-length-2
-same-length-2 c = search needs
-
 returns-2 : tie.Need-returns-2
 returns-2 c =
     let a = c .before .before .before .before .before .before .before .before .before .before .before .before .before .before .before .before .before .args in
@@ -64,15 +37,6 @@ returns-2 c =
       },
       said .ensures .2,
     )
-
-rule-line-requires : tie.Need-rule-line-requires
-rule-line-requires c κs = search needs
-
-same-length-3 : tie.Need-same-length-3
-same-length-3 c = search needs
-
-same-length-4 : tie.Need-same-length-4
-same-length-4 c = search needs
 
 returns-3 : tie.Need-returns-3
 returns-3 c =
@@ -94,18 +58,5 @@ pub read-line-spec : {M : Type 1} → statement M
 read-line-spec =
     tie.close
     (tie.spec
-    word-in-requires
-    unsaid-requires
-    returns
-    sub-keyword
-    part-keyword-start
-    part-keyword-end
-    keyword-requires
-    words-behind-requires
-    same-length
-    same-length-2
-    returns-2
-    rule-line-requires
-    same-length-3
-    same-length-4
-    returns-3)
+    (λ c κs. search needs) (λ c κs. search needs) returns (λ c. search needs) (λ c. search needs) (λ c. search needs) (λ c κs. search needs)
+    (λ c κs. search needs) (λ c. search needs) (λ c. search needs) returns-2 (λ c κs. search needs) (λ c. search needs) (λ c. search needs) returns-3)

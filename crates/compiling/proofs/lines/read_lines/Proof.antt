@@ -21,9 +21,6 @@ Inv-loop text pstarts₀ pends₀ table₀ count₀ passed₀ at₀ pstarts pend
 abbrev μ-loop : tie.MeasureT-loop
 μ-loop text pstarts₀ pends₀ table₀ count₀ passed₀ at₀ pstarts pends table count passed at = length text - at
 
-unread-requires : tie.Need-unread-requires Inv-loop μ-loop
-unread-requires c κs = search needs
-
 loop-holds : tie.Need-loop-holds Inv-loop μ-loop
 loop-holds c =
     let s = c .before .before .before .before in
@@ -38,9 +35,6 @@ loop-holds c =
       none .ensures .2 (now (a .text)) (now (a .pstarts)) (now (a .pends)) (s .pre .0) (s .pre .1),
       ([], before-lines (now (a .text)) names (none .result) (none .ensures .0 (now (a .text)) (now (a .pstarts)) (now (a .pends)))),
     )
-
-line-end-requires : tie.Need-line-end-requires Inv-loop μ-loop
-line-end-requires c κs = search needs
 
 read-line-requires : tie.Need-read-line-requires Inv-loop μ-loop
 read-line-requires c κs = let i = c .before .before .before .before .loop .inv in (c .before .before .line-end .ensures .after, c .before .before .line-end .ensures .within, i .4, i .5)
@@ -60,14 +54,8 @@ returns c =
     let k = c .before .before .before .before .before .before .read-line in
     (held-stops (l .inv .6 .1) (c .before .before .before .before .before .before .before .before .before .line-end .ensures) (c .before .before .before .before .before .before .before .before .before .before .loop-test .taken) (k .ensures .0) (c .if1 .taken) (record { refusal = k .result .refusal; line = l .passed + 1; count = l .count; table = l .table }) refl refl, l .inv .4, l .inv .3)
 
-add-count : tie.Need-add-count Inv-loop μ-loop
-add-count c = search needs
-
 add-passed : tie.Need-add-passed Inv-loop μ-loop
 add-passed c = omega (arith, c .before .before .before .before .before .before .before .before .before .before .before .before .before .loop .inv .0, c .before .before .before .before .before .before .before .before .before .before .before .before .before .loop .inv .1, c .before .before .before .before .before .before .before .before .before .before .before .before .loop-test .taken, c .before .before .before .before .before .before .before .before .before .before .before .before .before .before .before .before .before .before .good .0)
-
-next-line-requires : tie.Need-next-line-requires Inv-loop μ-loop
-next-line-requires c κs = search needs
 
 loop-less : tie.Need-loop-less Inv-loop μ-loop
 loop-less c =
@@ -95,12 +83,6 @@ loop-again c =
       (takenRules (l .inv .6 .0) (k .result), sofar-on (l .inv .6 .1) (e .ensures) inside (k .ensures .0) z (next-drop (now (a .text)) (e .result) (n .result) (e .ensures .within) (n .ensures .1) (n .ensures .2))),
     )
 
-same-length-3 : tie.Need-same-length-3 Inv-loop μ-loop
-same-length-3 c = search needs
-
-same-length-4 : tie.Need-same-length-4 Inv-loop μ-loop
-same-length-4 c = search needs
-
 returns-2 : tie.Need-returns-2 Inv-loop μ-loop
 returns-2 c =
     let a = c .before .before .before .before .before .before .args in
@@ -111,21 +93,5 @@ pub read-lines-spec : {M : Type 1} → statement M
 read-lines-spec =
     tie.close
     (tie.spec
-    Inv-loop
-    μ-loop
-    unread-requires
-    loop-holds
-    line-end-requires
-    read-line-requires
-    add-t16
-    same-length
-    same-length-2
-    returns
-    add-count
-    add-passed
-    next-line-requires
-    loop-less
-    loop-again
-    same-length-3
-    same-length-4
-    returns-2)
+    Inv-loop μ-loop (λ c κs. search needs) loop-holds (λ c κs. search needs) read-line-requires add-t16 same-length same-length-2 returns
+    (λ c. search needs) add-passed (λ c κs. search needs) loop-less loop-again (λ c. search needs) (λ c. search needs) returns-2)

@@ -5,43 +5,15 @@ use Rattle.compiling.specs.Promise.{rules-small}
 use Rattle.compiling.proofs.reader.file_length.Statement.{statement}
 use Rattle.compiling.proofs.reader.file_length.Tie as tie
 
-add-result : tie.Need-add-result
-add-result c = search needs
-
-mul-result : tie.Need-mul-result
-mul-result c = search needs
-
-add-result-2 : tie.Need-add-result-2
-add-result-2 c = search needs
-
-add-result-3 : tie.Need-add-result-3
-add-result-3 c = search needs
-
-mul-result-2 : tie.Need-mul-result-2
-mul-result-2 c = search needs
-
-add-result-4 : tie.Need-add-result-4
-add-result-4 c = search needs
-
 mul-result-3 : tie.Need-mul-result-3
 mul-result-3 c = omega (arith, rules-small (c .args .count) (c .args .clocks) (c .pre .3) (c .pre .1))
 
 add-result-5 : tie.Need-add-result-5
 add-result-5 c = omega (arith, rules-small (c .args .count) (c .args .clocks) (c .pre .3) (c .pre .1), c .pre .0, c .pre .1, c .pre .2)
 
-returns : tie.Need-returns
-returns c = search needs
-
 pub file-length-spec : {M : Type 1} → statement M
 file-length-spec =
     tie.close
     (tie.spec
-    add-result
-    mul-result
-    add-result-2
-    add-result-3
-    mul-result-2
-    add-result-4
-    mul-result-3
-    add-result-5
-    returns)
+    (λ c. search needs) (λ c. search needs) (λ c. search needs) (λ c. search needs) (λ c. search needs) (λ c. search needs) mul-result-3 add-result-5
+    (λ c. search needs))

@@ -6,15 +6,6 @@ use Rattle.compiling.specs.Promise.{Got, got, ceilings-fit, read-stopped
 use Rattle.compiling.proofs.reader.read.Statement.{statement}
 use Rattle.compiling.proofs.reader.read.Tie as tie
 
-slice-aggregate-read-lines : tie.Need-slice-aggregate-read-lines
-slice-aggregate-read-lines c = search needs
-
-slice-aggregate-read-lines-2 : tie.Need-slice-aggregate-read-lines-2
-slice-aggregate-read-lines-2 c = search needs
-
-read-lines-requires : tie.Need-read-lines-requires
-read-lines-requires c κs = search needs
-
 returns : tie.Need-returns
 returns c = let a = c .before .before .before .before .before .before .before .before .before .args in let r = c .before .before .before .before .read-lines in read-stopped (now (a .text)) (now (a .out)) (r .result) (r .ensures .0) (c .if1 .taken)
 
@@ -34,9 +25,6 @@ returns-2 c =
     let g : Got (now (a .text)) (r .result) = got (r .ensures .0) (c .before .before .before .before .if1 .left) in
     read-own (now (a .text)) (now (a .out)) f g (c .before .own-refusal .ensures) (c .if2 .taken)
 
-file-length-requires : tie.Need-file-length-requires
-file-length-requires c κs = search needs
-
 returns-3 : tie.Need-returns-3
 returns-3 c =
     let a = c .before .before .before .before .before .before .before .before .before .before .before .before .before .before .before .args in
@@ -44,15 +32,6 @@ returns-3 c =
     let f = r .ensures .1 in
     let g : Got (now (a .text)) (r .result) = got (r .ensures .0) (c .before .before .before .before .before .before .if1 .left) in
     read-short (now (a .text)) (now (a .out)) f g (c .before .before .before .own-refusal .ensures) (c .before .before .if2 .left) (omega (arith, c .before .file-length .ensures, c .if3 .taken))
-
-put-counts-requires : tie.Need-put-counts-requires
-put-counts-requires c κs = search needs
-
-slice-aggregate-store-lines : tie.Need-slice-aggregate-store-lines
-slice-aggregate-store-lines c = search needs
-
-slice-aggregate-store-lines-2 : tie.Need-slice-aggregate-store-lines-2
-slice-aggregate-store-lines-2 c = search needs
 
 store-lines-requires : tie.Need-store-lines-requires
 store-lines-requires c κs =
@@ -62,9 +41,6 @@ store-lines-requires c κs =
     let g : Got (now (a .text)) (r .result) = got (r .ensures .0) (c .before .before .before .before .before .before .before .before .before .before .before .before .before .if1 .left) in
     let p = c .before .before .before .before .before .put-counts in
     ((g .draft, g .lines, omega (arith, p .ensures .next, p .kept .1 .0, counts-room (now (a .text)) (now (a .out)) f g (omega (arith, c .before .before .before .before .before .before .before .before .file-length .ensures, c .before .before .before .before .before .before .before .if3 .left)))), (omega (arith, r .kept .1 .0), omega (arith, r .kept .1 .1 .0)))
-
-same-length : tie.Need-same-length
-same-length c = search needs
 
 returns-4 : tie.Need-returns-4
 returns-4 c =
@@ -80,17 +56,5 @@ pub read-spec : {M : Type 1} → statement M
 read-spec =
     tie.close
     (tie.spec
-    slice-aggregate-read-lines
-    slice-aggregate-read-lines-2
-    read-lines-requires
-    returns
-    own-refusal-requires
-    returns-2
-    file-length-requires
-    returns-3
-    put-counts-requires
-    slice-aggregate-store-lines
-    slice-aggregate-store-lines-2
-    store-lines-requires
-    same-length
-    returns-4)
+    (λ c. search needs) (λ c. search needs) (λ c κs. search needs) returns own-refusal-requires returns-2 (λ c κs. search needs) returns-3
+    (λ c κs. search needs) (λ c. search needs) (λ c. search needs) store-lines-requires (λ c. search needs) returns-4)

@@ -15,9 +15,6 @@ use Rattle.declarations.specs.Table.{placeNames}
 use Rattle.compiling.proofs.ruleline.rule_line.Statement.{statement}
 use Rattle.compiling.proofs.ruleline.rule_line.Tie as tie
 
-unsaid-requires : tie.Need-unsaid-requires
-unsaid-requires c κs = search needs
-
 returns : tie.Need-returns
 returns c =
     let s = c .before .before .before .before .before .before in
@@ -25,30 +22,6 @@ returns c =
     let names = placeNames (now (a .text)) (now (a .pstarts)) (now (a .pends)) (a .table) in
     let none = c .unsaid in
     (λ rules long. rule-nowhere (s .pre .2) names rules (wordsOf (part (now (a .text)) (a .at) (a .end - a .at))) (ruled (now (a .text)) names (a .table) rules (none .result)) (c .before .if1 .taken), none .ensures .1, λ z. absurd (omega arith))
-
-slice-aggregate-words-by : tie.Need-slice-aggregate-words-by
-slice-aggregate-words-by c = search needs
-
-slice-aggregate-words-by-2 : tie.Need-slice-aggregate-words-by-2
-slice-aggregate-words-by-2 c = search needs
-
-slice-aggregate-words-by-3 : tie.Need-slice-aggregate-words-by-3
-slice-aggregate-words-by-3 c = search needs
-
-slice-aggregate-words-by-4 : tie.Need-slice-aggregate-words-by-4
-slice-aggregate-words-by-4 c = search needs
-
-slice-aggregate-words-by-5 : tie.Need-slice-aggregate-words-by-5
-slice-aggregate-words-by-5 c = search needs
-
-sub-words-by : tie.Need-sub-words-by
-sub-words-by c = search needs
-
-part-words-by-start : tie.Need-part-words-by-start
-part-words-by-start c = search needs
-
-part-words-by-end : tie.Need-part-words-by-end
-part-words-by-end c = search needs
 
 words-by-requires : tie.Need-words-by-requires
 words-by-requires c κs =
@@ -88,17 +61,5 @@ pub rule-line-spec : {M : Type 1} → statement M
 rule-line-spec =
     tie.close
     (tie.spec
-    unsaid-requires
-    returns
-    slice-aggregate-words-by
-    slice-aggregate-words-by-2
-    slice-aggregate-words-by-3
-    slice-aggregate-words-by-4
-    slice-aggregate-words-by-5
-    sub-words-by
-    part-words-by-start
-    part-words-by-end
-    words-by-requires
-    returns-2
-    rule-refusal-requires
-    returns-3)
+    (λ c κs. search needs) returns (λ c. search needs) (λ c. search needs) (λ c. search needs) (λ c. search needs) (λ c. search needs)
+    (λ c. search needs) (λ c. search needs) (λ c. search needs) words-by-requires returns-2 rule-refusal-requires returns-3)

@@ -15,8 +15,5 @@ rule-words-requires c κs =
     let long = length-take-le (s .args .signals) (now (s .args .tags)) (s .pre .0 .1) in
     (rw long (s .pre .0 .0, s .pre .0 .2, s .pre .0 .3, s .pre .0 .4), s .pre .1)
 
-returns : tie.Need-returns
-returns c = search needs
-
 pub words-by-spec : {M : Type 1} → statement M
-words-by-spec = tie.close (tie.spec slice-aggregate-rule-words rule-words-requires returns)
+words-by-spec = tie.close (tie.spec slice-aggregate-rule-words rule-words-requires (λ c. search needs))

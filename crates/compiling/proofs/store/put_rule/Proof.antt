@@ -11,12 +11,6 @@ use Rattle.texts.specs.WroteLaws.{wrote-front}
 use Rattle.compiling.proofs.store.put_rule.Statement.{statement}
 use Rattle.compiling.proofs.store.put_rule.Tie as tie
 
-store-rule-requires : tie.Need-store-rule-requires
-store-rule-requires c κs = search needs
-
-slice-reshare-prefix-put-bytes : tie.Need-slice-reshare-prefix-put-bytes
-slice-reshare-prefix-put-bytes c = search needs
-
 slice-aggregate-put-bytes : tie.Need-slice-aggregate-put-bytes
 slice-aggregate-put-bytes c =
     let s = c .before .before .before .before .before .before .before .before .before in
@@ -29,12 +23,6 @@ put-bytes-requires c κs =
     let k = c .before .before .before .before .store-rule in
     omega (arith, k .ensures .0 .next, k .ensures .1, k .kept .0, length-take (k .result) (k .last .0), s .pre .0, s .pre .3, s .pre .5)
 
-same-length : tie.Need-same-length
-same-length c = search needs
-
-same-length-2 : tie.Need-same-length-2
-same-length-2 c = search needs
-
 returns : tie.Need-returns
 returns c =
     let a = c .before .before .before .before .before .before .before .before .before .before .before .before .args in
@@ -46,10 +34,4 @@ pub put-rule-spec : {M : Type 1} → statement M
 put-rule-spec =
     tie.close
     (tie.spec
-    store-rule-requires
-    slice-reshare-prefix-put-bytes
-    slice-aggregate-put-bytes
-    put-bytes-requires
-    same-length
-    same-length-2
-    returns)
+    (λ c κs. search needs) (λ c. search needs) slice-aggregate-put-bytes put-bytes-requires (λ c. search needs) (λ c. search needs) returns)

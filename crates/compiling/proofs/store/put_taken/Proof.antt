@@ -14,18 +14,12 @@ use Rattle.compiling.proofs.store.put_taken.Tie as tie
 returns : tie.Need-returns
 returns c = let a = c .before .before .before .args in taken-none (a .taken) (now (a .out)) (a .at) (c .if1 .taken)
 
-slice-aggregate-put-rule : tie.Need-slice-aggregate-put-rule
-slice-aggregate-put-rule c = search needs
-
 put-rule-requires : tie.Need-put-rule-requires
 put-rule-requires c κs =
     let s = c .before .before .before .before .before in
     let a = s .args in
     let one = is-one (a .taken .rule) (s .pre .0) (c .before .before .if1 .left) in
     (omega arith, s .pre .1 one, s .pre .2, s .pre .3, s .pre .4, subst (λ (z : List ℕ). a .at + length z ≤ length (now (a .out))) (taken-one (a .taken) one) (s .pre .5))
-
-same-length : tie.Need-same-length
-same-length c = search needs
 
 returns-2 : tie.Need-returns-2
 returns-2 c =
@@ -36,5 +30,4 @@ returns-2 c =
     subst (λ (z : List ℕ). Wrote (now (a .out)) (a .at) z (w .result) (w .last .0)) (sym (taken-one (a .taken) one)) (w .ensures)
 
 pub put-taken-spec : {M : Type 1} → statement M
-put-taken-spec =
-    tie.close (tie.spec returns slice-aggregate-put-rule put-rule-requires same-length returns-2)
+put-taken-spec = tie.close (tie.spec returns (λ c. search needs) put-rule-requires (λ c. search needs) returns-2)

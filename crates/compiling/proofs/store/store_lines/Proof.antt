@@ -18,9 +18,6 @@ Inv-loop text out₀ from pstarts₀ pends₀ table₀ count₀ next₀ at₀ ou
 abbrev μ-loop : tie.MeasureT-loop
 μ-loop text out₀ from pstarts₀ pends₀ table₀ count₀ next₀ at₀ out pstarts pends table count next at = length text - at
 
-unread-requires : tie.Need-unread-requires Inv-loop μ-loop
-unread-requires c κs = search needs
-
 loop-holds : tie.Need-loop-holds Inv-loop μ-loop
 loop-holds c =
     let s = c .before .before .before .before .before in
@@ -33,9 +30,6 @@ loop-holds c =
       none .ensures .2 (now (a .text)) (now (a .pstarts)) (now (a .pends)) (s .pre .1 .0) (s .pre .1 .1),
       storing-start (now (a .text)) (now (a .out)) (a .from) names (none .result) (none .ensures .0 (now (a .text)) (now (a .pstarts)) (now (a .pends))),
     )
-
-line-end-requires : tie.Need-line-end-requires Inv-loop μ-loop
-line-end-requires c κs = search needs
 
 read-line-requires : tie.Need-read-line-requires Inv-loop μ-loop
 read-line-requires c κs = let i = c .before .before .before .before .loop .inv in (c .before .before .line-end .ensures .after, c .before .before .line-end .ensures .within, i .2, i .3)
@@ -51,9 +45,6 @@ put-taken-requires c κs =
 
 add-count : tie.Need-add-count Inv-loop μ-loop
 add-count c = omega (arith, c .before .before .before .before .before .before .before .before .before .before .before .before .before .before .before .loop .inv .0, c .before .before .before .before .before .before .before .before .before .before .before .before .before .before .before .loop .inv .1, c .before .before .before .before .before .before .before .before .before .before .before .before .before .before .loop-test .taken, c .before .before .before .before .before .before .before .before .before .before .read-line .ensures .0 .one, c .before .before .before .before .before .before .before .before .before .before .before .before .before .before .before .before .before .before .before .before .before .good .0)
-
-next-line-requires : tie.Need-next-line-requires Inv-loop μ-loop
-next-line-requires c κs = search needs
 
 loop-less : tie.Need-loop-less Inv-loop μ-loop
 loop-less c =
@@ -83,15 +74,6 @@ loop-again c =
       storing-on (stores .1) (stores .2) (l .inv .4) (e .ensures) inside (k .0) (omega (arith, stores .2)) (next-drop (now (a .text)) (e .result) (n .result) (e .ensures .within) (n .ensures .1) (n .ensures .2)) (p .ensures) (p .kept .0),
     )
 
-same-length : tie.Need-same-length Inv-loop μ-loop
-same-length c = search needs
-
-same-length-2 : tie.Need-same-length-2 Inv-loop μ-loop
-same-length-2 c = search needs
-
-same-length-3 : tie.Need-same-length-3 Inv-loop μ-loop
-same-length-3 c = search needs
-
 returns : tie.Need-returns Inv-loop μ-loop
 returns c =
     let s = c .before .before .before .before .before .before .before in
@@ -104,18 +86,5 @@ pub store-lines-spec : {M : Type 1} → statement M
 store-lines-spec =
     tie.close
     (tie.spec
-    Inv-loop
-    μ-loop
-    unread-requires
-    loop-holds
-    line-end-requires
-    read-line-requires
-    put-taken-requires
-    add-count
-    next-line-requires
-    loop-less
-    loop-again
-    same-length
-    same-length-2
-    same-length-3
-    returns)
+    Inv-loop μ-loop (λ c κs. search needs) loop-holds (λ c κs. search needs) read-line-requires put-taken-requires add-count (λ c κs. search needs)
+    loop-less loop-again (λ c. search needs) (λ c. search needs) (λ c. search needs) returns)

@@ -13,28 +13,10 @@ returns c =
     let a = c .before .before .before .before .before .before .before .before .args in
     (λ n places. condition-none (scopeOf (now (a .text)) (now (a .tags)) (now (a .starts)) (now (a .ends)) (now (a .clock-starts)) (now (a .clock-ends)) (a .clocks) places) (begunOf n (a .parsed)) (now (a .word)) (c .if1 .taken), c .before .before .before .before .before .before .before .before .pre .0 .4)
 
-shared-slice-read-if2 : tie.Need-shared-slice-read-if2
-shared-slice-read-if2 c = search needs
-
-sub-on-off : tie.Need-sub-on-off
-sub-on-off c = search needs
-
-part-on-off-start : tie.Need-part-on-off-start
-part-on-off-start c = search needs
-
-part-on-off-end : tie.Need-part-on-off-end
-part-on-off-end c = search needs
-
-on-off-requires : tie.Need-on-off-requires
-on-off-requires c κs = search needs
-
 returns-2 : tie.Need-returns-2
 returns-2 c =
     let a = c .before .before .before .before .before .before .before .before .before .before .before .before .args in
     (λ n places. c .on-off .ensures .0 n ∙ condition-off (scopeOf (now (a .text)) (now (a .tags)) (now (a .starts)) (now (a .ends)) (now (a .clock-starts)) (now (a .clock-ends)) (a .clocks) places) (begunOf n (a .parsed)) (now (a .word)) (omega arith) (c .before .before .if2 .taken), c .on-off .ensures .1)
-
-on-plain-requires : tie.Need-on-plain-requires
-on-plain-requires c κs = search needs
 
 returns-3 : tie.Need-returns-3
 returns-3 c =
@@ -45,12 +27,5 @@ pub on-condition-spec : {M : Type 1} → statement M
 on-condition-spec =
     tie.close
     (tie.spec
-    returns
-    shared-slice-read-if2
-    sub-on-off
-    part-on-off-start
-    part-on-off-end
-    on-off-requires
-    returns-2
-    on-plain-requires
+    returns (λ c. search needs) (λ c. search needs) (λ c. search needs) (λ c. search needs) (λ c κs. search needs) returns-2 (λ c κs. search needs)
     returns-3)

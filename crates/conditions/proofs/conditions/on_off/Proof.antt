@@ -1,16 +1,9 @@
 -- `conditions::conditions::on_off` meets its contract, by whether the signal is there.
 use mathlib.Core.Path.{_∙_}
-use native.Mathlib.Omega.{arith}
 use borrow.Author.Needs.{needs}
 use Rattle.conditions.specs.Conditions.{known-there, known-not}
 use Rattle.conditions.proofs.conditions.on_off.Statement.{statement}
 use Rattle.conditions.proofs.conditions.on_off.Tie as tie
-
-find-signal-requires : tie.Need-find-signal-requires
-find-signal-requires c κs = search needs
-
-on-signal-requires : tie.Need-on-signal-requires
-on-signal-requires c κs = search needs
 
 returns : tie.Need-returns
 returns c = (λ n. c .on-signal .ensures .0 n ∙ known-there (c .before .before .find-signal .ensures) _ (c .before .if1 .taken), c .on-signal .ensures .1)
@@ -19,4 +12,4 @@ returns-2 : tie.Need-returns-2
 returns-2 c = (λ n. known-not (c .before .find-signal .ensures) _ (c .if1 .left), c .before .before .before .before .before .before .before .pre .4)
 
 pub on-off-spec : {M : Type 1} → statement M
-on-off-spec = tie.close (tie.spec find-signal-requires on-signal-requires returns returns-2)
+on-off-spec = tie.close (tie.spec (λ c κs. search needs) (λ c κs. search needs) returns returns-2)

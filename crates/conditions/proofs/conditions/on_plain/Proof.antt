@@ -7,19 +7,10 @@ use Rattle.conditions.specs.Conditions.{scopeOf, or-signal, or-clock}
 use Rattle.conditions.proofs.conditions.on_plain.Statement.{statement}
 use Rattle.conditions.proofs.conditions.on_plain.Tie as tie
 
-find-signal-requires : tie.Need-find-signal-requires
-find-signal-requires c κs = search needs
-
-on-signal-requires : tie.Need-on-signal-requires
-on-signal-requires c κs = search needs
-
 returns : tie.Need-returns
 returns c =
     let a = c .before .before .before .before .before .before .before .before .before .before .args in
     (λ n places. c .on-signal .ensures .0 n ∙ or-signal (scopeOf (now (a .text)) (now (a .tags)) (now (a .starts)) (now (a .ends)) (now (a .clock-starts)) (now (a .clock-ends)) (a .clocks) places) (begunOf n (a .parsed)) (now (a .word)) (c .before .before .find-signal .ensures) (c .before .if1 .taken), c .on-signal .ensures .1)
-
-on-clock-requires : tie.Need-on-clock-requires
-on-clock-requires c κs = search needs
 
 returns-2 : tie.Need-returns-2
 returns-2 c =
@@ -27,6 +18,4 @@ returns-2 c =
     (λ n places. c .on-clock .ensures .0 n ∙ or-clock (scopeOf (now (a .text)) (now (a .tags)) (now (a .starts)) (now (a .ends)) (now (a .clock-starts)) (now (a .clock-ends)) (a .clocks) places) (begunOf n (a .parsed)) (now (a .word)) (c .before .before .find-signal .ensures) (c .before .if1 .left), c .on-clock .ensures .1)
 
 pub on-plain-spec : {M : Type 1} → statement M
-on-plain-spec =
-    tie.close
-    (tie.spec find-signal-requires on-signal-requires returns on-clock-requires returns-2)
+on-plain-spec = tie.close (tie.spec (λ c κs. search needs) (λ c κs. search needs) returns (λ c κs. search needs) returns-2)

@@ -1,14 +1,11 @@
 -- `conditions::steps::on_reset` meets its contract, by whether the clock is reset already.
-use mathlib.Core.Path.{_≡_, ap, sym, _∙_}
-use Prim.Native.Nat.{ℕ, _+_, _*_, _/_, _%_, _^_}
+use mathlib.Core.Path.{ap, sym, _∙_}
+use Prim.Native.Nat.{ℕ, _/_, _%_}
 use native.Mathlib.Omega.{arith}
 use borrow.Author.Needs.{needs}
 use Rattle.conditions.specs.Steps.{begunOf, low-room, reset-twice, reset-once}
 use Rattle.conditions.proofs.steps.on_reset.Statement.{statement}
 use Rattle.conditions.proofs.steps.on_reset.Tie as tie
-
-power-requires : tie.Need-power-requires
-power-requires c κs = search needs
 
 div-if1 : tie.Need-div-if1
 div-if1 c = c .before .power .ensures .1
@@ -18,9 +15,6 @@ returns c =
     let s = c .before .before .before in
     let p = s .args .parsed in
     (λ n. reset-twice (begunOf n p) (s .args .i) (λ e. c .if1 .taken (ap (λ (z : ℕ). p .reset / z % 2) (c .before .before .power .ensures .0) ∙ e)), s .pre .1)
-
-add-t6 : tie.Need-add-t6
-add-t6 c = search needs
 
 returns-2 : tie.Need-returns-2
 returns-2 c =
@@ -39,4 +33,4 @@ returns-2 c =
     )
 
 pub on-reset-spec : {M : Type 1} → statement M
-on-reset-spec = tie.close (tie.spec power-requires div-if1 returns add-t6 returns-2)
+on-reset-spec = tie.close (tie.spec (λ c κs. search needs) div-if1 returns (λ c. search needs) returns-2)

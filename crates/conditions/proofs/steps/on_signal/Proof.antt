@@ -1,14 +1,11 @@
 -- `conditions::steps::on_signal` meets its contract, by whether the signal has a condition already.
-use mathlib.Core.Path.{_≡_, ap, sym, _∙_}
-use Prim.Native.Nat.{ℕ, _+_, _*_, _/_, _%_, _^_}
+use mathlib.Core.Path.{ap, sym, _∙_}
+use Prim.Native.Nat.{ℕ, _/_, _%_}
 use native.Mathlib.Omega.{arith}
 use borrow.Author.Needs.{needs}
 use Rattle.conditions.specs.Steps.{begunOf, once, bit-room, signal-twice, signal-once}
 use Rattle.conditions.proofs.steps.on_signal.Statement.{statement}
 use Rattle.conditions.proofs.steps.on_signal.Tie as tie
-
-power-requires : tie.Need-power-requires
-power-requires c κs = search needs
 
 div-if1 : tie.Need-div-if1
 div-if1 c = c .before .power .ensures .1
@@ -45,5 +42,4 @@ returns-2 c =
     )
 
 pub on-signal-spec : {M : Type 1} → statement M
-on-signal-spec =
-    tie.close (tie.spec power-requires div-if1 returns add-t7 mul-t8 add-t10 returns-2)
+on-signal-spec = tie.close (tie.spec (λ c κs. search needs) div-if1 returns add-t7 mul-t8 add-t10 returns-2)

@@ -14,9 +14,6 @@ use Rattle.console.specs.OutcomeLaws.{events-refused, events-ran}
 use Rattle.console.proofs.checks.enforce_events.Statement.{statement}
 use Rattle.console.proofs.checks.enforce_events.Tie as tie
 
-events-refusal-requires : tie.Need-events-refusal-requires
-events-refusal-requires c κs = search needs
-
 returns : tie.Need-returns
 returns c =
     let a = c .before .before .before .before .before .before .args in
@@ -31,12 +28,6 @@ passed c = sym (c .before .events-refusal .ensures) ∙ c .if1 .left
 
 events-in-requires : tie.Need-events-in-requires
 events-in-requires c κs = passed c
-
-start-requires : tie.Need-start-requires
-start-requires c κs = search needs
-
-run-requires : tie.Need-run-requires
-run-requires c κs = search needs
 
 -- What the run promises of the events.
 abbrev place : tie.After-run → tie.Else1
@@ -53,9 +44,6 @@ ran c =
     subst (Promised c startState) (e .events-in .ensures)
     (subst (λ (state : State). Promised c state (now (e .events-in .result))) (c .before .before .start .ensures) (c .run .ensures))
 
-same-length : tie.Need-same-length
-same-length c = search needs
-
 returns-2 : tie.Need-returns-2
 returns-2 c =
     let r = c .before .before in
@@ -68,10 +56,4 @@ pub enforce-events-spec : {M : Type 1} → statement M
 enforce-events-spec =
     tie.close
     (tie.spec
-    events-refusal-requires
-    returns
-    events-in-requires
-    start-requires
-    run-requires
-    same-length
-    returns-2)
+    (λ c κs. search needs) returns events-in-requires (λ c κs. search needs) (λ c κs. search needs) (λ c. search needs) returns-2)

@@ -15,9 +15,6 @@ use Rattle.console.specs.OutcomeLaws.{prepared-marks, prepares, input-re
 use Rattle.console.proofs.checks.outcome.Statement.{statement}
 use Rattle.console.proofs.checks.outcome.Tie as tie
 
-input-refusal-requires : tie.Need-input-refusal-requires
-input-refusal-requires c κs = search needs
-
 returns : tie.Need-returns
 returns c =
     let a = c .before .before .before .before .before .args in
@@ -38,15 +35,6 @@ passed c = sym (c .before .input-refusal .ensures) ∙ c .if1 .left
 
 policy-in-requires : tie.Need-policy-in-requires
 policy-in-requires c κs = none-refused (readingRefusal (reading c)) _ .0 (passed c) .1
-
-prepare-requires : tie.Need-prepare-requires
-prepare-requires c κs = search needs
-
-enum-known-prepared : tie.Need-enum-known-prepared
-enum-known-prepared c = search needs
-
-enum-known-prepared-2 : tie.Need-enum-known-prepared-2
-enum-known-prepared-2 c = search needs
 
 -- What prepare promises of the policy.
 abbrev place : tie.After-prepare → tie.Else1
@@ -77,12 +65,6 @@ enforce-events-requires c κs =
     let a = answered k in
     (prepares (a .before .before .policy-in .ensures) (known k), start (place a) .pre .1)
 
-same-length : tie.Need-same-length
-same-length c = search needs
-
-same-length-2 : tie.Need-same-length-2
-same-length-2 c = search needs
-
 returns-2 : tie.Need-returns-2
 returns-2 c =
     let e = c .before .before .before in
@@ -91,21 +73,12 @@ returns-2 c =
     let p = place a in
     events-refuse (reading p) (input p) (start p .pre .0) (passed p) (prepared a) (k .prepared2 .given .1) (e .enforce-events .ensures) (c .if2 .taken)
 
-same-length-3 : tie.Need-same-length-3
-same-length-3 c = search needs
-
 returns-3 : tie.Need-returns-3
 returns-3 c =
     let k = c .before in
     let a = k .before .before .before .before in
     let p = place a in
     prepare-refuses (reading p) (input p) (start p .pre .0) (passed p) (prepared a) (k .prepared .given .1)
-
-same-length-4 : tie.Need-same-length-4
-same-length-4 c = search needs
-
-same-length-5 : tie.Need-same-length-5
-same-length-5 c = search needs
 
 returns-4 : tie.Need-returns-4
 returns-4 c =
@@ -119,20 +92,6 @@ pub outcome-spec : {M : Type 1} → statement M
 outcome-spec =
     tie.close
     (tie.spec
-    input-refusal-requires
-    returns
-    policy-in-requires
-    prepare-requires
-    enum-known-prepared
-    enum-known-prepared-2
-    slice-reshare-prefix-enforce-events
-    slice-aggregate-enforce-events
-    enforce-events-requires
-    same-length
-    same-length-2
-    returns-2
-    same-length-3
-    returns-3
-    same-length-4
-    same-length-5
-    returns-4)
+    (λ c κs. search needs) returns policy-in-requires (λ c κs. search needs) (λ c. search needs) (λ c. search needs)
+    slice-reshare-prefix-enforce-events slice-aggregate-enforce-events enforce-events-requires (λ c. search needs) (λ c. search needs) returns-2
+    (λ c. search needs) returns-3 (λ c. search needs) (λ c. search needs) returns-4)

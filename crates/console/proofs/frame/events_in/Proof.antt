@@ -14,23 +14,11 @@ use Rattle.console.proofs.frame.events_in.Tie as tie
 ends : (c : tie.After-pair-at) → let input = now (c .before .before .args .input) in eventsEnd input ≡ length input
 ends c = let s = c .before .before in events-fit (now (s .args .input)) (s .pre) .1
 
-pair-at-requires : tie.Need-pair-at-requires
-pair-at-requires c κs = search needs
-
-add-start : tie.Need-add-start
-add-start c = search needs
-
-add-start-2 : tie.Need-add-start-2
-add-start-2 c = search needs
-
 sub-result : tie.Need-sub-result
 sub-result c = omega (arith, c .pair-at .ensures .0, ends c)
 
 part-result-start : tie.Need-part-result-start
 part-result-start c = omega (arith, c .pair-at .ensures .0, ends c)
-
-part-result-end : tie.Need-part-result-end
-part-result-end c = search needs
 
 returns : tie.Need-returns
 returns c =
@@ -43,10 +31,4 @@ pub events-in-spec : {M : Type 1} → statement M
 events-in-spec =
     tie.close
     (tie.spec
-    pair-at-requires
-    add-start
-    add-start-2
-    sub-result
-    part-result-start
-    part-result-end
-    returns)
+    (λ c κs. search needs) (λ c. search needs) (λ c. search needs) sub-result part-result-start (λ c. search needs) returns)

@@ -14,26 +14,8 @@ counted : (c : tie.After-count-refusal) →
     c .count-refusal .result ≡ countRefusal (now (c .before .before .before .args .input)) (2 + c .before .pair-at .result) 16384
 counted c = c .count-refusal .ensures
 
-pair-at-requires : tie.Need-pair-at-requires
-pair-at-requires c κs = search needs
-
-add-at : tie.Need-add-at
-add-at c = search needs
-
-count-refusal-requires : tie.Need-count-refusal-requires
-count-refusal-requires c κs = search needs
-
 returns : tie.Need-returns
 returns c = let r = c .before in rw (← r .before .pair-at .ensures .0, ← counted r, first-refused _ _ (c .if1 .taken))
-
-add-end : tie.Need-add-end
-add-end c = search needs
-
-pair-at-requires-2 : tie.Need-pair-at-requires-2
-pair-at-requires-2 c κs = search needs
-
-add-end-2 : tie.Need-add-end-2
-add-end-2 c = search needs
 
 returns-2 : tie.Need-returns-2
 returns-2 c =
@@ -51,12 +33,5 @@ pub events-refusal-spec : {M : Type 1} → statement M
 events-refusal-spec =
     tie.close
     (tie.spec
-    pair-at-requires
-    add-at
-    count-refusal-requires
-    returns
-    add-end
-    pair-at-requires-2
-    add-end-2
-    returns-2
+    (λ c κs. search needs) (λ c. search needs) (λ c κs. search needs) returns (λ c. search needs) (λ c κs. search needs) (λ c. search needs) returns-2
     returns-3)

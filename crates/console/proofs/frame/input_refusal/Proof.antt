@@ -11,11 +11,8 @@ returns c = rw (no-reading _ (_⊎_.inl (c .if1 .taken)))
 returns-2 : tie.Need-returns-2
 returns-2 c = rw (no-reading _ (_⊎_.inr (c .if2 .taken)))
 
-count-refusal-requires : tie.Need-count-refusal-requires
-count-refusal-requires c κs = search needs
-
 returns-3 : tie.Need-returns-3
 returns-3 c = rw (a-reading _ (c .before .before .if1 .left) (c .before .if2 .left)) (c .count-refusal .ensures)
 
 pub input-refusal-spec : {M : Type 1} → statement M
-input-refusal-spec = tie.close (tie.spec returns returns-2 count-refusal-requires returns-3)
+input-refusal-spec = tie.close (tie.spec returns returns-2 (λ c κs. search needs) returns-3)

@@ -9,18 +9,6 @@ use Rattle.console.specs.Framed.{count-fits, part-between}
 use Rattle.console.proofs.frame.policy_in.Statement.{statement}
 use Rattle.console.proofs.frame.policy_in.Tie as tie
 
-pair-at-requires : tie.Need-pair-at-requires
-pair-at-requires c κs = search needs
-
-add-end : tie.Need-add-end
-add-end c = search needs
-
-sub-result : tie.Need-sub-result
-sub-result c = search needs
-
-part-result-start : tie.Need-part-result-start
-part-result-start c = search needs
-
 part-result-end : tie.Need-part-result-end
 part-result-end c =
     let s = c .before .before in
@@ -33,4 +21,4 @@ returns c =
     part-between input 2 (pairAt input 0) {start = 2} {end = 2 + p .pair-at .result} refl (ap (λ (n : ℕ). 2 + n) (p .pair-at .ensures .0))
 
 pub policy-in-spec : {M : Type 1} → statement M
-policy-in-spec = tie.close (tie.spec pair-at-requires add-end sub-result part-result-start part-result-end returns)
+policy-in-spec = tie.close (tie.spec (λ c κs. search needs) (λ c. search needs) (λ c. search needs) (λ c. search needs) part-result-end returns)

@@ -7,23 +7,14 @@ use Rattle.texts.specs.WroteLaws.{wrote-then}
 use Rattle.console.proofs.lines.put_halves.Statement.{statement}
 use Rattle.console.proofs.lines.put_halves.Tie as tie
 
-cast-put-spaced : tie.Need-cast-put-spaced
-cast-put-spaced c = search needs
-
 put-spaced-requires : tie.Need-put-spaced-requires
 put-spaced-requires c κs =
     let e = c .before .before .args .event in omega (arith, spaced-short (e % 16) 1 (omega arith))
-
-cast-put-spaced-2 : tie.Need-cast-put-spaced-2
-cast-put-spaced-2 c = search needs
 
 put-spaced-requires-2 : tie.Need-put-spaced-requires-2
 put-spaced-requires-2 c κs =
     let e = c .before .before .before .before .before .before .args .event in
     omega (arith, spaced-short (e % 16) 1 (omega arith), spaced-short (e / 16) 1 (omega arith))
-
-same-length : tie.Need-same-length
-same-length c = search needs
 
 returns : tie.Need-returns
 returns c =
@@ -31,12 +22,4 @@ returns c =
     wrote-then (omega arith) (x .put-spaced .ensures) (c .before .before .put-spaced2 .ensures)
 
 pub put-halves-spec : {M : Type 1} → statement M
-put-halves-spec =
-    tie.close
-    (tie.spec
-    cast-put-spaced
-    put-spaced-requires
-    cast-put-spaced-2
-    put-spaced-requires-2
-    same-length
-    returns)
+put-halves-spec = tie.close (tie.spec (λ c. search needs) put-spaced-requires (λ c. search needs) put-spaced-requires-2 (λ c. search needs) returns)

@@ -5,20 +5,10 @@ use Rattle.texts.specs.WroteLaws.{wrote-then}
 use Rattle.console.proofs.lines.put_labelled.Statement.{statement}
 use Rattle.console.proofs.lines.put_labelled.Tie as tie
 
-put-bytes-requires : tie.Need-put-bytes-requires
-put-bytes-requires c κs = search needs
-
-put-decimal-requires : tie.Need-put-decimal-requires
-put-decimal-requires c κs = search needs
-
-same-length : tie.Need-same-length
-same-length c = search needs
-
 returns : tie.Need-returns
 returns c =
     let b = c .before .before .before .before .before .before in
     wrote-then (omega (arith, b .before .before .before .before .pre)) (b .put-bytes .ensures) (c .before .before .put-decimal .ensures)
 
 pub put-labelled-spec : {M : Type 1} → statement M
-put-labelled-spec =
-    tie.close (tie.spec put-bytes-requires put-decimal-requires same-length returns)
+put-labelled-spec = tie.close (tie.spec (λ c κs. search needs) (λ c κs. search needs) (λ c. search needs) returns)

@@ -7,21 +7,12 @@ use Rattle.texts.specs.Decimal.{decimal-short}
 use Rattle.console.proofs.lines.put_refused.Statement.{statement}
 use Rattle.console.proofs.lines.put_refused.Tie as tie
 
-slice-aggregate-put-labelled : tie.Need-slice-aggregate-put-labelled
-slice-aggregate-put-labelled c = search needs
-
 put-labelled-requires : tie.Need-put-labelled-requires
 put-labelled-requires c κs = omega (arith, decimal-short (c .before .before .before .args .n) 2 (omega arith))
-
-slice-aggregate-put-bytes : tie.Need-slice-aggregate-put-bytes
-slice-aggregate-put-bytes c = search needs
 
 put-bytes-requires : tie.Need-put-bytes-requires
 put-bytes-requires c κs =
     let n = c .before .before .before .before .before .before .before .before .args .n in omega (arith, decimal-short n 2 (omega arith))
-
-same-length : tie.Need-same-length
-same-length c = search needs
 
 returns : tie.Need-returns
 unfolding refusedLine
@@ -30,12 +21,4 @@ returns c =
     wrote-then (omega arith) (l .put-labelled .ensures) (c .before .before .put-bytes .ensures)
 
 pub put-refused-spec : {M : Type 1} → statement M
-put-refused-spec =
-    tie.close
-    (tie.spec
-    slice-aggregate-put-labelled
-    put-labelled-requires
-    slice-aggregate-put-bytes
-    put-bytes-requires
-    same-length
-    returns)
+put-refused-spec = tie.close (tie.spec (λ c. search needs) put-labelled-requires (λ c. search needs) put-bytes-requires (λ c. search needs) returns)

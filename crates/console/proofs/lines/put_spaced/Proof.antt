@@ -10,15 +10,9 @@ use Rattle.console.proofs.lines.put_spaced.Tie as tie
 put-decimal-requires : tie.Need-put-decimal-requires
 put-decimal-requires c κs = omega (arith, length-append (decimal (c .before .before .args .n)) (ascii " "))
 
-slice-aggregate-put-bytes : tie.Need-slice-aggregate-put-bytes
-slice-aggregate-put-bytes c = search needs
-
 put-bytes-requires : tie.Need-put-bytes-requires
 put-bytes-requires c κs =
     let n = c .before .before .before .before .before .before .before .args .n in omega (arith, length-append (decimal n) (ascii " "))
-
-same-length : tie.Need-same-length
-same-length c = search needs
 
 returns : tie.Need-returns
 returns c =
@@ -26,11 +20,4 @@ returns c =
     wrote-then (omega arith) (d .put-decimal .ensures) (c .before .before .put-bytes .ensures)
 
 pub put-spaced-spec : {M : Type 1} → statement M
-put-spaced-spec =
-    tie.close
-    (tie.spec
-    put-decimal-requires
-    slice-aggregate-put-bytes
-    put-bytes-requires
-    same-length
-    returns)
+put-spaced-spec = tie.close (tie.spec put-decimal-requires (λ c. search needs) put-bytes-requires (λ c. search needs) returns)

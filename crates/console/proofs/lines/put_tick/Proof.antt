@@ -27,15 +27,6 @@ put-halves-requires-2 c κs =
       h .before .before .before .before .put-spaced .ensures .next,
     )
 
-letter-requires : tie.Need-letter-requires
-letter-requires c κs = search needs
-
-letter-requires-2 : tie.Need-letter-requires-2
-letter-requires-2 c κs = search needs
-
-slice-aggregate-put-bytes : tie.Need-slice-aggregate-put-bytes
-slice-aggregate-put-bytes c = search needs
-
 put-bytes-requires : tie.Need-put-bytes-requires
 put-bytes-requires c κs =
     let l = c .before .before .before .before .before .before in
@@ -50,9 +41,6 @@ put-bytes-requires c κs =
       h,
       s,
     )
-
-same-length : tie.Need-same-length
-same-length c = search needs
 
 returns : tie.Need-returns
 unfolding tickLine
@@ -71,12 +59,5 @@ pub put-tick-spec : {M : Type 1} → statement M
 put-tick-spec =
     tie.close
     (tie.spec
-    put-spaced-requires
-    put-halves-requires
-    put-halves-requires-2
-    letter-requires
-    letter-requires-2
-    slice-aggregate-put-bytes
-    put-bytes-requires
-    same-length
-    returns)
+    put-spaced-requires put-halves-requires put-halves-requires-2 (λ c κs. search needs) (λ c κs. search needs) (λ c. search needs) put-bytes-requires
+    (λ c. search needs) returns)

@@ -25,24 +25,6 @@ loop-holds : tie.Need-loop-holds Inv-loop μ-loop
 unfolding tickLines
 loop-holds c = (search needs, refl, search needs, wrote-none _ _)
 
-add-put-tick : tie.Need-add-put-tick Inv-loop μ-loop
-add-put-tick c = search needs
-
-shared-slice-read-put-tick : tie.Need-shared-slice-read-put-tick Inv-loop μ-loop
-shared-slice-read-put-tick c = search needs
-
-shared-slice-read-put-tick-2 : tie.Need-shared-slice-read-put-tick-2 Inv-loop μ-loop
-shared-slice-read-put-tick-2 c = search needs
-
-put-tick-requires : tie.Need-put-tick-requires Inv-loop μ-loop
-put-tick-requires c κs = search needs
-
-add-i : tie.Need-add-i Inv-loop μ-loop
-add-i c = search needs
-
-loop-less : tie.Need-loop-less Inv-loop μ-loop
-loop-less c = search needs
-
 loop-again : tie.Need-loop-again Inv-loop μ-loop
 loop-again c =
     let k = c .before .before .before in
@@ -63,9 +45,6 @@ loop-again c =
       rw (add-one, lines-more 1 i e r (omega arith) (omega arith)) (wrote-then (omega arith) (l .loop .inv .3) line),
     )
 
-same-length : tie.Need-same-length Inv-loop μ-loop
-same-length c = search needs
-
 returns : tie.Need-returns Inv-loop μ-loop
 returns c =
     let a = c .before .before .before .before .before .args in
@@ -75,15 +54,5 @@ pub put-ticks-spec : {M : Type 1} → statement M
 put-ticks-spec =
     tie.close
     (tie.spec
-    Inv-loop
-    μ-loop
-    loop-holds
-    add-put-tick
-    shared-slice-read-put-tick
-    shared-slice-read-put-tick-2
-    put-tick-requires
-    add-i
-    loop-less
-    loop-again
-    same-length
-    returns)
+    Inv-loop μ-loop loop-holds (λ c. search needs) (λ c. search needs) (λ c. search needs) (λ c κs. search needs) (λ c. search needs)
+    (λ c. search needs) loop-again (λ c. search needs) returns)

@@ -21,36 +21,21 @@ short c =
       decimal-short (a .live) 19 (omega arith),
     )
 
-slice-aggregate-put-labelled : tie.Need-slice-aggregate-put-labelled
-slice-aggregate-put-labelled c = search needs
-
 put-labelled-requires : tie.Need-put-labelled-requires
 put-labelled-requires c κs = omega (arith, short (c .before .before .before))
-
-slice-aggregate-put-labelled-2 : tie.Need-slice-aggregate-put-labelled-2
-slice-aggregate-put-labelled-2 c = search needs
 
 put-labelled-requires-2 : tie.Need-put-labelled-requires-2
 put-labelled-requires-2 c κs =
     let v = c .before .before .before .before in omega (arith, short (v .before .before .before .before))
 
-slice-aggregate-put-labelled-3 : tie.Need-slice-aggregate-put-labelled-3
-slice-aggregate-put-labelled-3 c = search needs
-
 put-labelled-requires-3 : tie.Need-put-labelled-requires-3
 put-labelled-requires-3 c κs =
     let v = c .before .before .before .before .before .before .before .before .before in omega (arith, short (v .before .before .before .before))
-
-slice-aggregate-put-bytes : tie.Need-slice-aggregate-put-bytes
-slice-aggregate-put-bytes c = search needs
 
 put-bytes-requires : tie.Need-put-bytes-requires
 put-bytes-requires c κs =
     let s = c .before .before .before .before .before .before .before .before .before in
     let v = s .before .before .before .before .before in omega (arith, short (v .before .before .before .before))
-
-same-length : tie.Need-same-length
-same-length c = search needs
 
 returns : tie.Need-returns
 unfolding verdictLine
@@ -69,13 +54,5 @@ pub put-verdict-spec : {M : Type 1} → statement M
 put-verdict-spec =
     tie.close
     (tie.spec
-    slice-aggregate-put-labelled
-    put-labelled-requires
-    slice-aggregate-put-labelled-2
-    put-labelled-requires-2
-    slice-aggregate-put-labelled-3
-    put-labelled-requires-3
-    slice-aggregate-put-bytes
-    put-bytes-requires
-    same-length
-    returns)
+    (λ c. search needs) put-labelled-requires (λ c. search needs) put-labelled-requires-2 (λ c. search needs) put-labelled-requires-3
+    (λ c. search needs) put-bytes-requires (λ c. search needs) returns)

@@ -10,9 +10,6 @@ use Rattle.console.proofs.reading.reading_of.Tie as tie
 returns : tie.Need-returns
 returns c = sym (none-named (now (c .before .args .word)) (c .if1 .taken))
 
-shared-slice-read-digit : tie.Need-shared-slice-read-digit
-shared-slice-read-digit c = search needs
-
 returns-2 : tie.Need-returns-2
 returns-2 c = let e = c .before .before in omega (arith, one-named (now (e .before .args .word)) (e .if1 .left), c .if2 .taken)
 
@@ -20,4 +17,4 @@ returns-3 : tie.Need-returns-3
 returns-3 c = let e = c .before .before in sym (one-named (now (e .before .args .word)) (e .if1 .left))
 
 pub reading-of-spec : {M : Type 1} → statement M
-reading-of-spec = tie.close (tie.spec returns shared-slice-read-digit returns-2 returns-3)
+reading-of-spec = tie.close (tie.spec returns (λ c. search needs) returns-2 returns-3)

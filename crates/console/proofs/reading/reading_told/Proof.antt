@@ -13,9 +13,6 @@ returns c = sym (told-first _ (now (c .before .before .args .word)) (c .if1 .tak
 returns-2 : tie.Need-returns-2
 returns-2 c = sym (told-none _ (now (c .before .before .before .args .word)) (c .if2 .taken))
 
-reading-of-requires : tie.Need-reading-of-requires
-reading-of-requires c κs = search needs
-
 returns-3 : tie.Need-returns-3
 returns-3 c =
     let e = c .before in
@@ -23,4 +20,4 @@ returns-3 c =
     c .reading-of .ensures ∙ sym (told-one (s .args .words) (now (s .args .word)) (omega (arith, e .if2 .left, e .before .if1 .left)))
 
 pub reading-told-spec : {M : Type 1} → statement M
-reading-told-spec = tie.close (tie.spec returns returns-2 reading-of-requires returns-3)
+reading-told-spec = tie.close (tie.spec returns returns-2 (λ c κs. search needs) returns-3)

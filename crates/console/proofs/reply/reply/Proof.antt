@@ -26,21 +26,6 @@ enforced : (c : tie.After-summary) →
     Enforces 1 (now (start o .args .input)) (c .summary .given .0 .0) (o .outcome .last .1 .1 .0) (o .outcome .last .1 .1 .1 .0)
 enforced c = place c .outcome .ensures .enforces _ (c .summary .given .1)
 
-outcome-requires : tie.Need-outcome-requires
-outcome-requires c κs = search needs
-
-enum-known-n : tie.Need-enum-known-n
-enum-known-n c = search needs
-
-put-refused-requires : tie.Need-put-refused-requires
-put-refused-requires c κs = search needs
-
-enum-known-summary : tie.Need-enum-known-summary
-enum-known-summary c = search needs
-
-put-verdict-requires : tie.Need-put-verdict-requires
-put-verdict-requires c κs = search needs
-
 events-in-requires : tie.Need-events-in-requires
 events-in-requires c κs = enforced (c .before .before .before .before .before .before) .passes .events
 
@@ -56,15 +41,6 @@ put-ticks-requires c κs =
       omega (arith, n, v .put-verdict .kept .0, v .put-verdict .ensures .1, start o .pre),
     )
 
-same-length : tie.Need-same-length
-same-length c = search needs
-
-same-length-2 : tie.Need-same-length-2
-same-length-2 c = search needs
-
-same-length-3 : tie.Need-same-length-3
-same-length-3 c = search needs
-
 returns : tie.Need-returns
 returns c =
     let f = c .before .before in
@@ -72,15 +48,6 @@ returns c =
     let o = k .before .before .before .before .before .before in
     rw (printed-refused (now (start o .args .input)) (sym (ap preparedSaid (k .n .given .1)) ∙ o .outcome .ensures .said))
     (replied (f .put-refused .ensures) (f .put-refused .kept .0))
-
-same-length-4 : tie.Need-same-length-4
-same-length-4 c = search needs
-
-same-length-5 : tie.Need-same-length-5
-same-length-5 c = search needs
-
-same-length-6 : tie.Need-same-length-6
-same-length-6 c = search needs
 
 returns-2 : tie.Need-returns-2
 returns-2 c =
@@ -95,18 +62,5 @@ pub reply-spec : {M : Type 1} → statement M
 reply-spec =
     tie.close
     (tie.spec
-    outcome-requires
-    enum-known-n
-    put-refused-requires
-    enum-known-summary
-    put-verdict-requires
-    events-in-requires
-    put-ticks-requires
-    same-length
-    same-length-2
-    same-length-3
-    returns
-    same-length-4
-    same-length-5
-    same-length-6
-    returns-2)
+    (λ c κs. search needs) (λ c. search needs) (λ c κs. search needs) (λ c. search needs) (λ c κs. search needs) events-in-requires put-ticks-requires
+    (λ c. search needs) (λ c. search needs) (λ c. search needs) returns (λ c. search needs) (λ c. search needs) (λ c. search needs) returns-2)

@@ -5,27 +5,6 @@ use Rattle.declarations.specs.ClockLine.{clock-more, fit-clock}
 use Rattle.declarations.proofs.clockline.add_clock.Statement.{statement}
 use Rattle.declarations.proofs.clockline.add_clock.Tie as tie
 
-mul-t : tie.Need-mul-t
-mul-t c = search needs
-
-element-write-t : tie.Need-element-write-t
-element-write-t c = search needs
-
-mul-t-2 : tie.Need-mul-t-2
-mul-t-2 c = search needs
-
-element-write-t-2 : tie.Need-element-write-t-2
-element-write-t-2 c = search needs
-
-mul-t-3 : tie.Need-mul-t-3
-mul-t-3 c = search needs
-
-element-write-t-3 : tie.Need-element-write-t-3
-element-write-t-3 c = search needs
-
-add-t : tie.Need-add-t
-add-t c = search needs
-
 returns : tie.Need-returns
 returns c =
     let a = c .args in
@@ -36,11 +15,5 @@ pub add-clock-spec : {M : Type 1} → statement M
 add-clock-spec =
     tie.close
     (tie.spec
-    mul-t
-    element-write-t
-    mul-t-2
-    element-write-t-2
-    mul-t-3
-    element-write-t-3
-    add-t
+    (λ c. search needs) (λ c. search needs) (λ c. search needs) (λ c. search needs) (λ c. search needs) (λ c. search needs) (λ c. search needs)
     returns)

@@ -23,35 +23,17 @@ returns-2 c =
     let a = s .args in
     (λ places rules l e. clock-late (draftOf (now (a .text)) places (a .table) rules) (part (now (a .text)) (a .few .start) (a .few .end - a .few .start)) (part (now (a .text)) (a .few .from) (a .few .to - a .few .from)) l (shaped-two (a .few .count) (part (now (a .text)) (a .few .start) (a .few .end - a .few .start)) (part (now (a .text)) (a .few .from) (a .few .to - a .few .from)) l (c .before .before .if1 .left) e) (c .if2 .taken), s .pre .4, refl)
 
-name-refusal-requires : tie.Need-name-refusal-requires
-name-refusal-requires c κs = search needs
-
 returns-3 : tie.Need-returns-3
 returns-3 c =
     let s = c .before .before .before .before .before .before .before in
     let a = s .args in
     (λ places rules l e. clock-named (draftOf (now (a .text)) places (a .table) rules) (part (now (a .text)) (a .few .start) (a .few .end - a .few .start)) (part (now (a .text)) (a .few .from) (a .few .to - a .few .from)) l (shaped-two (a .few .count) (part (now (a .text)) (a .few .start) (a .few .end - a .few .start)) (part (now (a .text)) (a .few .from) (a .few .to - a .few .from)) l (c .before .before .before .before .if1 .left) e) (c .before .before .if2 .left) (c .before .name-refusal .result) (draftOf (now (a .text)) places (a .table) rules) (c .before .name-refusal .ensures) (c .if3 .taken), s .pre .4, refl)
 
-sub-number-of : tie.Need-sub-number-of
-sub-number-of c = search needs
-
-part-number-of-start : tie.Need-part-number-of-start
-part-number-of-start c = search needs
-
-part-number-of-end : tie.Need-part-number-of-end
-part-number-of-end c = search needs
-
-number-of-requires : tie.Need-number-of-requires
-number-of-requires c κs = search needs
-
 returns-4 : tie.Need-returns-4
 returns-4 c =
     let s = c .before .before .before .before .before .before .before .before .before .before .before in
     let a = s .args in
     (λ places rules l e. clock-number (draftOf (now (a .text)) places (a .table) rules) (part (now (a .text)) (a .few .start) (a .few .end - a .few .start)) (part (now (a .text)) (a .few .from) (a .few .to - a .few .from)) l (shaped-two (a .few .count) (part (now (a .text)) (a .few .start) (a .few .end - a .few .start)) (part (now (a .text)) (a .few .from) (a .few .to - a .few .from)) l (c .before .before .before .before .before .before .before .before .if1 .left) e) (c .before .before .before .before .before .before .if2 .left) (sym (c .before .before .before .before .if3 .left) ∙ c .before .before .before .before .before .name-refusal .ensures) (c .before .before .number-of .result .refusal) (c .before .before .number-of .result .value) (c .before .before .number-of .ensures) (draftOf (now (a .text)) places (a .table) rules) (c .if4 .taken), s .pre .4, refl)
-
-clock-refusal-requires : tie.Need-clock-refusal-requires
-clock-refusal-requires c κs = search needs
 
 returns-5 : tie.Need-returns-5
 returns-5 c =
@@ -75,16 +57,5 @@ pub clock-line-spec : {M : Type 1} → statement M
 clock-line-spec =
     tie.close
     (tie.spec
-    returns
-    returns-2
-    name-refusal-requires
-    returns-3
-    sub-number-of
-    part-number-of-start
-    part-number-of-end
-    number-of-requires
-    returns-4
-    clock-refusal-requires
-    returns-5
-    add-clock-requires
-    returns-6)
+    returns returns-2 (λ c κs. search needs) returns-3 (λ c. search needs) (λ c. search needs) (λ c. search needs) (λ c κs. search needs) returns-4
+    (λ c κs. search needs) returns-5 add-clock-requires returns-6)

@@ -13,19 +13,10 @@ returns c =
     let a = c .before .before .args in
     letter-form (take (a .count) (a .tags)) (now (a .word)) (c .if1 .taken)
 
-shared-slice-read-c : tie.Need-shared-slice-read-c
-shared-slice-read-c c = search needs
-
-is-capital-requires : tie.Need-is-capital-requires
-is-capital-requires c κs = search needs
-
 returns-2 : tie.Need-returns-2
 returns-2 c =
     let a = c .before .before .before .before .before .args in
     letter-small (take (a .count) (a .tags)) (now (a .word)) (c .before .before .before .if1 .left) (sym (c .before .is-capital .ensures) ∙ not-true _ (c .if2 .taken))
-
-is-among-requires : tie.Need-is-among-requires
-is-among-requires c κs = search needs
 
 returns-3 : tie.Need-returns-3
 returns-3 c =
@@ -38,13 +29,4 @@ returns-4 c =
     letter-given (take (a .count) (a .tags)) (now (a .word)) (c .before .before .before .before .before .if1 .left) (sym (c .before .before .before .is-capital .ensures) ∙ not-false _ (c .before .before .if2 .left)) (sym (c .before .is-among .ensures) ∙ c .if3 .left)
 
 pub letter-of-spec : {M : Type 1} → statement M
-letter-of-spec =
-    tie.close
-    (tie.spec
-    returns
-    shared-slice-read-c
-    is-capital-requires
-    returns-2
-    is-among-requires
-    returns-3
-    returns-4)
+letter-of-spec = tie.close (tie.spec returns (λ c. search needs) (λ c κs. search needs) returns-2 (λ c κs. search needs) returns-3 returns-4)

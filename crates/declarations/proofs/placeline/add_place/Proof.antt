@@ -4,30 +4,6 @@ use Rattle.declarations.specs.PlaceLine.{place-more, fit-place, placed-m
 use Rattle.declarations.proofs.placeline.add_place.Statement.{statement}
 use Rattle.declarations.proofs.placeline.add_place.Tie as tie
 
-mul-pstarts : tie.Need-mul-pstarts
-mul-pstarts c = search needs
-
-slice-write-pstarts : tie.Need-slice-write-pstarts
-slice-write-pstarts c = search needs
-
-mul-pends : tie.Need-mul-pends
-mul-pends c = search needs
-
-slice-write-pends : tie.Need-slice-write-pends
-slice-write-pends c = search needs
-
-element-write-t : tie.Need-element-write-t
-element-write-t c = search needs
-
-add-t : tie.Need-add-t
-add-t c = search needs
-
-same-length : tie.Need-same-length
-same-length c = search needs
-
-same-length-2 : tie.Need-same-length-2
-same-length-2 c = search needs
-
 returns : tie.Need-returns
 returns c =
     let a = c .args in
@@ -39,12 +15,5 @@ pub add-place-spec : {M : Type 1} → statement M
 add-place-spec =
     tie.close
     (tie.spec
-    mul-pstarts
-    slice-write-pstarts
-    mul-pends
-    slice-write-pends
-    element-write-t
-    add-t
-    same-length
-    same-length-2
-    returns)
+    (λ c. search needs) (λ c. search needs) (λ c. search needs) (λ c. search needs) (λ c. search needs) (λ c. search needs) (λ c. search needs)
+    (λ c. search needs) returns)

@@ -7,9 +7,6 @@ use Rattle.declarations.specs.PlaceLine.{location-none, location-one, lo
 use Rattle.declarations.proofs.placeline.location_line.Statement.{statement}
 use Rattle.declarations.proofs.placeline.location_line.Tie as tie
 
-word-in-requires : tie.Need-word-in-requires
-word-in-requires c κs = search needs
-
 returns : tie.Need-returns
 returns c =
     let s = c .before .before .before .before .before in
@@ -17,36 +14,12 @@ returns c =
     let names = placeNames (now (a .text)) (now (a .pstarts)) (now (a .pends)) (a .table) in
     (λ rules. location-none (draftOf (now (a .text)) names (a .table) rules) (c .before .word-in .ensures) (c .if1 .taken), s .pre .2, s .pre .3)
 
-word-in-requires-2 : tie.Need-word-in-requires-2
-word-in-requires-2 c κs = search needs
-
-place-requires : tie.Need-place-requires
-place-requires c κs = search needs
-
-same-length : tie.Need-same-length
-same-length c = search needs
-
-same-length-2 : tie.Need-same-length-2
-same-length-2 c = search needs
-
 returns-2 : tie.Need-returns-2
 returns-2 c =
     let a = c .before .before .before .before .before .before .before .before .before .before .before .before .before .before .args in
     let names = placeNames (now (a .text)) (now (a .pstarts)) (now (a .pends)) (a .table) in
     let one = c .before .before .before .before .place .ensures in
     (λ rules. one .0 rules ∙ location-one (draftOf (now (a .text)) names (a .table) rules) (c .before .before .before .before .before .before .before .before .before .before .word-in .ensures) (c .before .before .before .before .before .before .before .before .before .if1 .left) (c .before .before .before .before .before .before .before .before .word-in2 .ensures) (c .before .before .before .before .before .before .before .if2 .taken), one .1, one .2)
-
-must-be-left-requires : tie.Need-must-be-left-requires
-must-be-left-requires c κs = search needs
-
-place-requires-2 : tie.Need-place-requires-2
-place-requires-2 c κs = search needs
-
-same-length-3 : tie.Need-same-length-3
-same-length-3 c = search needs
-
-same-length-4 : tie.Need-same-length-4
-same-length-4 c = search needs
 
 returns-3 : tie.Need-returns-3
 returns-3 c =
@@ -66,16 +39,5 @@ pub location-line-spec : {M : Type 1} → statement M
 location-line-spec =
     tie.close
     (tie.spec
-    word-in-requires
-    returns
-    word-in-requires-2
-    place-requires
-    same-length
-    same-length-2
-    returns-2
-    must-be-left-requires
-    place-requires-2
-    same-length-3
-    same-length-4
-    returns-3
-    returns-4)
+    (λ c κs. search needs) returns (λ c κs. search needs) (λ c κs. search needs) (λ c. search needs) (λ c. search needs) returns-2
+    (λ c κs. search needs) (λ c κs. search needs) (λ c. search needs) (λ c. search needs) returns-3 returns-4)

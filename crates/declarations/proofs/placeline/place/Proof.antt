@@ -19,42 +19,12 @@ returns c =
     let names = placeNames (now (a .text)) (now (a .pstarts)) (now (a .pends)) (a .table) in
     (λ rules. place-late (draftOf (now (a .text)) names (a .table) rules) (part (now (a .text)) (a .a) (a .b - a .a)) (a .byte) (c .if1 .taken), s .pre .2, s .pre .3)
 
-sub-is-name : tie.Need-sub-is-name
-sub-is-name c = search needs
-
-part-is-name-start : tie.Need-part-is-name-start
-part-is-name-start c = search needs
-
-part-is-name-end : tie.Need-part-is-name-end
-part-is-name-end c = search needs
-
-is-name-requires : tie.Need-is-name-requires
-is-name-requires c κs = search needs
-
 returns-2 : tie.Need-returns-2
 returns-2 c =
     let s = c .before .before .before .before .before .before .before .before in
     let a = s .args in
     let names = placeNames (now (a .text)) (now (a .pstarts)) (now (a .pends)) (a .table) in
     (λ rules. place-unnamed (draftOf (now (a .text)) names (a .table) rules) (part (now (a .text)) (a .a) (a .b - a .a)) (a .byte) (c .before .before .before .if1 .left) (sym (c .before .is-name .ensures) ∙ not-true _ (c .if2 .taken)), s .pre .2, s .pre .3)
-
-sub-find-name : tie.Need-sub-find-name
-sub-find-name c = search needs
-
-part-find-name-start : tie.Need-part-find-name-start
-part-find-name-start c = search needs
-
-part-find-name-end : tie.Need-part-find-name-end
-part-find-name-end c = search needs
-
-find-name-requires : tie.Need-find-name-requires
-find-name-requires c κs = search needs
-
-same-length : tie.Need-same-length
-same-length c = search needs
-
-same-length-2 : tie.Need-same-length-2
-same-length-2 c = search needs
 
 returns-3 : tie.Need-returns-3
 returns-3 c =
@@ -63,27 +33,12 @@ returns-3 c =
     let names = placeNames (now (a .text)) (now (a .pstarts)) (now (a .pends)) (a .table) in
     (λ rules. place-taken (draftOf (now (a .text)) names (a .table) rules) (part (now (a .text)) (a .a) (a .b - a .a)) (a .byte) (c .before .before .before .before .before .before .before .before .if1 .left) (sym (c .before .before .before .before .before .before .is-name .ensures) ∙ not-false _ (c .before .before .before .before .before .if2 .left)) (c .before .find-name .ensures) (c .if3 .taken), s .pre .2, s .pre .3)
 
-same-length-3 : tie.Need-same-length-3
-same-length-3 c = search needs
-
-same-length-4 : tie.Need-same-length-4
-same-length-4 c = search needs
-
 returns-4 : tie.Need-returns-4
 returns-4 c =
     let s = c .before .before .before .before .before .before .before .before .before .before .before .before .before .before in
     let a = s .args in
     let names = placeNames (now (a .text)) (now (a .pstarts)) (now (a .pends)) (a .table) in
     (λ rules. place-full (draftOf (now (a .text)) names (a .table) rules) (part (now (a .text)) (a .a) (a .b - a .a)) (a .byte) (c .before .before .before .before .before .before .before .before .before .if1 .left) (sym (c .before .before .before .before .before .before .before .is-name .ensures) ∙ not-false _ (c .before .before .before .before .before .before .if2 .left)) (c .before .before .find-name .ensures) (c .before .if3 .left) (rw (spans-long (now (a .text)) (now (a .pstarts)) (now (a .pends)) 0 (a .table .places)) (c .if4 .taken)), s .pre .2, s .pre .3)
-
-add-place-requires : tie.Need-add-place-requires
-add-place-requires c κs = search needs
-
-same-length-5 : tie.Need-same-length-5
-same-length-5 c = search needs
-
-same-length-6 : tie.Need-same-length-6
-same-length-6 c = search needs
 
 returns-5 : tie.Need-returns-5
 returns-5 c =
@@ -97,23 +52,6 @@ pub place-spec : {M : Type 1} → statement M
 place-spec =
     tie.close
     (tie.spec
-    returns
-    sub-is-name
-    part-is-name-start
-    part-is-name-end
-    is-name-requires
-    returns-2
-    sub-find-name
-    part-find-name-start
-    part-find-name-end
-    find-name-requires
-    same-length
-    same-length-2
-    returns-3
-    same-length-3
-    same-length-4
-    returns-4
-    add-place-requires
-    same-length-5
-    same-length-6
-    returns-5)
+    returns (λ c. search needs) (λ c. search needs) (λ c. search needs) (λ c κs. search needs) returns-2 (λ c. search needs) (λ c. search needs)
+    (λ c. search needs) (λ c κs. search needs) (λ c. search needs) (λ c. search needs) returns-3 (λ c. search needs) (λ c. search needs) returns-4
+    (λ c κs. search needs) (λ c. search needs) (λ c. search needs) returns-5)

@@ -5,24 +5,6 @@ use Rattle.declarations.specs.SignalLine.{output-more, fit-output}
 use Rattle.declarations.proofs.signalline.add_output.Statement.{statement}
 use Rattle.declarations.proofs.signalline.add_output.Tie as tie
 
-element-write-t : tie.Need-element-write-t
-element-write-t c = search needs
-
-mul-t : tie.Need-mul-t
-mul-t c = search needs
-
-element-write-t-2 : tie.Need-element-write-t-2
-element-write-t-2 c = search needs
-
-mul-t-2 : tie.Need-mul-t-2
-mul-t-2 c = search needs
-
-element-write-t-3 : tie.Need-element-write-t-3
-element-write-t-3 c = search needs
-
-add-t : tie.Need-add-t
-add-t c = search needs
-
 returns : tie.Need-returns
 returns c =
     let a = c .args in
@@ -32,4 +14,5 @@ returns c =
 pub add-output-spec : {M : Type 1} → statement M
 add-output-spec =
     tie.close
-    (tie.spec element-write-t mul-t element-write-t-2 mul-t-2 element-write-t-3 add-t returns)
+    (tie.spec
+    (λ c. search needs) (λ c. search needs) (λ c. search needs) (λ c. search needs) (λ c. search needs) (λ c. search needs) returns)

@@ -29,9 +29,6 @@ returns-3 c =
     let a = s .args in
     (λ places rules l e. input-form (s .pre .4) places rules (a .few .count) (part (now (a .text)) (a .few .start) (a .few .end - a .few .start)) (part (now (a .text)) (a .few .from) (a .few .to - a .few .from)) l e (c .before .before .before .before .if1 .left) (λ y z. omega (arith, z, c .if3 .taken)), s .pre .4, refl)
 
-signal-tag-requires : tie.Need-signal-tag-requires
-signal-tag-requires c κs = search needs
-
 returns-4 : tie.Need-returns-4
 returns-4 c =
     let s = c .before .before .before .before .before .before .before .before .before .before in
@@ -51,13 +48,4 @@ returns-5 c =
     (λ places rules l e. ap gives (c .add-input .ensures .0 places rules) ∙ input-given (s .pre .4) places rules (a .few .count) (part (now (a .text)) (a .few .start) (a .few .end - a .few .start)) (part (now (a .text)) (a .few .from) (a .few .to - a .few .from)) l e (c .before .before .before .before .before .before .if2 .left) (c .before .before .before .before .if3 .left) (c .before .before .before .signal-tag .result .refusal) (c .before .before .before .signal-tag .result .value) (c .before .before .before .before .before .before .before .before .if1 .left) (c .before .before .before .signal-tag .ensures .0) (c .before .if4 .left), c .add-input .ensures .1, c .add-input .ensures .2)
 
 pub input-line-spec : {M : Type 1} → statement M
-input-line-spec =
-    tie.close
-    (tie.spec
-    returns
-    returns-2
-    returns-3
-    signal-tag-requires
-    returns-4
-    add-input-requires
-    returns-5)
+input-line-spec = tie.close (tie.spec returns returns-2 returns-3 (λ c κs. search needs) returns-4 add-input-requires returns-5)

@@ -29,12 +29,6 @@ returns-3 c =
     let a = s .args in
     (λ places rules l e. output-form (s .pre .4) places rules (a .few .count) (part (now (a .text)) (a .few .start) (a .few .end - a .few .start)) (part (now (a .text)) (a .few .from) (a .few .to - a .few .from)) l e (c .before .before .before .before .if1 .left) (λ y z. omega (arith, z, c .if3 .taken)), s .pre .4, refl)
 
-sub-count : tie.Need-sub-count
-sub-count c = search needs
-
-signal-tag-requires : tie.Need-signal-tag-requires
-signal-tag-requires c κs = search needs
-
 returns-4 : tie.Need-returns-4
 returns-4 c =
     let s = c .before .before .before .before .before .before .before .before .before .before .before in
@@ -54,14 +48,4 @@ returns-5 c =
     (λ places rules l e. ap gives (c .add-output .ensures .0 places rules) ∙ output-given (s .pre .4) places rules (a .few .count) (part (now (a .text)) (a .few .start) (a .few .end - a .few .start)) (part (now (a .text)) (a .few .from) (a .few .to - a .few .from)) l e (c .before .before .before .before .before .before .before .if2 .left) (c .before .before .before .before .before .if3 .left) (c .before .before .before .signal-tag .result .refusal) (c .before .before .before .signal-tag .result .value) (c .before .before .before .before .before .before .before .before .before .if1 .left) (c .before .before .before .signal-tag .ensures .0) (c .before .if4 .left), c .add-output .ensures .1, c .add-output .ensures .2)
 
 pub output-line-spec : {M : Type 1} → statement M
-output-line-spec =
-    tie.close
-    (tie.spec
-    returns
-    returns-2
-    returns-3
-    sub-count
-    signal-tag-requires
-    returns-4
-    add-output-requires
-    returns-5)
+output-line-spec = tie.close (tie.spec returns returns-2 returns-3 (λ c. search needs) (λ c κs. search needs) returns-4 add-output-requires returns-5)

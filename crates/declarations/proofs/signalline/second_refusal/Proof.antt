@@ -13,13 +13,10 @@ returns c =
     let a = c .before .before .before .args in
     wanted-none (a .few .count) (nameFound (now (a .text)) (a .table) (part (now (a .text)) (a .few .from) (a .few .to - a .few .from))) (c .if1 .taken)
 
-name-refusal-requires : tie.Need-name-refusal-requires
-name-refusal-requires c κs = search needs
-
 returns-2 : tie.Need-returns-2
 returns-2 c =
     let a = c .before .before .before .before .args in
     c .name-refusal .ensures ∙ wanted-some (a .few .count) (nameFound (now (a .text)) (a .table) (part (now (a .text)) (a .few .from) (a .few .to - a .few .from))) (c .before .if1 .left)
 
 pub second-refusal-spec : {M : Type 1} → statement M
-second-refusal-spec = tie.close (tie.spec returns name-refusal-requires returns-2)
+second-refusal-spec = tie.close (tie.spec returns (λ c κs. search needs) returns-2)

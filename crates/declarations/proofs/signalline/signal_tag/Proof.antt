@@ -10,18 +10,6 @@ use Rattle.declarations.specs.SignalLine.{wanted, nameFound, tag-not, ta
 use Rattle.declarations.proofs.signalline.signal_tag.Statement.{statement}
 use Rattle.declarations.proofs.signalline.signal_tag.Tie as tie
 
-sub-letter-of : tie.Need-sub-letter-of
-sub-letter-of c = search needs
-
-part-letter-of-start : tie.Need-part-letter-of-start
-part-letter-of-start c = search needs
-
-part-letter-of-end : tie.Need-part-letter-of-end
-part-letter-of-end c = search needs
-
-letter-of-requires : tie.Need-letter-of-requires
-letter-of-requires c κs = search needs
-
 returns : tie.Need-returns
 returns c =
     let a = c .before .before .before .before .before .before .args in
@@ -29,9 +17,6 @@ returns c =
     let t = c .before .before .letter-of in
     let before = take (a .table .signals) (a .table .tags) in
     (tag-not before (a .count) w (t .result .refusal) (t .result .value) (t .ensures) (wanted (a .few .count) (nameFound (now (a .text)) (a .table) (part (now (a .text)) (a .few .from) (a .few .to - a .few .from)))) (c .if1 .taken), λ z. absurd (c .if1 .taken z))
-
-second-refusal-requires : tie.Need-second-refusal-requires
-second-refusal-requires c κs = search needs
 
 returns-2 : tie.Need-returns-2
 returns-2 c =
@@ -61,12 +46,4 @@ pub signal-tag-spec : {M : Type 1} → statement M
 signal-tag-spec =
     tie.close
     (tie.spec
-    sub-letter-of
-    part-letter-of-start
-    part-letter-of-end
-    letter-of-requires
-    returns
-    second-refusal-requires
-    returns-2
-    returns-3
-    returns-4)
+    (λ c. search needs) (λ c. search needs) (λ c. search needs) (λ c κs. search needs) returns (λ c κs. search needs) returns-2 returns-3 returns-4)

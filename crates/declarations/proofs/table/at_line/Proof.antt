@@ -17,18 +17,6 @@ returns c =
     let w = part (now (a .text)) (a .few .from) (a .few .to - a .few .from) in
     (λ rules l e. at-form (draftOf (now (a .text)) names (a .table) rules) (a .few .count) v w l (c .if1 .taken) e, s .pre .2, refl)
 
-sub-find-name : tie.Need-sub-find-name
-sub-find-name c = search needs
-
-part-find-name-start : tie.Need-part-find-name-start
-part-find-name-start c = search needs
-
-part-find-name-end : tie.Need-part-find-name-end
-part-find-name-end c = search needs
-
-find-name-requires : tie.Need-find-name-requires
-find-name-requires c κs = search needs
-
 returns-2 : tie.Need-returns-2
 returns-2 c =
     let s = c .before .before .before .before .before .before .before .before in
@@ -71,12 +59,4 @@ pub at-line-spec : {M : Type 1} → statement M
 at-line-spec =
     tie.close
     (tie.spec
-    returns
-    sub-find-name
-    part-find-name-start
-    part-find-name-end
-    find-name-requires
-    returns-2
-    returns-3
-    returns-4
-    returns-5)
+    returns (λ c. search needs) (λ c. search needs) (λ c. search needs) (λ c κs. search needs) returns-2 returns-3 returns-4 returns-5)

@@ -28,9 +28,6 @@ returns c =
 allowed-requires : tie.Need-allowed-requires
 allowed-requires c κs = c .before .before .before .before .pre .0
 
-standing-requires : tie.Need-standing-requires
-standing-requires c κs = search needs
-
 values-requires : tie.Need-values-requires
 values-requires c κs = laid-limits (c .before .before .before .before .before .before .pre .0 .standing .laid) .0
 
@@ -45,13 +42,4 @@ returns-2 c =
     ∙ sets-chosen _ (laid-well (s .pre .0 .standing .laid)) _ _ (v .before .before .allowed .result) _ (v .before .before .allowed .ensures) (v .before .standing .ensures) _
 
 pub choose-input-spec : {M : Type 1} → statement M
-choose-input-spec =
-    tie.close
-    (tie.spec
-    may-stand-requires
-    returns
-    allowed-requires
-    standing-requires
-    values-requires
-    nearest-requires
-    returns-2)
+choose-input-spec = tie.close (tie.spec may-stand-requires returns allowed-requires (λ c κs. search needs) values-requires nearest-requires returns-2)

@@ -19,17 +19,11 @@ counted c = rw (c .values .ensures) (laid-outputs (c .before .before .before .pr
 values-requires : tie.Need-values-requires
 values-requires c κs = laid-limits (c .before .before .pre .standing .laid) .1
 
-reaches-requires : tie.Need-reaches-requires
-reaches-requires c κs = search needs
-
 returns : tie.Need-returns
 unfolding outputChoice
 returns c =
     let y = rw (counted (c .before .before .before) .0) at (c .before .before .if1 .taken) in
     sym (nearest-kept _ _ _ y (sym (c .before .reaches .ensures) ∙ c .if2 .taken))
-
-row-requires : tie.Need-row-requires
-row-requires c κs = search needs
 
 nearest-requires : tie.Need-nearest-requires
 nearest-requires c κs = counted (c .before .before) .1
@@ -41,6 +35,4 @@ returns-2 c =
     rw (counted v .0) at (c .nearest .ensures) ∙ row-chosen _ (laid-well (s .pre .standing .laid)) _ _ _ _ (c .before .row .ensures) _
 
 pub choose-output-spec : {M : Type 1} → statement M
-choose-output-spec =
-    tie.close
-    (tie.spec values-requires reaches-requires returns row-requires nearest-requires returns-2)
+choose-output-spec = tie.close (tie.spec values-requires (λ c κs. search needs) returns (λ c κs. search needs) nearest-requires returns-2)

@@ -34,12 +34,6 @@ choose-input-requires : tie.Need-choose-input-requires
 choose-input-requires c κs =
     let e = c .before in (record { standing = e .before .before .before .before .pre .0; here = c .here-by .ensures }, fits e)
 
-enum-known-z : tie.Need-enum-known-z
-enum-known-z c = search needs
-
-enum-told : tie.Need-enum-told
-enum-told c = search needs
-
 -- The chooser says the rest.
 given : (c : tie.After-choose-input) →
     let a = c .before .before .before .before .before .before .args in
@@ -56,11 +50,4 @@ pub input-by-spec : {M : Type 1} → statement M
 input-by-spec =
     tie.close
     (tie.spec
-    values-requires
-    returns
-    here-by-requires
-    choose-input-requires
-    enum-known-z
-    enum-told
-    returns-2
-    returns-3)
+    values-requires returns here-by-requires choose-input-requires (λ c. search needs) (λ c. search needs) returns-2 returns-3)

@@ -14,12 +14,6 @@ use Rattle.enforcer.specs.AsRead.{input-past-15, input-as-read}
 use Rattle.enforcer.proofs.halves.input_half.Statement.{statement}
 use Rattle.enforcer.proofs.halves.input_half.Tie as tie
 
-check-under-requires : tie.Need-check-under-requires
-check-under-requires c κs = search needs
-
-marks-refusal-requires : tie.Need-marks-refusal-requires
-marks-refusal-requires c κs = search needs
-
 -- What the code finds up to 10 is the refusal.
 marked : (c : tie.After-marks-refusal) →
     let a = c .before .before .before .before .args in c .marks-refusal .result ≡ marksRefusal (a .reading) (now (a .file)) (now (a .marks))
@@ -104,16 +98,5 @@ pub input-half-spec : {M : Type 1} → statement M
 input-half-spec =
     tie.close
     (tie.spec
-    check-under-requires
-    marks-refusal-requires
-    returns
-    state-refusal-requires
-    returns-2
-    values-requires
-    returns-3
-    own-of-requires
-    here-by-requires
-    input-reaches-requires
-    returns-4
-    input-by-requires
-    returns-5)
+    (λ c κs. search needs) (λ c κs. search needs) returns state-refusal-requires returns-2 values-requires returns-3 own-of-requires here-by-requires
+    input-reaches-requires returns-4 input-by-requires returns-5)

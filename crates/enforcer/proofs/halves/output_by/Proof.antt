@@ -37,9 +37,6 @@ values-requires c κs = omega (arith, laid-limits (c .before .before .pre .0 .la
 inputs : (c : tie.After-values) → let a = c .before .before .before .args in c .values .result ≡ inputValues (policyOf (a .layout .reading) (now (a .file)))
 inputs c = c .values .ensures ∙ laid-inputs (c .before .before .before .pre .0 .laid) .0
 
-refused-requires : tie.Need-refused-requires
-refused-requires c κs = search needs
-
 returns : tie.Need-returns
 returns c = ap outputSaid (c .refused .ensures) ∙ sym (rw (← inputs (c .before .before), le-ltb _ _ (c .before .if1 .taken)))
 
@@ -51,9 +48,6 @@ outputs c = c .values2 .ensures ∙ laid-outputs (c .before .before .before .bef
 
 x-fits : (c : tie.Else1) → let a = c .before .before .before .before .args in a .x < inputValues (policyOf (a .layout .reading) (now (a .file)))
 x-fits c = rw (inputs (c .before)) at (c .if1 .left)
-
-refused-requires-2 : tie.Need-refused-requires-2
-refused-requires-2 c κs = search needs
 
 returns-2 : tie.Need-returns-2
 returns-2 c =
@@ -85,9 +79,6 @@ given c =
     let e = c .before .before in
     rw (lt-ltb _ _ (x-fits (e .before .before)), lt-ltb _ _ (y-fits e), c .output-tick .ensures) (tick-says (c .before .before .before .before .before .before .before .before .args .state) (asked c))
 
-refused-requires-3 : tie.Need-refused-requires-3
-refused-requires-3 c κs = search needs
-
 returns-3 : tie.Need-returns-3
 returns-3 c =
     let t = c .before .before .before in
@@ -101,14 +92,5 @@ pub output-by-spec : {M : Type 1} → statement M
 output-by-spec =
     tie.close
     (tie.spec
-    values-requires
-    refused-requires
-    returns
-    values-requires-2
-    refused-requires-2
-    returns-2
-    here-by-requires
-    output-tick-requires
-    refused-requires-3
-    returns-3
-    returns-4)
+    values-requires (λ c κs. search needs) returns values-requires-2 (λ c κs. search needs) returns-2 here-by-requires output-tick-requires
+    (λ c κs. search needs) returns-3 returns-4)

@@ -12,14 +12,8 @@ use Rattle.enforcer.proofs.halves.state_good.Tie as tie
 four : (c : tie.Start) → length (c .args .state .clocks) ≡ 4
 four c = search needs
 
-limits-requires : tie.Need-limits-requires
-limits-requires c κs = search needs
-
 cast-highest : tie.Need-cast-highest
 cast-highest c = let e = ap (λ (m : Limits). m .ceiling) (c .before .limits .ensures) in search needs
-
-in-range-requires : tie.Need-in-range-requires
-in-range-requires c κs = search needs
 
 returns : tie.Need-returns
 returns c =
@@ -28,13 +22,10 @@ returns c =
     (ap (λ (m : Limits). inRange (m .locations) (replicate 4 (m .ceiling)) (s .args .state)) (sym (c .before .before .before .limits .ensures))
     ∙ sym (c .before .in-range .ensures) ∙ not-true _ (c .if1 .taken)))
 
-in-range-requires-2 : tie.Need-in-range-requires-2
-in-range-requires-2 c κs = search needs
-
 returns-2 : tie.Need-returns-2
 returns-2 c =
     let s = c .before .before .before .before .before .before .before in
     c .in-range2 .ensures ∙ sym (laid-good (s .pre) (s .args .state) (four s))
 
 pub state-good-spec : {M : Type 1} → statement M
-state-good-spec = tie.close (tie.spec limits-requires cast-highest in-range-requires returns in-range-requires-2 returns-2)
+state-good-spec = tie.close (tie.spec (λ c κs. search needs) cast-highest (λ c κs. search needs) returns (λ c κs. search needs) returns-2)

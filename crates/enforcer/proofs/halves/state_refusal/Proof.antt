@@ -14,9 +14,6 @@ use Rattle.enforcer.specs.States.{good-numbered, state-granted}
 use Rattle.enforcer.proofs.halves.state_refusal.Statement.{statement}
 use Rattle.enforcer.proofs.halves.state_refusal.Tie as tie
 
-state-good-requires : tie.Need-state-good-requires
-state-good-requires c κs = search needs
-
 returns : tie.Need-returns
 unfolding stateRefusal
 returns c = rw (sym (c .before .state-good .ensures) ∙ not-true _ (c .if1 .taken))
@@ -57,12 +54,4 @@ unfolding stateRefusal
 returns-3 c = let n = c .before .before in rw (good (n .before .before), marked n ∙ ne-eqb _ _ (c .if2 .left))
 
 pub state-refusal-spec : {M : Type 1} → statement M
-state-refusal-spec =
-    tie.close
-    (tie.spec
-    state-good-requires
-    returns
-    number-requires
-    shared-slice-read-if2
-    returns-2
-    returns-3)
+state-refusal-spec = tie.close (tie.spec (λ c κs. search needs) returns number-requires shared-slice-read-if2 returns-2 returns-3)

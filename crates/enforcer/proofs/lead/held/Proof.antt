@@ -7,9 +7,6 @@ use Rattle.enforcer.proofs.WayLaws.{rule-seen}
 use Rattle.enforcer.proofs.lead.held.Statement.{statement}
 use Rattle.enforcer.proofs.lead.held.Tie as tie
 
-add-bounds-hold : tie.Need-add-bounds-hold
-add-bounds-hold c = search needs
-
 bounds-hold-requires : tie.Need-bounds-hold-requires
 bounds-hold-requires c κs =
     let s = c .before .before in
@@ -21,9 +18,4 @@ returns c =
     sym (rule-seen (s .pre .0) (s .pre .1) (s .pre .2) _ (sym (c .bounds-hold .ensures)))
 
 pub held-spec : {M : Type 1} → statement M
-held-spec =
-    tie.close
-    (tie.spec
-    add-bounds-hold
-    bounds-hold-requires
-    returns)
+held-spec = tie.close (tie.spec (λ c. search needs) bounds-hold-requires returns)

@@ -20,9 +20,6 @@ returns c =
     nothing (leads (place (a .layout .clocks) (a .state)) (policyOf (a .layout .reading) (now (a .file))) (now (a .marks)) (ruleFrom (a .layout .clocks) (now (a .file)) (a .at))) _
     (c .if1 .taken)
 
-leads-requires : tie.Need-leads-requires
-leads-requires c κs = search needs
-
 returns-2 : tie.Need-returns-2
 returns-2 c = rw (sym (c .before .leads .ensures) ∙ c .if2 .taken)
 
@@ -30,4 +27,4 @@ returns-3 : tie.Need-returns-3
 returns-3 c = rw (sym (c .before .leads .ensures) ∙ c .if2 .left)
 
 pub kept-spec : {M : Type 1} → statement M
-kept-spec = tie.close (tie.spec returns leads-requires returns-2 returns-3)
+kept-spec = tie.close (tie.spec returns (λ c κs. search needs) returns-2 returns-3)

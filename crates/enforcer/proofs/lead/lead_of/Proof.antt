@@ -18,10 +18,4 @@ returns-2 : tie.Need-returns-2
 returns-2 c = held-led _ _ (sym (c .before .before .held .ensures) ∙ not-false _ (c .before .if1 .left)) (c .next-of .ensures)
 
 pub lead-of-spec : {M : Type 1} → statement M
-lead-of-spec =
-    tie.close
-    (tie.spec
-    held-requires
-    returns
-    next-of-requires
-    returns-2)
+lead-of-spec = tie.close (tie.spec held-requires returns next-of-requires returns-2)

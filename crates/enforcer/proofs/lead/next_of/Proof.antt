@@ -33,27 +33,9 @@ led c w =
     led-next (s .pre .0) (a .state) (s .pre .1) (ruleFrom (a .layout .clocks) (now (a .file)) (a .at)) (s .pre .2 .ours .formed)
     (λ z. e .if1 .left (t ∙ z)) (lengths s .0) (lengths s .1) (w ∙ rw (c .advanced .ensures, c .before .byte-within2 .ensures .0, t))
 
-add-byte-within : tie.Need-add-byte-within
-add-byte-within c = search needs
-
-byte-within-requires : tie.Need-byte-within-requires
-byte-within-requires c κs = search needs
-
 returns : tie.Need-returns
 unfolding ruleFrom
 returns c = led-violation _ _ _ (sym (c .before .byte-within .ensures .0) ∙ c .if1 .taken)
-
-cast-t11 : tie.Need-cast-t11
-cast-t11 c = search needs
-
-add-byte-within-2 : tie.Need-add-byte-within-2
-add-byte-within-2 c = search needs
-
-byte-within-requires-2 : tie.Need-byte-within-requires-2
-byte-within-requires-2 c κs = search needs
-
-advanced-requires : tie.Need-advanced-requires
-advanced-requires c κs = search needs
 
 number-requires : tie.Need-number-requires
 number-requires c κs =
@@ -67,12 +49,5 @@ pub next-of-spec : {M : Type 1} → statement M
 next-of-spec =
     tie.close
     (tie.spec
-    add-byte-within
-    byte-within-requires
-    returns
-    cast-t11
-    add-byte-within-2
-    byte-within-requires-2
-    advanced-requires
-    number-requires
-    returns-2)
+    (λ c. search needs) (λ c κs. search needs) returns (λ c. search needs) (λ c. search needs) (λ c κs. search needs) (λ c κs. search needs)
+    number-requires returns-2)

@@ -40,44 +40,8 @@ loop-holds c = (omega arith, simp unary-clauses)
 returns : tie.Need-returns Inv-loop μ-loop
 returns c = sym (c .before .before .loop .inv .1 ∙ hold-end _ _ _ _ _ (c .if1 .taken))
 
-mul-pair-within : tie.Need-mul-pair-within Inv-loop μ-loop
-mul-pair-within c = search needs
-
-add-pair-within : tie.Need-add-pair-within Inv-loop μ-loop
-add-pair-within c = search needs
-
-pair-within-requires : tie.Need-pair-within-requires Inv-loop μ-loop
-pair-within-requires c κs = search needs
-
-mul-pair-within-2 : tie.Need-mul-pair-within-2 Inv-loop μ-loop
-mul-pair-within-2 c = search needs
-
-add-pair-within-2 : tie.Need-add-pair-within-2 Inv-loop μ-loop
-add-pair-within-2 c = search needs
-
-add-pair-within-3 : tie.Need-add-pair-within-3 Inv-loop μ-loop
-add-pair-within-3 c = search needs
-
-pair-within-requires-2 : tie.Need-pair-within-requires-2 Inv-loop μ-loop
-pair-within-requires-2 c κs = search needs
-
-mul-is-within : tie.Need-mul-is-within Inv-loop μ-loop
-mul-is-within c = search needs
-
-array-read-is-within : tie.Need-array-read-is-within Inv-loop μ-loop
-array-read-is-within c = search needs
-
-is-within-requires : tie.Need-is-within-requires Inv-loop μ-loop
-is-within-requires c κs = search needs
-
 returns-2 : tie.Need-returns-2 Inv-loop μ-loop
 returns-2 c = sym (turn (c .before .before) ∙ rw (sym (c .before .is-within .ensures) ∙ not-true (c .before .is-within .result) (c .if2 .taken)))
-
-add-i : tie.Need-add-i Inv-loop μ-loop
-add-i c = search needs
-
-loop-less : tie.Need-loop-less Inv-loop μ-loop
-loop-less c = search needs
 
 loop-again : tie.Need-loop-again Inv-loop μ-loop
 loop-again c = (omega arith, turn (c .before .before) ∙ rw (sym (c .before .is-within .ensures) ∙ not-false (c .before .is-within .result) (c .if2 .left)))
@@ -89,22 +53,6 @@ pub bounds-hold-spec : {M : Type 1} → statement M
 bounds-hold-spec =
     tie.close
     (tie.spec
-    Inv-loop
-    μ-loop
-    loop-holds
-    returns
-    mul-pair-within
-    add-pair-within
-    pair-within-requires
-    mul-pair-within-2
-    add-pair-within-2
-    add-pair-within-3
-    pair-within-requires-2
-    mul-is-within
-    array-read-is-within
-    is-within-requires
-    returns-2
-    add-i
-    loop-less
-    loop-again
-    returns-3)
+    Inv-loop μ-loop loop-holds returns (λ c. search needs) (λ c. search needs) (λ c κs. search needs) (λ c. search needs) (λ c. search needs)
+    (λ c. search needs) (λ c κs. search needs) (λ c. search needs) (λ c. search needs) (λ c κs. search needs) returns-2 (λ c. search needs)
+    (λ c. search needs) loop-again returns-3)

@@ -36,12 +36,6 @@ here c =
     let l = c .before .loop in
     level-all (a .clocks) (now (a .rules)) (l .at) (a .count - l .ahead) (a .count) (a .state .location) (omega arith) (l .inv .1 .2)
 
-mul-size : tie.Need-mul-size Inv-loop μ-loop
-mul-size c = search needs
-
-add-size : tie.Need-add-size Inv-loop μ-loop
-add-size c = search needs
-
 loop-holds : tie.Need-loop-holds Inv-loop μ-loop
 loop-holds c =
     let n = c .before .args .count in
@@ -57,22 +51,10 @@ rule-fires-requires c κs =
     let end = mul-le-mul-right (ruleSize (a .clocks)) m in
     (search needs, search needs, omega (arith, end), here c .0)
 
-sub-t13 : tie.Need-sub-t13 Inv-loop μ-loop
-sub-t13 c = search needs
-
 returns : tie.Need-returns Inv-loop μ-loop
 returns c =
     let l = c .before .before in
     sym (l .before .loop .inv .2 ∙ decider-here _ _ _ _ _ _ _ (omega arith) (sym (c .before .rule-fires .ensures) ∙ c .if1 .taken))
-
-add-at : tie.Need-add-at Inv-loop μ-loop
-add-at c = search needs
-
-sub-ahead : tie.Need-sub-ahead Inv-loop μ-loop
-sub-ahead c = search needs
-
-loop-less : tie.Need-loop-less Inv-loop μ-loop
-loop-less c = search needs
 
 loop-again : tie.Need-loop-again Inv-loop μ-loop
 loop-again c =
@@ -95,16 +77,5 @@ pub first-rule-spec : {M : Type 1} → statement M
 first-rule-spec =
     tie.close
     (tie.spec
-    Inv-loop
-    μ-loop
-    mul-size
-    add-size
-    loop-holds
-    rule-fires-requires
-    sub-t13
-    returns
-    add-at
-    sub-ahead
-    loop-less
-    loop-again
-    returns-2)
+    Inv-loop μ-loop (λ c. search needs) (λ c. search needs) loop-holds rule-fires-requires (λ c. search needs) returns (λ c. search needs)
+    (λ c. search needs) (λ c. search needs) loop-again returns-2)

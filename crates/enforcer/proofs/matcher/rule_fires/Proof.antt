@@ -13,18 +13,6 @@ use Rattle.enforcer.proofs.matcher.rule_fires.Tie as tie
 source : (s : tie.Start) → eqb (byteAt (now (s .args .rules)) (s .args .at)) (s .args .state .location) ≡ true
 source s = eq-eqb _ _ (s .pre .3)
 
-add-byte-within : tie.Need-add-byte-within
-add-byte-within c = search needs
-
-byte-within-requires : tie.Need-byte-within-requires
-byte-within-requires c κs = search needs
-
-add-byte-within-2 : tie.Need-add-byte-within-2
-add-byte-within-2 c = search needs
-
-byte-within-requires-2 : tie.Need-byte-within-requires-2
-byte-within-requires-2 c κs = search needs
-
 returns : tie.Need-returns
 unfolding fires ruleFrom
 returns c =
@@ -34,18 +22,6 @@ returns c =
       ← c .before .byte-within2 .ensures .0,
       ne-eqb _ _ (c .if1 .taken),
     )
-
-add-byte-within-3 : tie.Need-add-byte-within-3
-add-byte-within-3 c = search needs
-
-byte-within-requires-3 : tie.Need-byte-within-requires-3
-byte-within-requires-3 c κs = search needs
-
-add-byte-within-4 : tie.Need-add-byte-within-4
-add-byte-within-4 c = search needs
-
-byte-within-requires-4 : tie.Need-byte-within-requires-4
-byte-within-requires-4 c κs = search needs
 
 returns-2 : tie.Need-returns-2
 unfolding fires ruleFrom
@@ -60,12 +36,6 @@ returns-2 c =
       ← c .before .byte-within4 .ensures .0,
       ne-eqb _ _ (c .if2 .taken),
     )
-
-add-bounds-hold : tie.Need-add-bounds-hold
-add-bounds-hold c = search needs
-
-bounds-hold-requires : tie.Need-bounds-hold-requires
-bounds-hold-requires c κs = search needs
 
 returns-3 : tie.Need-returns-3
 unfolding fires ruleFrom
@@ -87,16 +57,5 @@ pub rule-fires-spec : {M : Type 1} → statement M
 rule-fires-spec =
     tie.close
     (tie.spec
-    add-byte-within
-    byte-within-requires
-    add-byte-within-2
-    byte-within-requires-2
-    returns
-    add-byte-within-3
-    byte-within-requires-3
-    add-byte-within-4
-    byte-within-requires-4
-    returns-2
-    add-bounds-hold
-    bounds-hold-requires
-    returns-3)
+    (λ c. search needs) (λ c κs. search needs) (λ c. search needs) (λ c κs. search needs) returns (λ c. search needs) (λ c κs. search needs)
+    (λ c. search needs) (λ c κs. search needs) returns-2 (λ c. search needs) (λ c κs. search needs) returns-3)

@@ -24,33 +24,9 @@ abbrev μ-loop : tie.MeasureT-loop
 loop-holds : tie.Need-loop-holds Inv-loop μ-loop
 loop-holds c = (search needs, refl)
 
-mul-ceiling : tie.Need-mul-ceiling Inv-loop μ-loop
-mul-ceiling c = search needs
-
-array-read-ceiling : tie.Need-array-read-ceiling Inv-loop μ-loop
-array-read-ceiling c = search needs
-
-mul-value : tie.Need-mul-value Inv-loop μ-loop
-mul-value c = search needs
-
-array-read-value : tie.Need-array-read-value Inv-loop μ-loop
-array-read-value c = search needs
-
 add-next : tie.Need-add-next Inv-loop μ-loop
 add-next c =
     let i = c .before .before .before in let f : Fits w16 (getD (i .before .args .t2) (i .loop .i) 0) = search needs in omega arith
-
-mul-next : tie.Need-mul-next Inv-loop μ-loop
-mul-next c = search needs
-
-array-write-next : tie.Need-array-write-next Inv-loop μ-loop
-array-write-next c = search needs
-
-add-i : tie.Need-add-i Inv-loop μ-loop
-add-i c = search needs
-
-loop-less : tie.Need-loop-less Inv-loop μ-loop
-loop-less c = search needs
 
 loop-again : tie.Need-loop-again Inv-loop μ-loop
 loop-again c =
@@ -72,17 +48,5 @@ pub advanced-spec : {M : Type 1} → statement M
 advanced-spec =
     tie.close
     (tie.spec
-    Inv-loop
-    μ-loop
-    loop-holds
-    mul-ceiling
-    array-read-ceiling
-    mul-value
-    array-read-value
-    add-next
-    mul-next
-    array-write-next
-    add-i
-    loop-less
-    loop-again
-    returns)
+    Inv-loop μ-loop loop-holds (λ c. search needs) (λ c. search needs) (λ c. search needs) (λ c. search needs) add-next (λ c. search needs)
+    (λ c. search needs) (λ c. search needs) (λ c. search needs) loop-again returns)

@@ -93,12 +93,6 @@ add-at-2 c =
     let s = i .before .before .before .before .before .before .before .before .before .before .before .before in
     omega (arith, laid-short (s .pre .standing .laid), ahead-rest (s .pre .standing .laid) (i .before .loop .inv .0 .1) (i .loop-test .taken) .ends)
 
-sub-ahead : tie.Need-sub-ahead Inv-loop μ-loop
-sub-ahead c = search needs
-
-loop-less : tie.Need-loop-less Inv-loop μ-loop
-loop-less c = search needs
-
 loop-again : tie.Need-loop-again Inv-loop μ-loop
 loop-again c =
     let i = c .before .before .before in
@@ -120,21 +114,5 @@ pub leads-on-spec : {M : Type 1} → statement M
 leads-on-spec =
     tie.close
     (tie.spec
-    Inv-loop
-    μ-loop
-    idles-requires
-    returns
-    values-requires
-    values-requires-2
-    mul-size
-    add-size
-    room-requires
-    add-at
-    loop-holds
-    go-by-requires
-    returns-2
-    add-at-2
-    sub-ahead
-    loop-less
-    loop-again
-    returns-3)
+    Inv-loop μ-loop idles-requires returns values-requires values-requires-2 mul-size add-size room-requires add-at loop-holds go-by-requires
+    returns-2 add-at-2 (λ c. search needs) (λ c. search needs) loop-again returns-3)

@@ -9,15 +9,9 @@ use Rattle.enforcer.specs.WaysLaws.{row-stands}
 use Rattle.enforcer.proofs.pass.may_stand.Statement.{statement}
 use Rattle.enforcer.proofs.pass.may_stand.Tie as tie
 
-reaches-requires : tie.Need-reaches-requires
-reaches-requires c κs = search needs
-
 returns : tie.Need-returns
 unfolding mayStand
 returns c = sym (some-has _ _ 0 (pow-pos _) (sym (c .before .reaches .ensures) ∙ c .if1 .taken))
-
-row-requires : tie.Need-row-requires
-row-requires c κs = search needs
 
 returns-2 : tie.Need-returns-2
 returns-2 c =
@@ -25,4 +19,4 @@ returns-2 c =
     rw (c .row .ensures) (sym (row-stands _ (laid-well (s .pre .standing .laid)) _ _ _))
 
 pub may-stand-spec : {M : Type 1} → statement M
-may-stand-spec = tie.close (tie.spec reaches-requires returns row-requires returns-2)
+may-stand-spec = tie.close (tie.spec (λ c κs. search needs) returns (λ c κs. search needs) returns-2)

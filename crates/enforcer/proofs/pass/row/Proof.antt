@@ -79,12 +79,6 @@ add-at-2 c =
     let k = i .before .before .before .before .before .before .before .before .before .pre .standing .laid in
     omega (arith, laid-short k, ahead-rest k (i .before .loop .inv .0) (i .loop-test .taken) .ends)
 
-sub-ahead : tie.Need-sub-ahead Inv-loop μ-loop
-sub-ahead c = search needs
-
-loop-less : tie.Need-loop-less Inv-loop μ-loop
-loop-less c = search needs
-
 loop-again : tie.Need-loop-again Inv-loop μ-loop
 loop-again c =
     let b = c .before in
@@ -103,19 +97,5 @@ pub row-spec : {M : Type 1} → statement M
 row-spec =
     tie.close
     (tie.spec
-    Inv-loop
-    μ-loop
-    mul-size
-    add-size
-    values-requires
-    all-below-requires
-    add-at
-    loop-holds
-    takes-requires
-    kept-requires
-    returns
-    add-at-2
-    sub-ahead
-    loop-less
-    loop-again
-    returns-2)
+    Inv-loop μ-loop mul-size add-size values-requires all-below-requires add-at loop-holds takes-requires kept-requires returns add-at-2
+    (λ c. search needs) (λ c. search needs) loop-again returns-2)

@@ -3,11 +3,8 @@ use borrow.Author.Needs.{needs}
 use Rattle.enforcer.proofs.reach.here_by.Statement.{statement}
 use Rattle.enforcer.proofs.reach.here_by.Tie as tie
 
-seen-of-requires : tie.Need-seen-of-requires
-seen-of-requires c κs = search needs
-
 returns : tie.Need-returns
 returns c = record { own = c .before .before .pre .1; seen = c .seen-of .ensures }
 
 pub here-by-spec : {M : Type 1} → statement M
-here-by-spec = tie.close (tie.spec seen-of-requires returns)
+here-by-spec = tie.close (tie.spec (λ c κs. search needs) returns)

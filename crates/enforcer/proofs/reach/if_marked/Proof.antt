@@ -28,5 +28,4 @@ returns-3 c =
     rw (not-false (e .before .before .before .args .step .permitted) (e .if1 .left), rw (c .before .before .number .ensures) at (ne-eqb _ _ (c .if2 .left)))
 
 pub if-marked-spec : {M : Type 1} → statement M
-if-marked-spec =
-    tie.close (tie.spec returns number-requires shared-slice-read-if2 returns-2 returns-3)
+if-marked-spec = tie.close (tie.spec returns number-requires shared-slice-read-if2 returns-2 returns-3)

@@ -5,12 +5,6 @@ use Rattle.enforcer.specs.Ways.{leads}
 use Rattle.enforcer.proofs.reach.leads_by.Statement.{statement}
 use Rattle.enforcer.proofs.reach.leads_by.Tie as tie
 
-enum-told : tie.Need-enum-told
-enum-told c = search needs
-
-enum-known-rule : tie.Need-enum-known-rule
-enum-known-rule c = search needs
-
 leads-requires : tie.Need-leads-requires
 leads-requires c κs = let s = c .before .before .before .before .before in (s .pre .0, s .pre .1 _ (c .before .rule .given .1))
 
@@ -23,4 +17,4 @@ unfolding bind leads
 returns-2 c = rw (c .before .before .rule .given .1) (c .leads .ensures)
 
 pub leads-by-spec : {M : Type 1} → statement M
-leads-by-spec = tie.close (tie.spec enum-told enum-known-rule leads-requires returns returns-2)
+leads-by-spec = tie.close (tie.spec (λ c. search needs) (λ c. search needs) leads-requires returns returns-2)

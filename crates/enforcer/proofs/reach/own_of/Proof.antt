@@ -17,9 +17,6 @@ part-own-rules-start c = omega (arith, laid-limits (c .before .pre))
 part-own-rules-end : tie.Need-part-own-rules-end
 part-own-rules-end c = omega (arith, laid-limits (c .before .pre))
 
-cast-own-rules : tie.Need-cast-own-rules
-cast-own-rules c = search needs
-
 own-rules-requires : tie.Need-own-rules-requires
 own-rules-requires c κs =
     let k = c .before .before .before .pre in
@@ -31,12 +28,4 @@ returns c =
     c .own-rules .ensures ∙ ap (ownOf (s .args .layout .clocks) (s .args .state .location)) (laid-rules (s .pre))
 
 pub own-of-spec : {M : Type 1} → statement M
-own-of-spec =
-    tie.close
-    (tie.spec
-    sub-own-rules
-    part-own-rules-start
-    part-own-rules-end
-    cast-own-rules
-    own-rules-requires
-    returns)
+own-of-spec = tie.close (tie.spec sub-own-rules part-own-rules-start part-own-rules-end (λ c. search needs) own-rules-requires returns)

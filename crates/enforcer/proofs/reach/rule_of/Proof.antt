@@ -64,12 +64,6 @@ mul-to c = omega (arith, fits (c .before .before .before))
 add-to : tie.Need-add-to
 add-to c = omega (arith, fits (c .before .before .before))
 
-sub-first-rule : tie.Need-sub-first-rule
-sub-first-rule c = search needs
-
-part-first-rule-start : tie.Need-part-first-rule-start
-part-first-rule-start c = search needs
-
 part-first-rule-end : tie.Need-part-first-rule-end
 part-first-rule-end c = omega (arith, fits (c .before .before .before))
 
@@ -83,12 +77,6 @@ first-rule-requires c κs =
       simp (length-take, length-drop) (omega (arith, fits s)),
       rw (n, location s) (own-level (s .pre .0) (a .state .location) (s .pre .1 .own)),
     )
-
-enum-told : tie.Need-enum-told
-enum-told c = search needs
-
-enum-known-number : tie.Need-enum-known-number
-enum-known-number c = search needs
 
 mul-t19 : tie.Need-mul-t19
 mul-t19 c =
@@ -116,18 +104,5 @@ pub rule-of-spec : {M : Type 1} → statement M
 rule-of-spec =
     tie.close
     (tie.spec
-    mul-size
-    add-size
-    add-from
-    mul-to
-    add-to
-    sub-first-rule
-    part-first-rule-start
-    part-first-rule-end
-    first-rule-requires
-    enum-told
-    enum-known-number
-    mul-t19
-    add-t20
-    returns
-    returns-2)
+    mul-size add-size add-from mul-to add-to (λ c. search needs) (λ c. search needs) part-first-rule-end first-rule-requires (λ c. search needs)
+    (λ c. search needs) mul-t19 add-t20 returns returns-2)

@@ -7,11 +7,8 @@ use Rattle.enforcer.proofs.reach.seen_of.Tie as tie
 returns : tie.Need-returns
 returns c = rw (ne-eqb _ _ (c .if1 .taken))
 
-advanced-requires : tie.Need-advanced-requires
-advanced-requires c κs = search needs
-
 returns-2 : tie.Need-returns-2
 returns-2 c = rw (eq-eqb _ _ (c .before .before .before .if1 .left), c .advanced .ensures)
 
 pub seen-of-spec : {M : Type 1} → statement M
-seen-of-spec = tie.close (tie.spec returns advanced-requires returns-2)
+seen-of-spec = tie.close (tie.spec returns (λ c κs. search needs) returns-2)

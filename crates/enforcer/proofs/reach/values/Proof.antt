@@ -7,11 +7,8 @@ use borrow.Author.Needs.{needs}
 use Rattle.enforcer.proofs.reach.values.Statement.{statement}
 use Rattle.enforcer.proofs.reach.values.Tie as tie
 
-shl-result : tie.Need-shl-result
-shl-result c = search needs
-
 returns : tie.Need-returns
 returns c = shl-exact 1 (c .args .signals) 64 (omega arith) (omega arith) ∙ one-mul _
 
 pub values-spec : {M : Type 1} → statement M
-values-spec = tie.close (tie.spec shl-result returns)
+values-spec = tie.close (tie.spec (λ c. search needs) returns)

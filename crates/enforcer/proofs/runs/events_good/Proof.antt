@@ -55,12 +55,6 @@ values-requires c κs = laid-limits (c .before .before .pre) .0
 values-requires-2 : tie.Need-values-requires-2 Inv-loop μ-loop
 values-requires-2 c κs = laid-limits (c .before .before .before .pre) .1
 
-loop-holds : tie.Need-loop-holds Inv-loop μ-loop
-loop-holds c = search needs
-
-shared-slice-read-event : tie.Need-shared-slice-read-event Inv-loop μ-loop
-shared-slice-read-event c = search needs
-
 cast-event : tie.Need-cast-event Inv-loop μ-loop
 cast-event c = omega (arith, c .shared-slice-known3 .given (c .before .before .loop .i))
 
@@ -74,12 +68,6 @@ returns-2 c =
     let l = c .before .before .before in
     rw (← good-is (l .before .before), turn l, lt-ltb _ _ (c .before .if1 .left), le-ltb _ _ (c .if2 .taken))
 
-add-i : tie.Need-add-i Inv-loop μ-loop
-add-i c = search needs
-
-loop-less : tie.Need-loop-less Inv-loop μ-loop
-loop-less c = search needs
-
 loop-again : tie.Need-loop-again Inv-loop μ-loop
 loop-again c =
     let l = c .before .before .before in
@@ -92,16 +80,5 @@ pub events-good-spec : {M : Type 1} → statement M
 events-good-spec =
     tie.close
     (tie.spec
-    Inv-loop
-    μ-loop
-    values-requires
-    values-requires-2
-    loop-holds
-    shared-slice-read-event
-    cast-event
-    returns
-    returns-2
-    add-i
-    loop-less
-    loop-again
-    returns-3)
+    Inv-loop μ-loop values-requires values-requires-2 (λ c. search needs) (λ c. search needs) cast-event returns returns-2 (λ c. search needs)
+    (λ c. search needs) loop-again returns-3)

@@ -21,9 +21,6 @@ abbrev μ-loop : tie.MeasureT-loop
 loop-holds : tie.Need-loop-holds Inv-loop μ-loop
 loop-holds c = let k = c .before .before .before .before .before .pre .0 in going-starts _ _ (k .0) (k .1)
 
-shared-slice-read-event : tie.Need-shared-slice-read-event Inv-loop μ-loop
-shared-slice-read-event c = search needs
-
 own-at-requires : tie.Need-own-at-requires Inv-loop μ-loop
 own-at-requires c κs =
     let l = c .before .before in
@@ -36,9 +33,6 @@ tick-requires c κs =
     let s = l .before .before .before .before .before .before in
     let g = and-eq-true-iff _ _ .0 (all-at _ _ (s .pre .1 .0 .1) (l .loop .i) (i .loop-test .taken)) in
     (l .loop .inv .standing, c .own-at .ensures, ltb-true _ _ (g .0), ltb-true _ _ (g .1))
-
-same-length : tie.Need-same-length Inv-loop μ-loop
-same-length c = search needs
 
 returns : tie.Need-returns Inv-loop μ-loop
 returns c =
@@ -73,14 +67,8 @@ slice-write-out c =
 add-i : tie.Need-add-i Inv-loop μ-loop
 add-i c = omega (arith, c .before .before .before .before .before .before .before .before .before .before .before .before .before .before .before .good)
 
-loop-less : tie.Need-loop-less Inv-loop μ-loop
-loop-less c = search needs
-
 loop-again : tie.Need-loop-again Inv-loop μ-loop
 loop-again c = turned (c .before .before .before) .2
-
-same-length-2 : tie.Need-same-length-2 Inv-loop μ-loop
-same-length-2 c = search needs
 
 returns-2 : tie.Need-returns-2 Inv-loop μ-loop
 returns-2 c = going-ends (c .before .loop .inv) (c .loop-test .left)
@@ -89,19 +77,5 @@ pub release-spec : {M : Type 1} → statement M
 release-spec =
     tie.close
     (tie.spec
-    Inv-loop
-    μ-loop
-    loop-holds
-    shared-slice-read-event
-    own-at-requires
-    tick-requires
-    same-length
-    returns
-    mul-out
-    add-out
-    slice-write-out
-    add-i
-    loop-less
-    loop-again
-    same-length-2
-    returns-2)
+    Inv-loop μ-loop loop-holds (λ c. search needs) own-at-requires tick-requires (λ c. search needs) returns mul-out add-out slice-write-out add-i
+    (λ c. search needs) loop-again (λ c. search needs) returns-2)

@@ -54,23 +54,11 @@ past c =
     let l = c .before .before .before in
     run-past _ _ _ _ _ _ (laidOut (l .before)) (laid (l .before) .named) (none1 (l .before)) (l .if2 .left) (none3 c)
 
-check-under-requires : tie.Need-check-under-requires
-check-under-requires c κs = search needs
-
-marks-refusal-requires : tie.Need-marks-refusal-requires
-marks-refusal-requires c κs = search needs
-
-refused-requires : tie.Need-refused-requires
-refused-requires c κs = search needs
-
 returns : tie.Need-returns
 unfolding runRefusal
 returns c =
     let t = c .before .if1 .taken in
     run-refused (c .refused .ensures) t (rw (← marked (c .before .before)) (first-refused _ _ t))
-
-refused-requires-2 : tie.Need-refused-requires-2
-refused-requires-2 c κs = search needs
 
 returns-2 : tie.Need-returns-2
 unfolding runRefusal
@@ -78,9 +66,6 @@ returns-2 c = run-refused (c .refused2 .ensures) (λ z. omega arith) (rw (none1 
 
 state-refusal-requires : tie.Need-state-refusal-requires
 state-refusal-requires c κs = let l = laid (c .before .before) in (l .laid, l .enough)
-
-refused-requires-3 : tie.Need-refused-requires-3
-refused-requires-3 c κs = search needs
 
 returns-3 : tie.Need-returns-3
 unfolding runRefusal
@@ -94,9 +79,6 @@ returns-3 c =
 events-good-requires : tie.Need-events-good-requires
 events-good-requires c κs = laid (c .before .before .before .before) .laid
 
-refused-requires-4 : tie.Need-refused-requires-4
-refused-requires-4 c κs = search needs
-
 returns-4 : tie.Need-returns-4
 unfolding runRefusal
 returns-4 c =
@@ -104,14 +86,8 @@ returns-4 c =
     let e = sym (g .events-good .ensures) ∙ not-true _ (c .before .if4 .taken) in
     run-refused (c .refused4 .ensures) (λ z. omega arith) (rw (past (g .before), e))
 
-slice-aggregate-fill : tie.Need-slice-aggregate-fill
-slice-aggregate-fill c = search needs
-
 fill-requires : tie.Need-fill-requires
 fill-requires c κs = (laid-sections (laid (c .before .before .before .before .before .before .before) .laid), omega arith)
-
-slice-aggregate-release : tie.Need-slice-aggregate-release
-slice-aggregate-release c = search needs
 
 release-requires : tie.Need-release-requires
 release-requires c κs =
@@ -124,9 +100,6 @@ release-requires c κs =
       (granted-standing (k .laid) (k .enough) z, good-back (k .laid) _ (clocks s) (state-granted _ _ _ _ .0 z .0)),
       ((l .if2 .left, sym (g .events-good .ensures) ∙ not-false _ (i .before .if4 .left)), c .before .before .before .fill .ensures ∙ append-nil _),
     )
-
-same-length : tie.Need-same-length
-same-length c = search needs
 
 returns-5 : tie.Need-returns-5
 unfolding runOf
@@ -141,21 +114,6 @@ pub run-spec : {M : Type 1} → statement M
 run-spec =
     tie.close
     (tie.spec
-    check-under-requires
-    marks-refusal-requires
-    refused-requires
-    returns
-    refused-requires-2
-    returns-2
-    state-refusal-requires
-    refused-requires-3
-    returns-3
-    events-good-requires
-    refused-requires-4
-    returns-4
-    slice-aggregate-fill
-    fill-requires
-    slice-aggregate-release
-    release-requires
-    same-length
-    returns-5)
+    (λ c κs. search needs) (λ c κs. search needs) (λ c κs. search needs) returns (λ c κs. search needs) returns-2 state-refusal-requires
+    (λ c κs. search needs) returns-3 events-good-requires (λ c κs. search needs) returns-4 (λ c. search needs) fill-requires (λ c. search needs)
+    release-requires (λ c. search needs) returns-5)

@@ -39,9 +39,6 @@ add-byte-within-2 c = let s = c .before .before .before .before .before in omega
 byte-within-requires-2 : tie.Need-byte-within-requires-2
 byte-within-requires-2 c κs = let s = c .before .before .before .before .before in omega (arith, s .pre .1 .ends)
 
-outs-requires : tie.Need-outs-requires
-outs-requires c κs = search needs
-
 kept-requires : tie.Need-kept-requires
 kept-requires c κs = let s = c .before .before .before .before .before .before .before in (s .pre .0 .standing, s .pre .1)
 
@@ -83,17 +80,5 @@ pub gather-by-spec : {M : Type 1} → statement M
 gather-by-spec =
     tie.close
     (tie.spec
-    held-requires
-    add-byte-within
-    byte-within-requires
-    add-byte-within-2
-    byte-within-requires-2
-    outs-requires
-    kept-requires
-    add-byte-within-3
-    byte-within-requires-3
-    add-byte-within-4
-    byte-within-requires-4
-    gather-requires
-    returns
-    returns-2)
+    held-requires add-byte-within byte-within-requires add-byte-within-2 byte-within-requires-2 (λ c κs. search needs) kept-requires add-byte-within-3
+    byte-within-requires-3 add-byte-within-4 byte-within-requires-4 gather-requires returns returns-2)

@@ -55,9 +55,6 @@ add-byte-within-4 c = let s = c .before .before .before .before .before .before 
 byte-within-requires-4 : tie.Need-byte-within-requires-4
 byte-within-requires-4 c κs = let s = c .before .before .before .before .before .before .before in omega (arith, s .pre .1 .ends)
 
-outs-requires : tie.Need-outs-requires
-outs-requires c κs = search needs
-
 is-left-requires : tie.Need-is-left-requires
 unfolding ruleFrom
 is-left-requires c κs =
@@ -123,19 +120,5 @@ pub go-by-spec : {M : Type 1} → statement M
 go-by-spec =
     tie.close
     (tie.spec
-    held-requires
-    returns
-    add-byte-within
-    byte-within-requires
-    add-byte-within-2
-    byte-within-requires-2
-    add-byte-within-3
-    byte-within-requires-3
-    add-byte-within-4
-    byte-within-requires-4
-    outs-requires
-    is-left-requires
-    returns-2
-    take-requires
-    leads-requires
-    returns-3)
+    held-requires returns add-byte-within byte-within-requires add-byte-within-2 byte-within-requires-2 add-byte-within-3 byte-within-requires-3
+    add-byte-within-4 byte-within-requires-4 (λ c κs. search needs) is-left-requires returns-2 take-requires leads-requires returns-3)

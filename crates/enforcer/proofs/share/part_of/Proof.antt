@@ -16,38 +16,8 @@ use Rattle.enforcer.proofs.share.part_of.Tie as tie
 held-requires : tie.Need-held-requires
 held-requires c κs = let s = c .before in (s .pre .0, s .pre .1, s .pre .2)
 
-nothing-requires : tie.Need-nothing-requires
-nothing-requires c κs = search needs
-
 returns : tie.Need-returns
 returns c = rw (c .nothing .ensures) (parted-bounds _ (sym (c .before .before .held .ensures) ∙ not-true _ (c .before .if1 .taken)))
-
-add-byte-within : tie.Need-add-byte-within
-add-byte-within c = search needs
-
-byte-within-requires : tie.Need-byte-within-requires
-byte-within-requires c κs = search needs
-
-add-byte-within-2 : tie.Need-add-byte-within-2
-add-byte-within-2 c = search needs
-
-byte-within-requires-2 : tie.Need-byte-within-requires-2
-byte-within-requires-2 c κs = search needs
-
-add-byte-within-3 : tie.Need-add-byte-within-3
-add-byte-within-3 c = search needs
-
-byte-within-requires-3 : tie.Need-byte-within-requires-3
-byte-within-requires-3 c κs = search needs
-
-add-byte-within-4 : tie.Need-add-byte-within-4
-add-byte-within-4 c = search needs
-
-byte-within-requires-4 : tie.Need-byte-within-requires-4
-byte-within-requires-4 c κs = search needs
-
-outs-requires : tie.Need-outs-requires
-outs-requires c κs = search needs
 
 is-left-requires : tie.Need-is-left-requires
 unfolding ruleFrom
@@ -65,9 +35,6 @@ unfolding ruleFrom
 left-so c =
     let d = c .before .before .before .before in
     rw (c .before .outs .ensures, d .before .byte-within .ensures .0, d .byte-within2 .ensures .0, c .before .before .before .byte-within3 .ensures .0, c .before .before .byte-within4 .ensures .0) at (c .is-left .ensures)
-
-nothing-requires-2 : tie.Need-nothing-requires-2
-nothing-requires-2 c κs = search needs
 
 returns-2 : tie.Need-returns-2
 returns-2 c =
@@ -90,19 +57,6 @@ pub part-of-spec : {M : Type 1} → statement M
 part-of-spec =
     tie.close
     (tie.spec
-    held-requires
-    nothing-requires
-    returns
-    add-byte-within
-    byte-within-requires
-    add-byte-within-2
-    byte-within-requires-2
-    add-byte-within-3
-    byte-within-requires-3
-    add-byte-within-4
-    byte-within-requires-4
-    outs-requires
-    is-left-requires
-    nothing-requires-2
-    returns-2
-    returns-3)
+    held-requires (λ c κs. search needs) returns (λ c. search needs) (λ c κs. search needs) (λ c. search needs) (λ c κs. search needs)
+    (λ c. search needs) (λ c κs. search needs) (λ c. search needs) (λ c κs. search needs) (λ c κs. search needs) is-left-requires
+    (λ c κs. search needs) returns-2 returns-3)

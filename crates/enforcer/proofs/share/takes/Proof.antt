@@ -18,18 +18,6 @@ cares : (e : tie.Else1) →
     eqb (bitAnd (a .x) (byteAt (now (a .file)) (a .at + 1))) (byteAt (now (a .file)) (a .at + 2)) ≡ true
 cares e = let b = e .before in rw (← b .before .byte-within .ensures .0, ← b .byte-within2 .ensures .0) (eq-eqb _ _ (e .if1 .left))
 
-add-byte-within : tie.Need-add-byte-within
-add-byte-within c = search needs
-
-byte-within-requires : tie.Need-byte-within-requires
-byte-within-requires c κs = search needs
-
-add-byte-within-2 : tie.Need-add-byte-within-2
-add-byte-within-2 c = search needs
-
-byte-within-requires-2 : tie.Need-byte-within-requires-2
-byte-within-requires-2 c κs = search needs
-
 returns : tie.Need-returns
 unfolding ruleFrom
 returns c =
@@ -41,21 +29,6 @@ held-requires c κs = c .before .before .before .before .pre
 
 returns-2 : tie.Need-returns-2
 returns-2 c = sym (takes-bounds _ _ _ _ (sym (c .before .held .ensures) ∙ not-true _ (c .if2 .taken)))
-
-add-byte-within-3 : tie.Need-add-byte-within-3
-add-byte-within-3 c = search needs
-
-byte-within-requires-3 : tie.Need-byte-within-requires-3
-byte-within-requires-3 c κs = search needs
-
-add-byte-within-4 : tie.Need-add-byte-within-4
-add-byte-within-4 c = search needs
-
-byte-within-requires-4 : tie.Need-byte-within-requires-4
-byte-within-requires-4 c κs = search needs
-
-outs-requires : tie.Need-outs-requires
-outs-requires c κs = search needs
 
 returns-3 : tie.Need-returns-3
 unfolding ruleFrom
@@ -69,16 +42,5 @@ pub takes-spec : {M : Type 1} → statement M
 takes-spec =
     tie.close
     (tie.spec
-    add-byte-within
-    byte-within-requires
-    add-byte-within-2
-    byte-within-requires-2
-    returns
-    held-requires
-    returns-2
-    add-byte-within-3
-    byte-within-requires-3
-    add-byte-within-4
-    byte-within-requires-4
-    outs-requires
-    returns-3)
+    (λ c. search needs) (λ c κs. search needs) (λ c. search needs) (λ c κs. search needs) returns held-requires returns-2 (λ c. search needs)
+    (λ c κs. search needs) (λ c. search needs) (λ c κs. search needs) (λ c κs. search needs) returns-3)

@@ -11,9 +11,6 @@ take-by-requires c κs = let s = c .before .before in (s .pre .0, s .pre .1, s .
 returns : tie.Need-returns
 returns c = let p = c .before .take-by in turned-not _ _ (rw (not-true (p .result) (c .if1 .taken)) at (p .ensures))
 
-next-of-requires : tie.Need-next-of-requires
-next-of-requires c κs = search needs
-
 returns-2 : tie.Need-returns-2
 returns-2 c =
     let e = c .before in
@@ -21,4 +18,4 @@ returns-2 c =
     turned-took _ _ (rw (not-false (p .result) (e .if1 .left)) at (p .ensures)) (c .next-of .ensures)
 
 pub way-by-spec : {M : Type 1} → statement M
-way-by-spec = tie.close (tie.spec take-by-requires returns next-of-requires returns-2)
+way-by-spec = tie.close (tie.spec take-by-requires returns (λ c κs. search needs) returns-2)

@@ -7,21 +7,6 @@ use Rattle.choice.specs.Said.{choiceSaid}
 use Rattle.enforcer.proofs.tick.corrected.Statement.{statement}
 use Rattle.enforcer.proofs.tick.corrected.Tie as tie
 
-choose-input-requires : tie.Need-choose-input-requires
-choose-input-requires c κs = search needs
-
-enum-told : tie.Need-enum-told
-enum-told c = search needs
-
-stuck-requires : tie.Need-stuck-requires
-stuck-requires c κs = search needs
-
-enum-known-z : tie.Need-enum-known-z
-enum-known-z c = search needs
-
-output-tick-requires : tie.Need-output-tick-requires
-output-tick-requires c κs = search needs
-
 returns : tie.Need-returns
 unfolding tick bind
 returns c =
@@ -38,10 +23,4 @@ pub corrected-spec : {M : Type 1} → statement M
 corrected-spec =
     tie.close
     (tie.spec
-    choose-input-requires
-    enum-told
-    stuck-requires
-    enum-known-z
-    output-tick-requires
-    returns
-    returns-2)
+    (λ c κs. search needs) (λ c. search needs) (λ c κs. search needs) (λ c. search needs) (λ c κs. search needs) returns returns-2)

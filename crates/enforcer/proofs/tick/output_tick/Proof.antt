@@ -11,20 +11,8 @@ use Rattle.enforcer.proofs.tick.output_tick.Tie as tie
 choose-output-requires : tie.Need-choose-output-requires
 choose-output-requires c κs = c .before .before .pre .0
 
-enum-told : tie.Need-enum-told
-enum-told c = search needs
-
-stuck-requires : tie.Need-stuck-requires
-stuck-requires c κs = search needs
-
-enum-known-z : tie.Need-enum-known-z
-enum-known-z c = search needs
-
 step-requires : tie.Need-step-requires
 step-requires c κs = let s = c .before .before .before .before .before .before in (s .pre .0 .standing .laid, s .pre .0 .here)
-
-released-requires : tie.Need-released-requires
-released-requires c κs = search needs
 
 returns : tie.Need-returns
 unfolding outputTick bind
@@ -42,11 +30,4 @@ pub output-tick-spec : {M : Type 1} → statement M
 output-tick-spec =
     tie.close
     (tie.spec
-    choose-output-requires
-    enum-told
-    stuck-requires
-    enum-known-z
-    step-requires
-    released-requires
-    returns
-    returns-2)
+    choose-output-requires (λ c. search needs) (λ c κs. search needs) (λ c. search needs) step-requires (λ c κs. search needs) returns returns-2)

@@ -5,14 +5,8 @@ use borrow.Author.Needs.{needs}
 use Rattle.groovepawn.proofs.bay_calls.groovepawn_bay_input.Statement.{statement}
 use Rattle.groovepawn.proofs.bay_calls.groovepawn_bay_input.Tie as tie
 
-bay-input-requires : tie.Need-bay-input-requires
-bay-input-requires c κs = search needs
-
-answer-word-requires : tie.Need-answer-word-requires
-answer-word-requires c κs = search needs
-
 returns : tie.Need-returns
 returns c = record { said = c .answer-word .ensures ∙ ap answerWord (c .before .bay-input .ensures .said) }
 
 pub groovepawn-bay-input-spec : {M : Type 1} → statement M
-groovepawn-bay-input-spec = tie.close (tie.spec bay-input-requires answer-word-requires returns)
+groovepawn-bay-input-spec = tie.close (tie.spec (λ c κs. search needs) (λ c κs. search needs) returns)

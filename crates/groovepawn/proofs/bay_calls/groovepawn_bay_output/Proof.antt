@@ -6,15 +6,6 @@ use borrow.Author.Needs.{needs}
 use Rattle.groovepawn.proofs.bay_calls.groovepawn_bay_output.Statement.{statement}
 use Rattle.groovepawn.proofs.bay_calls.groovepawn_bay_output.Tie as tie
 
-bay-output-requires : tie.Need-bay-output-requires
-bay-output-requires c κs = search needs
-
-answer-word-requires : tie.Need-answer-word-requires
-answer-word-requires c κs = search needs
-
-same-length : tie.Need-same-length
-same-length c = search needs
-
 returns : tie.Need-returns
 returns c =
     let o = c .before .before .before .bay-output .ensures .said in
@@ -24,4 +15,4 @@ returns c =
     }
 
 pub groovepawn-bay-output-spec : {M : Type 1} → statement M
-groovepawn-bay-output-spec = tie.close (tie.spec bay-output-requires answer-word-requires same-length returns)
+groovepawn-bay-output-spec = tie.close (tie.spec (λ c κs. search needs) (λ c κs. search needs) (λ c. search needs) returns)

@@ -1,6 +1,6 @@
 -- `groovepawn::check_call::groovepawn_check` meets its contract: the refusal and the number of states in one number, where one of the two is 0.
-use mathlib.Core.Path.{_≡_, _∙_}
-use Prim.Native.Nat.{ℕ, _+_, _*_, _≤_}
+use mathlib.Core.Path.{_≡_}
+use Prim.Native.Nat.{_+_, _*_, _≤_}
 use native.Mathlib.Omega.{arith}
 use denote.Ref.{now}
 use borrow.Author.Needs.{needs}
@@ -14,12 +14,6 @@ known : (c : tie.After-check) →
     × (c .check .result .refusal + c .check .result .layout .states * 256 ≡ checkWord (now (c .before .before .args .file)))
 known c = rw (c .check .ensures .said) (checked-word (now (c .before .before .args .file)))
 
-check-requires : tie.Need-check-requires
-check-requires c κs = search needs
-
-cast-result : tie.Need-cast-result
-cast-result c = search needs
-
 mul-result : tie.Need-mul-result
 mul-result c = omega (arith, known (c .before))
 
@@ -30,4 +24,4 @@ returns : tie.Need-returns
 returns c = record { said = known (c .before) .1 }
 
 pub groovepawn-check-spec : {M : Type 1} → statement M
-groovepawn-check-spec = tie.close (tie.spec check-requires cast-result mul-result add-result returns)
+groovepawn-check-spec = tie.close (tie.spec (λ c κs. search needs) (λ c. search needs) mul-result add-result returns)

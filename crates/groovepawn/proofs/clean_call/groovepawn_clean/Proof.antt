@@ -10,12 +10,6 @@ use Rattle.groovepawn.specs.Clean.{cleanWord}
 use Rattle.groovepawn.proofs.clean_call.groovepawn_clean.Statement.{statement}
 use Rattle.groovepawn.proofs.clean_call.groovepawn_clean.Tie as tie
 
-clean-requires : tie.Need-clean-requires
-clean-requires c κs = search needs
-
-enum-known-l : tie.Need-enum-known-l
-enum-known-l c = search needs
-
 -- The lengths are those of the entry, and they are small.
 given : (c : tie.After-l) →
     let a = c .before .before .before .before .before .before .before .before .before .before .before .before .args in
@@ -35,30 +29,12 @@ mul-result-2 c = omega (arith, few (c .before))
 add-result : tie.Need-add-result
 add-result c = omega (arith, few (c .before))
 
-enum-known-n : tie.Need-enum-known-n
-enum-known-n c = search needs
-
-cast-result : tie.Need-cast-result
-cast-result c = search needs
-
-same-length : tie.Need-same-length
-same-length c = search needs
-
-same-length-2 : tie.Need-same-length-2
-same-length-2 c = search needs
-
 returns : tie.Need-returns
 unfolding cleanWord
 returns c =
     let l = c .before in
     let e = l .before .before .before .before .before .before .clean .ensures in
     record { said = rw (given l); cleaned = e .cleaned; struck = e .struck }
-
-same-length-3 : tie.Need-same-length-3
-same-length-3 c = search needs
-
-same-length-4 : tie.Need-same-length-4
-same-length-4 c = search needs
 
 returns-2 : tie.Need-returns-2
 unfolding cleanWord
@@ -71,16 +47,5 @@ pub groovepawn-clean-spec : {M : Type 1} → statement M
 groovepawn-clean-spec =
     tie.close
     (tie.spec
-    clean-requires
-    enum-known-l
-    mul-result
-    mul-result-2
-    add-result
-    enum-known-n
-    cast-result
-    same-length
-    same-length-2
-    returns
-    same-length-3
-    same-length-4
-    returns-2)
+    (λ c κs. search needs) (λ c. search needs) mul-result mul-result-2 add-result (λ c. search needs) (λ c. search needs) (λ c. search needs)
+    (λ c. search needs) returns (λ c. search needs) (λ c. search needs) returns-2)

@@ -5,14 +5,8 @@ use borrow.Author.Needs.{needs}
 use Rattle.groovepawn.proofs.meter_calls.groovepawn_meter_input.Statement.{statement}
 use Rattle.groovepawn.proofs.meter_calls.groovepawn_meter_input.Tie as tie
 
-meter-input-requires : tie.Need-meter-input-requires
-meter-input-requires c κs = search needs
-
-answer-word-requires : tie.Need-answer-word-requires
-answer-word-requires c κs = search needs
-
 returns : tie.Need-returns
 returns c = record { said = c .answer-word .ensures ∙ ap answerWord (c .before .meter-input .ensures .said) }
 
 pub groovepawn-meter-input-spec : {M : Type 1} → statement M
-groovepawn-meter-input-spec = tie.close (tie.spec meter-input-requires answer-word-requires returns)
+groovepawn-meter-input-spec = tie.close (tie.spec (λ c κs. search needs) (λ c κs. search needs) returns)

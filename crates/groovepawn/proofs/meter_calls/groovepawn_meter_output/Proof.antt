@@ -6,18 +6,6 @@ use borrow.Author.Needs.{needs}
 use Rattle.groovepawn.proofs.meter_calls.groovepawn_meter_output.Statement.{statement}
 use Rattle.groovepawn.proofs.meter_calls.groovepawn_meter_output.Tie as tie
 
-meter-output-requires : tie.Need-meter-output-requires
-meter-output-requires c κs = search needs
-
-answer-word-requires : tie.Need-answer-word-requires
-answer-word-requires c κs = search needs
-
-same-length : tie.Need-same-length
-same-length c = search needs
-
-same-length-2 : tie.Need-same-length-2
-same-length-2 c = search needs
-
 returns : tie.Need-returns
 returns c =
     let o = c .before .before .before .before .before .meter-output .ensures .said in
@@ -28,4 +16,4 @@ returns c =
     }
 
 pub groovepawn-meter-output-spec : {M : Type 1} → statement M
-groovepawn-meter-output-spec = tie.close (tie.spec meter-output-requires answer-word-requires same-length same-length-2 returns)
+groovepawn-meter-output-spec = tie.close (tie.spec (λ c κs. search needs) (λ c κs. search needs) (λ c. search needs) (λ c. search needs) returns)

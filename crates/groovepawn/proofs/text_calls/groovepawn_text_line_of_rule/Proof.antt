@@ -4,21 +4,9 @@ use Rattle.groovepawn.specs.Text.{textRuleWord}
 use Rattle.groovepawn.proofs.text_calls.groovepawn_text_line_of_rule.Statement.{statement}
 use Rattle.groovepawn.proofs.text_calls.groovepawn_text_line_of_rule.Tie as tie
 
-line-of-rule-requires : tie.Need-line-of-rule-requires
-line-of-rule-requires c κs = search needs
-
-cast-result : tie.Need-cast-result
-cast-result c = search needs
-
-mul-result : tie.Need-mul-result
-mul-result c = search needs
-
-add-result : tie.Need-add-result
-add-result c = search needs
-
 returns : tie.Need-returns
 unfolding textRuleWord
 returns c = record { said = rw (← c .before .line-of-rule .ensures) }
 
 pub groovepawn-text-line-of-rule-spec : {M : Type 1} → statement M
-groovepawn-text-line-of-rule-spec = tie.close (tie.spec line-of-rule-requires cast-result mul-result add-result returns)
+groovepawn-text-line-of-rule-spec = tie.close (tie.spec (λ c κs. search needs) (λ c. search needs) (λ c. search needs) (λ c. search needs) returns)

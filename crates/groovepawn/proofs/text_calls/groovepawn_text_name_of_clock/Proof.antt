@@ -6,9 +6,6 @@ use Rattle.groovepawn.specs.Text.{namedWord, textNameWord}
 use Rattle.groovepawn.proofs.text_calls.groovepawn_text_name_of_clock.Statement.{statement}
 use Rattle.groovepawn.proofs.text_calls.groovepawn_text_name_of_clock.Tie as tie
 
-name-of-clock-requires : tie.Need-name-of-clock-requires
-name-of-clock-requires c κs = search needs
-
 name-word-requires : tie.Need-name-word-requires
 name-word-requires c κs = subst Shaped (sym (c .name-of-clock .ensures)) (given-shaped 1 _ _)
 
@@ -17,4 +14,4 @@ unfolding textNameWord
 returns c = record { said = c .name-word .ensures ∙ ap namedWord (c .before .name-of-clock .ensures) }
 
 pub groovepawn-text-name-of-clock-spec : {M : Type 1} → statement M
-groovepawn-text-name-of-clock-spec = tie.close (tie.spec name-of-clock-requires name-word-requires returns)
+groovepawn-text-name-of-clock-spec = tie.close (tie.spec (λ c κs. search needs) name-word-requires returns)

@@ -6,9 +6,6 @@ use Rattle.groovepawn.specs.Text.{namedWord, textNameWord}
 use Rattle.groovepawn.proofs.text_calls.groovepawn_text_name_of_signal.Statement.{statement}
 use Rattle.groovepawn.proofs.text_calls.groovepawn_text_name_of_signal.Tie as tie
 
-name-of-signal-requires : tie.Need-name-of-signal-requires
-name-of-signal-requires c κs = search needs
-
 name-word-requires : tie.Need-name-word-requires
 name-word-requires c κs = subst Shaped (sym (c .name-of-signal .ensures)) (given-shaped 0 _ _)
 
@@ -17,4 +14,4 @@ unfolding textNameWord
 returns c = record { said = c .name-word .ensures ∙ ap namedWord (c .before .name-of-signal .ensures) }
 
 pub groovepawn-text-name-of-signal-spec : {M : Type 1} → statement M
-groovepawn-text-name-of-signal-spec = tie.close (tie.spec name-of-signal-requires name-word-requires returns)
+groovepawn-text-name-of-signal-spec = tie.close (tie.spec (λ c κs. search needs) name-word-requires returns)

@@ -14,26 +14,11 @@ few c =
     let a = r .before .before .before .before .args in
     rw (r .read .ensures .says) (read-small (now (a .text)) (now (a .file)))
 
-read-requires : tie.Need-read-requires
-read-requires c κs = search needs
-
-cast-result : tie.Need-cast-result
-cast-result c = search needs
-
-mul-result : tie.Need-mul-result
-mul-result c = search needs
-
-add-result : tie.Need-add-result
-add-result c = search needs
-
 mul-result-2 : tie.Need-mul-result-2
 mul-result-2 c = omega (arith, few c)
 
 add-result-2 : tie.Need-add-result-2
 add-result-2 c = omega (arith, few c)
-
-same-length : tie.Need-same-length
-same-length c = search needs
 
 returns : tie.Need-returns
 unfolding textReadWord
@@ -43,11 +28,4 @@ pub groovepawn-text-read-spec : {M : Type 1} → statement M
 groovepawn-text-read-spec =
     tie.close
     (tie.spec
-    read-requires
-    cast-result
-    mul-result
-    add-result
-    mul-result-2
-    add-result-2
-    same-length
-    returns)
+    (λ c κs. search needs) (λ c. search needs) (λ c. search needs) (λ c. search needs) mul-result-2 add-result-2 (λ c. search needs) returns)

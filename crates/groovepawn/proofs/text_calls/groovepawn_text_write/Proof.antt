@@ -20,24 +20,14 @@ known c =
     let k = written-word (now (a .file)) (now (a .text)) in
     rw (w .write .ensures .refuses, w .write .ensures .long) (write-le (now (a .file)) (now (a .text)), k .0, k .1)
 
-write-requires : tie.Need-write-requires
-write-requires c κs = search needs
-
-cast-result : tie.Need-cast-result
-cast-result c = search needs
-
 mul-result : tie.Need-mul-result
 mul-result c = let k = known c in omega (arith, k .1)
 
 add-result : tie.Need-add-result
 add-result c = let k = known c in omega (arith, k .0, k .1)
 
-same-length : tie.Need-same-length
-same-length c = search needs
-
 returns : tie.Need-returns
 returns c = record { said = known c .2; text = c .before .before .before .write .ensures .writes }
 
 pub groovepawn-text-write-spec : {M : Type 1} → statement M
-groovepawn-text-write-spec =
-    tie.close (tie.spec write-requires cast-result mul-result add-result same-length returns)
+groovepawn-text-write-spec = tie.close (tie.spec (λ c κs. search needs) (λ c. search needs) mul-result add-result (λ c. search needs) returns)

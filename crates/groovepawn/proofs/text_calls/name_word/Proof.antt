@@ -12,15 +12,6 @@ use Rattle.groovepawn.proofs.text_calls.name_word.Tie as tie
 placed : (c : tie.Joined1) → c .if1 .at ≡ whereOf (c .before .before .args .found)
 placed c = ⊎-elim (λ w. rw (w .1, eq-eqb _ 0 (w .0 .taken))) (λ w. rw (w .1, ne-eqb _ 0 (w .0 .left))) (c .if1 .came)
 
-cast-result : tie.Need-cast-result
-cast-result c = search needs
-
-mul-result : tie.Need-mul-result
-mul-result c = search needs
-
-add-result : tie.Need-add-result
-add-result c = search needs
-
 mul-result-2 : tie.Need-mul-result-2
 mul-result-2 c = omega (arith, c .before .before .before .before .pre .few)
 
@@ -31,5 +22,4 @@ returns : tie.Need-returns
 returns c = rw (placed (c .before .before))
 
 pub name-word-spec : {M : Type 1} → statement M
-name-word-spec =
-    tie.close (tie.spec cast-result mul-result add-result mul-result-2 add-result-2 returns)
+name-word-spec = tie.close (tie.spec (λ c. search needs) (λ c. search needs) (λ c. search needs) mul-result-2 add-result-2 returns)

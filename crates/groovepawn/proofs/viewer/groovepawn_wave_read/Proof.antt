@@ -11,12 +11,6 @@ use borrow.Author.Needs.{needs}
 use Rattle.groovepawn.proofs.viewer.groovepawn_wave_read.Statement.{statement}
 use Rattle.groovepawn.proofs.viewer.groovepawn_wave_read.Tie as tie
 
-take-requires : tie.Need-take-requires
-take-requires c κs = search needs
-
-enum-known-n : tie.Need-enum-known-n
-enum-known-n c = search needs
-
 -- What the reader promises of the count that it gives.
 abbrev Promised : tie.After-n → Taken → Type 0
 Promised c r =
@@ -29,20 +23,8 @@ known c = subst (Promised c) (c .n .given .1) (c .before .before .before .before
 mul-result : tie.Need-mul-result
 mul-result c = omega (arith, took-stream _ _ _ _ (known (c .before) .reads) refl .count)
 
-enum-known-n-2 : tie.Need-enum-known-n-2
-enum-known-n-2 c = search needs
-
-cast-result : tie.Need-cast-result
-cast-result c = search needs
-
-same-length : tie.Need-same-length
-same-length c = search needs
-
 returns : tie.Need-returns
 returns c = let n = c .before in record { says = gives (n .n .given .0 .0); reads = known n .reads; said = refl }
-
-same-length-2 : tie.Need-same-length-2
-same-length-2 c = search needs
 
 returns-2 : tie.Need-returns-2
 returns-2 c =
@@ -54,12 +36,5 @@ pub groovepawn-wave-read-spec : {M : Type 1} → statement M
 groovepawn-wave-read-spec =
     tie.close
     (tie.spec
-    take-requires
-    enum-known-n
-    mul-result
-    enum-known-n-2
-    cast-result
-    same-length
-    returns
-    same-length-2
+    (λ c κs. search needs) (λ c. search needs) mul-result (λ c. search needs) (λ c. search needs) (λ c. search needs) returns (λ c. search needs)
     returns-2)

@@ -11,12 +11,6 @@ use borrow.Author.Needs.{needs}
 use Rattle.groovepawn.proofs.viewer.groovepawn_wave_write.Statement.{statement}
 use Rattle.groovepawn.proofs.viewer.groovepawn_wave_write.Tie as tie
 
-write-requires : tie.Need-write-requires
-write-requires c κs = search needs
-
-enum-known-n : tie.Need-enum-known-n
-enum-known-n c = search needs
-
 -- What the writer promises of the length that it gives.
 abbrev Promised : tie.After-n → Written → Type 0
 Promised c r =
@@ -29,21 +23,9 @@ known c = subst (Promised c) (c .n .given .1) (c .before .before .before .before
 mul-result : tie.Need-mul-result
 mul-result c = omega (arith, wrote-text _ _ _ _ _ (known (c .before)) .count)
 
-enum-known-n-2 : tie.Need-enum-known-n-2
-enum-known-n-2 c = search needs
-
-cast-result : tie.Need-cast-result
-cast-result c = search needs
-
-same-length : tie.Need-same-length
-same-length c = search needs
-
 returns : tie.Need-returns
 unfolding waveWriteWord
 returns c = let n = c .before in record { said = rw (← known n .answers); text = known n .writes }
-
-same-length-2 : tie.Need-same-length-2
-same-length-2 c = search needs
 
 returns-2 : tie.Need-returns-2
 unfolding waveWriteWord
@@ -56,12 +38,5 @@ pub groovepawn-wave-write-spec : {M : Type 1} → statement M
 groovepawn-wave-write-spec =
     tie.close
     (tie.spec
-    write-requires
-    enum-known-n
-    mul-result
-    enum-known-n-2
-    cast-result
-    same-length
-    returns
-    same-length-2
+    (λ c κs. search needs) (λ c. search needs) mul-result (λ c. search needs) (λ c. search needs) (λ c. search needs) returns (λ c. search needs)
     returns-2)

@@ -5,20 +5,8 @@ use Rattle.reasons.specs.Promise.{answerSaid}
 use Rattle.groovepawn.proofs.why_call.groovepawn_why.Statement.{statement}
 use Rattle.groovepawn.proofs.why_call.groovepawn_why.Tie as tie
 
-odd-refusal-requires : tie.Need-odd-refusal-requires
-odd-refusal-requires c κs = search needs
-
-cast-result : tie.Need-cast-result
-cast-result c = search needs
-
 returns : tie.Need-returns
 returns c = record { odd = λ e. c .odd-refusal .ensures; said = λ e. absurd (c .before .if1 .taken (eqb-true _ 5 e)) }
-
-state-of-requires : tie.Need-state-of-requires
-state-of-requires c κs = search needs
-
-why-requires : tie.Need-why-requires
-why-requires c κs = search needs
 
 word-requires : tie.Need-word-requires
 word-requires c κs = c .why .ensures .1
@@ -36,10 +24,4 @@ pub groovepawn-why-spec : {M : Type 1} → statement M
 groovepawn-why-spec =
     tie.close
     (tie.spec
-    odd-refusal-requires
-    cast-result
-    returns
-    state-of-requires
-    why-requires
-    word-requires
-    returns-2)
+    (λ c κs. search needs) (λ c. search needs) returns (λ c κs. search needs) (λ c κs. search needs) word-requires returns-2)

@@ -6,9 +6,6 @@ use Rattle.groovepawn.specs.Why.{oddWhyRun}
 use Rattle.groovepawn.proofs.why_call.odd_why_run.Statement.{statement}
 use Rattle.groovepawn.proofs.why_call.odd_why_run.Tie as tie
 
-check-under-requires : tie.Need-check-under-requires
-check-under-requires c κs = search needs
-
 room-refusal-requires : tie.Need-room-refusal-requires
 room-refusal-requires c κs = c .check-under .ensures
 
@@ -21,4 +18,4 @@ unfolding oddWhyRun
 returns-2 c = sym (next-refused _ _ (sym (c .before .room-refusal .ensures) ∙ c .if1 .left))
 
 pub odd-why-run-spec : {M : Type 1} → statement M
-odd-why-run-spec = tie.close (tie.spec check-under-requires room-refusal-requires returns returns-2)
+odd-why-run-spec = tie.close (tie.spec (λ c κs. search needs) room-refusal-requires returns returns-2)

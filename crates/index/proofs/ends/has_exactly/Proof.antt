@@ -20,9 +20,6 @@ returns c =
 returns-2 : tie.Need-returns-2
 returns-2 c = let e = c .before in sym (none-exactly _ _ (sym (e .before .has-more .ensures) ∙ e .if1 .left) (c .if2 .taken))
 
-sub-has-more : tie.Need-sub-has-more
-sub-has-more c = search needs
-
 has-more-requires-2 : tie.Need-has-more-requires-2
 has-more-requires-2 c κs = let s = c .before .before .before .before in (s .pre .0, s .pre .1, omega (arith, s .pre .2))
 
@@ -32,5 +29,4 @@ returns-3 c =
     c .has-more2 .ensures ∙ last-exactly _ _ (sym (e .before .has-more .ensures) ∙ e .if1 .left) (c .before .if2 .left)
 
 pub has-exactly-spec : {M : Type 1} → statement M
-has-exactly-spec =
-    tie.close (tie.spec has-more-requires returns returns-2 sub-has-more has-more-requires-2 returns-3)
+has-exactly-spec = tie.close (tie.spec has-more-requires returns returns-2 (λ c. search needs) has-more-requires-2 returns-3)

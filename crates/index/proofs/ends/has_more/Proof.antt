@@ -38,14 +38,4 @@ returns-2 c =
     rw (c .byte-within .ensures .0) (sections-more (s .pre .0) _ _ (s .pre .1) _ (e .if1 .left))
 
 pub has-more-spec : {M : Type 1} → statement M
-has-more-spec =
-    tie.close
-    (tie.spec
-    add-rule
-    returns
-    mul-size
-    add-size
-    mul-byte-within
-    add-byte-within
-    byte-within-requires
-    returns-2)
+has-more-spec = tie.close (tie.spec add-rule returns mul-size add-size mul-byte-within add-byte-within byte-within-requires returns-2)

@@ -67,13 +67,5 @@ pub entry-at-spec : {M : Type 1} → statement M
 entry-at-spec =
     tie.close
     (tie.spec
-    returns
-    sub-rules-level
-    part-rules-level-start
-    part-rules-level-end
-    mul-rules-level
-    add-rules-level
-    mul-rules-level-2
-    sub-rules-level-2
-    rules-level-requires
-    returns-2)
+    returns sub-rules-level part-rules-level-start part-rules-level-end mul-rules-level add-rules-level mul-rules-level-2 sub-rules-level-2
+    rules-level-requires returns-2)

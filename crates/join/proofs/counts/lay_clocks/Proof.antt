@@ -7,34 +7,10 @@ use Rattle.join.specs.Laying.{laid-more, bytes-length}
 use Rattle.join.proofs.counts.lay_clocks.Statement.{statement}
 use Rattle.join.proofs.counts.lay_clocks.Tie as tie
 
-add-put : tie.Need-add-put
-add-put c = search needs
-
-put-requires : tie.Need-put-requires
-put-requires c κs = search needs
-
-add-copy : tie.Need-add-copy
-add-copy c = search needs
-
-mul-copy : tie.Need-mul-copy
-mul-copy c = search needs
-
-copy-requires : tie.Need-copy-requires
-copy-requires c κs = search needs
-
-add-copy-2 : tie.Need-add-copy-2
-add-copy-2 c = search needs
-
-mul-copy-2 : tie.Need-mul-copy-2
-mul-copy-2 c = search needs
-
 copy-requires-2 : tie.Need-copy-requires-2
 copy-requires-2 c κs =
     let a = c .before .before .before .before .before .before .before .before .before .before .before .before .args in
     (omega arith, omega arith, omega (arith, c .before .before .before .copy .ensures .ends, bytes-length (now (a .a)) (a .p + 1) (2 * a .firsts)))
-
-same-length : tie.Need-same-length
-same-length c = search needs
 
 returns : tie.Need-returns
 returns c =
@@ -59,13 +35,5 @@ pub lay-clocks-spec : {M : Type 1} → statement M
 lay-clocks-spec =
     tie.close
     (tie.spec
-    add-put
-    put-requires
-    add-copy
-    mul-copy
-    copy-requires
-    add-copy-2
-    mul-copy-2
-    copy-requires-2
-    same-length
-    returns)
+    (λ c. search needs) (λ c κs. search needs) (λ c. search needs) (λ c. search needs) (λ c κs. search needs) (λ c. search needs) (λ c. search needs)
+    copy-requires-2 (λ c. search needs) returns)

@@ -51,24 +51,10 @@ lay-places-requires c κs =
       ),
     )
 
-same-length : tie.Need-same-length
-same-length c = search needs
-
 returns : tie.Need-returns
 returns c =
     laid-more (c .before .before .before .before .before .before .before .before .before .before .copy .ensures)
     (laid-more (c .before .before .before .before .before .before .lay-clocks .ensures .0) (c .before .before .lay-places .ensures))
 
 pub lay-counts-spec : {M : Type 1} → statement M
-lay-counts-spec =
-    tie.close
-    (tie.spec
-    add-p
-    add-p-2
-    add-q
-    add-q-2
-    copy-requires
-    lay-clocks-requires
-    lay-places-requires
-    same-length
-    returns)
+lay-counts-spec = tie.close (tie.spec add-p add-p-2 add-q add-q-2 copy-requires lay-clocks-requires lay-places-requires (λ c. search needs) returns)

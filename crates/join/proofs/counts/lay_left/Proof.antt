@@ -41,9 +41,6 @@ put-requires c κs =
 add-location : tie.Need-add-location Inv-loop μ-loop
 add-location c = let l = c .before .before .before .before .before in omega (arith, few (entry l .pre .0), l .loop-test .taken)
 
-loop-less : tie.Need-loop-less Inv-loop μ-loop
-loop-less c = search needs
-
 loop-again : tie.Need-loop-again Inv-loop μ-loop
 loop-again c =
     let laid = c .before .before .put .ensures in
@@ -68,14 +65,4 @@ pub lay-left-spec : {M : Type 1} → statement M
 lay-left-spec =
     tie.close
     (tie.spec
-    Inv-loop
-    μ-loop
-    mul-locations
-    loop-holds
-    left-at-requires
-    put-requires
-    add-location
-    loop-less
-    loop-again
-    same-length
-    returns)
+    Inv-loop μ-loop mul-locations loop-holds left-at-requires put-requires add-location (λ c. search needs) loop-again same-length returns)

@@ -36,9 +36,6 @@ put-pair-requires c κs =
       ),
     )
 
-same-length : tie.Need-same-length
-same-length c = search needs
-
 returns : tie.Need-returns
 returns c =
     laid-more
@@ -46,5 +43,4 @@ returns c =
     (c .before .before .put-pair .ensures)
 
 pub lay-places-spec : {M : Type 1} → statement M
-lay-places-spec =
-    tie.close (tie.spec mul-put put-requires lay-left-requires put-pair-requires same-length returns)
+lay-places-spec = tie.close (tie.spec mul-put put-requires lay-left-requires put-pair-requires (λ c. search needs) returns)

@@ -29,5 +29,4 @@ returns-2 c =
     (sym (left-by (r .before .before .before .before .before .before .pre .0) _ (r .before .before .may-rest .ensures) (r .may-rest2 .ensures) (c .if1 .left)), omega arith)
 
 pub left-at-spec : {M : Type 1} → statement M
-left-at-spec =
-    tie.close (tie.spec div-may-rest may-rest-requires rem-may-rest may-rest-requires-2 returns returns-2)
+left-at-spec = tie.close (tie.spec div-may-rest may-rest-requires rem-may-rest may-rest-requires-2 returns returns-2)

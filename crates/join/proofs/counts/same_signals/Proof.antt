@@ -46,9 +46,6 @@ part-same-tags-start-2 c = let s = c .before .before .before .before .before .be
 part-same-tags-end-2 : tie.Need-part-same-tags-end-2
 part-same-tags-end-2 c = let s = c .before .before .before .before .before .before .before in omega (arith, sizes (s .pre .0), sizes (s .pre .1))
 
-same-tags-requires : tie.Need-same-tags-requires
-same-tags-requires c κs = search needs
-
 inputs : (c : tie.After-same-tags) →
     let s = c .before .before .before .before .before .before .before .before .before in c .same-tags .result ≡ sameTags (inputTags (now (s .args .a))) (inputTags (now (s .args .b)))
 inputs c =
@@ -82,9 +79,6 @@ part-same-tags-start-4 c = let s = c .before .before .before .before .before .be
 part-same-tags-end-4 : tie.Need-part-same-tags-end-4
 part-same-tags-end-4 c = let s = c .before .before .before .before .before .before .before .before .before .before .before in omega (arith, sizes (s .pre .0), sizes (s .pre .1))
 
-same-tags-requires-2 : tie.Need-same-tags-requires-2
-same-tags-requires-2 c κs = search needs
-
 returns-2 : tie.Need-returns-2
 unfolding sameSignals policyOf
 returns-2 c = let d = c .before .before .before in
@@ -95,27 +89,6 @@ pub same-signals-spec : {M : Type 1} → statement M
 same-signals-spec =
     tie.close
     (tie.spec
-    add-a-end
-    add-b-end
-    add-a-last
-    add-a-last-2
-    add-b-last
-    add-b-last-2
-    sub-same-tags
-    part-same-tags-start
-    part-same-tags-end
-    sub-same-tags-2
-    part-same-tags-start-2
-    part-same-tags-end-2
-    same-tags-requires
-    returns
-    add-same-tags
-    sub-same-tags-3
-    part-same-tags-start-3
-    part-same-tags-end-3
-    add-same-tags-2
-    sub-same-tags-4
-    part-same-tags-start-4
-    part-same-tags-end-4
-    same-tags-requires-2
-    returns-2)
+    add-a-end add-b-end add-a-last add-a-last-2 add-b-last add-b-last-2 sub-same-tags part-same-tags-start part-same-tags-end sub-same-tags-2
+    part-same-tags-start-2 part-same-tags-end-2 (λ c κs. search needs) returns add-same-tags sub-same-tags-3 part-same-tags-start-3
+    part-same-tags-end-3 add-same-tags-2 sub-same-tags-4 part-same-tags-start-4 part-same-tags-end-4 (λ c κs. search needs) returns-2)

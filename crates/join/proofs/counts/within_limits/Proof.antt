@@ -21,9 +21,6 @@ returns : tie.Need-returns
 unfolding limits
 returns c = rw (lt-leb _ _ (c .if1 .taken))
 
-add-if2 : tie.Need-add-if2
-add-if2 c = search needs
-
 returns-2 : tie.Need-returns-2
 unfolding limits
 returns-2 c = rw (le-leb _ _ (c .before .before .before .if1 .left), lt-leb _ _ (c .if2 .taken))
@@ -37,4 +34,4 @@ returns-3 c =
     let e = c .before .before in rw (le-leb _ _ (e .before .before .before .if1 .left), le-leb _ _ (e .if2 .left))
 
 pub within-limits-spec : {M : Type 1} → statement M
-within-limits-spec = tie.close (tie.spec mul-if1 returns add-if2 returns-2 mul-result returns-3)
+within-limits-spec = tie.close (tie.spec mul-if1 returns (λ c. search needs) returns-2 mul-result returns-3)

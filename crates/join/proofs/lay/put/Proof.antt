@@ -7,15 +7,6 @@ use borrow.Author.Needs.{needs}
 use Rattle.join.proofs.lay.put.Statement.{statement}
 use Rattle.join.proofs.lay.put.Tie as tie
 
-cast-out : tie.Need-cast-out
-cast-out c = search needs
-
-slice-write-out : tie.Need-slice-write-out
-slice-write-out c = search needs
-
-add-result : tie.Need-add-result
-add-result c = search needs
-
 same-length : tie.Need-same-length
 same-length c = ⊎-elim (λ w. ap length (w .1) ∙ simp length-set) (λ w. ap length (w .1)) (c .if1 .came)
 
@@ -25,4 +16,4 @@ returns c =
     (λ w. record { ends = refl; lies = w .1 ∙ sym (set-out _ _ _ (w .0 .left)) }) (c .if1 .came)
 
 pub put-spec : {M : Type 1} → statement M
-put-spec = tie.close (tie.spec cast-out slice-write-out add-result same-length returns)
+put-spec = tie.close (tie.spec (λ c. search needs) (λ c. search needs) (λ c. search needs) same-length returns)

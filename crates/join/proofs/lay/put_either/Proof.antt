@@ -20,26 +20,8 @@ abbrev μ-loop : tie.MeasureT-loop
 loop-holds : tie.Need-loop-holds Inv-loop μ-loop
 loop-holds c = (omega arith, omega arith, left-same (left-start _ _ _) (either-start _ _ _ _ _))
 
-add-byte-within : tie.Need-add-byte-within Inv-loop μ-loop
-add-byte-within c = search needs
-
-byte-within-requires : tie.Need-byte-within-requires Inv-loop μ-loop
-byte-within-requires c κs = search needs
-
-add-byte-within-2 : tie.Need-add-byte-within-2 Inv-loop μ-loop
-add-byte-within-2 c = search needs
-
-byte-within-requires-2 : tie.Need-byte-within-requires-2 Inv-loop μ-loop
-byte-within-requires-2 c κs = search needs
-
 put-requires : tie.Need-put-requires Inv-loop μ-loop
 put-requires c κs = (or-lt 8 _ _ (c .before .before .byte-within .ensures .1) (c .before .byte-within2 .ensures .1), omega arith)
-
-add-i : tie.Need-add-i Inv-loop μ-loop
-add-i c = search needs
-
-loop-less : tie.Need-loop-less Inv-loop μ-loop
-loop-less c = search needs
 
 loop-again : tie.Need-loop-again Inv-loop μ-loop
 loop-again c =
@@ -62,16 +44,5 @@ pub put-either-spec : {M : Type 1} → statement M
 put-either-spec =
     tie.close
     (tie.spec
-    Inv-loop
-    μ-loop
-    loop-holds
-    add-byte-within
-    byte-within-requires
-    add-byte-within-2
-    byte-within-requires-2
-    put-requires
-    add-i
-    loop-less
-    loop-again
-    same-length
-    returns)
+    Inv-loop μ-loop loop-holds (λ c. search needs) (λ c κs. search needs) (λ c. search needs) (λ c κs. search needs) put-requires (λ c. search needs)
+    (λ c. search needs) loop-again same-length returns)

@@ -17,12 +17,6 @@ use Rattle.meter.proofs.meter.meter_input.Statement.{statement}
 use Rattle.meter.proofs.meter.meter_input.Tie as tie
 use Rattle.enforcer.specs.declared.state.State.{State}
 
-signals-of-requires : tie.Need-signals-of-requires
-signals-of-requires c κs = search needs
-
-no-signals-requires : tie.Need-no-signals-requires
-no-signals-requires c κs = search needs
-
 returns : tie.Need-returns
 returns c =
     let a = c .before .before .before .before .before .before .before .args in
@@ -32,9 +26,6 @@ returns c =
           ap refused (c .no-signals .ensures)
           ∙ sym (input-lacks (a .reading) (now (a .file)) (now (a .marks)) (now (a .station)) (a .register) (a .x) (_⊎_.inl z));
     }
-
-no-signals-requires-2 : tie.Need-no-signals-requires-2
-no-signals-requires-2 c κs = search needs
 
 returns-2 : tie.Need-returns-2
 returns-2 c =
@@ -55,9 +46,6 @@ some c =
       λ z. c .if2 .left (ap (λ (r : Signals). r .dispense) s ∙ z),
     )
 
-odd-refusal-requires : tie.Need-odd-refusal-requires
-odd-refusal-requires c κs = search needs
-
 returns-3 : tie.Need-returns-3
 returns-3 c =
     let a = c .before .before .before .before .before .before .before .before .before .before .args in
@@ -68,21 +56,6 @@ returns-3 c =
           ∙ sym (input-odd (a .reading) (now (a .file)) (now (a .marks)) (now (a .station)) (k .0) (k .1) (a .register) (a .x)
           (lt-leb 6 (length (now (a .station))) (c .before .if3 .taken)));
     }
-
-shared-slice-read-pulses : tie.Need-shared-slice-read-pulses
-shared-slice-read-pulses c = search needs
-
-pulses-requires : tie.Need-pulses-requires
-pulses-requires c κs = search needs
-
-with-pulse-requires : tie.Need-with-pulse-requires
-with-pulse-requires c κs = search needs
-
-station-state-requires : tie.Need-station-state-requires
-station-state-requires c κs = search needs
-
-input-half-requires : tie.Need-input-half-requires
-input-half-requires c κs = search needs
 
 returns-4 : tie.Need-returns-4
 returns-4 c =
@@ -104,16 +77,5 @@ pub meter-input-spec : {M : Type 1} → statement M
 meter-input-spec =
     tie.close
     (tie.spec
-    signals-of-requires
-    no-signals-requires
-    returns
-    no-signals-requires-2
-    returns-2
-    odd-refusal-requires
-    returns-3
-    shared-slice-read-pulses
-    pulses-requires
-    with-pulse-requires
-    station-state-requires
-    input-half-requires
-    returns-4)
+    (λ c κs. search needs) (λ c κs. search needs) returns (λ c κs. search needs) returns-2 (λ c κs. search needs) returns-3 (λ c. search needs)
+    (λ c κs. search needs) (λ c κs. search needs) (λ c κs. search needs) (λ c κs. search needs) returns-4)

@@ -22,21 +22,6 @@ returns-2 c =
     let g = lt-leb 2 (length (now (a .totals))) (c .if2 .taken) in
     record { said = rw (e, g); placed = rw (e, g); cleared = rw (e, g) }
 
-start-requires : tie.Need-start-requires
-start-requires c κs = search needs
-
-put-station-requires : tie.Need-put-station-requires
-put-station-requires c κs = search needs
-
-clear-totals-requires : tie.Need-clear-totals-requires
-clear-totals-requires c κs = search needs
-
-same-length : tie.Need-same-length
-same-length c = search needs
-
-same-length-2 : tie.Need-same-length-2
-same-length-2 c = search needs
-
 returns-3 : tie.Need-returns-3
 unfolding newRefusal newStation newTotals
 returns-3 c =
@@ -53,11 +38,4 @@ pub meter-new-spec : {M : Type 1} → statement M
 meter-new-spec =
     tie.close
     (tie.spec
-    returns
-    returns-2
-    start-requires
-    put-station-requires
-    clear-totals-requires
-    same-length
-    same-length-2
-    returns-3)
+    returns returns-2 (λ c κs. search needs) (λ c κs. search needs) (λ c κs. search needs) (λ c. search needs) (λ c. search needs) returns-3)

@@ -14,12 +14,6 @@ use borrow.Author.Needs.{needs}
 use Rattle.meter.proofs.meter.meter_output.Statement.{statement}
 use Rattle.meter.proofs.meter.meter_output.Tie as tie
 
-signals-of-requires : tie.Need-signals-of-requires
-signals-of-requires c κs = search needs
-
-no-signals-requires : tie.Need-no-signals-requires
-no-signals-requires c κs = search needs
-
 returns : tie.Need-returns
 returns c =
     let a = c .before .before .before .before .before .before .before .before .args in
@@ -29,9 +23,6 @@ returns c =
           ap (kept (now (a .station)) (now (a .totals))) (c .no-signals .ensures)
           ∙ sym (output-lacks (a .reading) (now (a .file)) (now (a .marks)) (now (a .station)) (now (a .totals)) (a .register) (a .x) (a .y) (_⊎_.inl z));
     }
-
-no-signals-requires-2 : tie.Need-no-signals-requires-2
-no-signals-requires-2 c κs = search needs
 
 returns-2 : tie.Need-returns-2
 returns-2 c =
@@ -52,9 +43,6 @@ some c =
       λ z. c .if2 .left (ap (λ (r : Signals). r .dispense) s ∙ z),
     )
 
-odd-refusal-requires : tie.Need-odd-refusal-requires
-odd-refusal-requires c κs = search needs
-
 returns-3 : tie.Need-returns-3
 returns-3 c =
     let a = c .before .before .before .before .before .before .before .before .before .before .before .args in
@@ -66,9 +54,6 @@ returns-3 c =
           (rw (lt-leb 6 (length (now (a .station))) (c .before .if3 .taken))));
     }
 
-odd-refusal-requires-2 : tie.Need-odd-refusal-requires-2
-odd-refusal-requires-2 c κs = search needs
-
 returns-4 : tie.Need-returns-4
 returns-4 c =
     let a = c .before .before .before .before .before .before .before .before .before .before .before .before .args in
@@ -79,15 +64,6 @@ returns-4 c =
           ∙ sym (output-odd (a .reading) (now (a .file)) (now (a .marks)) (now (a .station)) (k .0) (k .1) (now (a .totals)) (a .register) (a .x) (a .y)
           (rw (le-leb 6 (length (now (a .station))) (c .before .before .if3 .left), lt-leb 2 (length (now (a .totals))) (c .before .if4 .taken))));
     }
-
-release-requires : tie.Need-release-requires
-release-requires c κs = search needs
-
-same-length : tie.Need-same-length
-same-length c = search needs
-
-same-length-2 : tie.Need-same-length-2
-same-length-2 c = search needs
 
 returns-5 : tie.Need-returns-5
 returns-5 c =
@@ -107,16 +83,5 @@ pub meter-output-spec : {M : Type 1} → statement M
 meter-output-spec =
     tie.close
     (tie.spec
-    signals-of-requires
-    no-signals-requires
-    returns
-    no-signals-requires-2
-    returns-2
-    odd-refusal-requires
-    returns-3
-    odd-refusal-requires-2
-    returns-4
-    release-requires
-    same-length
-    same-length-2
-    returns-5)
+    (λ c κs. search needs) (λ c κs. search needs) returns (λ c κs. search needs) returns-2 (λ c κs. search needs) returns-3 (λ c κs. search needs)
+    returns-4 (λ c κs. search needs) (λ c. search needs) (λ c. search needs) returns-5)

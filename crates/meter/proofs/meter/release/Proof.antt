@@ -11,12 +11,6 @@ use Rattle.meter.proofs.meter.release.Statement.{statement}
 use Rattle.meter.proofs.meter.release.Tie as tie
 use Rattle.enforcer.specs.declared.state.State.{State}
 
-station-state-requires : tie.Need-station-state-requires
-station-state-requires c κs = search needs
-
-output-requires : tie.Need-output-requires
-output-requires c κs = search needs
-
 -- The output half of the station's state.
 given : (c : tie.After-output) →
     let a = c .before .before .before .before .before .before .before .args in
@@ -37,26 +31,8 @@ follows c e =
     ap (λ (z : HalfAnswer). metered (now (a .station)) (now (a .totals)) (a .register) (a .weight) (c .output .result .state) (answerSaid z)) (sym e)
     ∙ ap (λ (o : OutputAnswer). metered (now (a .station)) (now (a .totals)) (a .register) (a .weight) (o .state) (o .answer)) (given c)
 
-enum-known-answer : tie.Need-enum-known-answer
-enum-known-answer c = search needs
-
-settle-requires : tie.Need-settle-requires
-settle-requires c κs = search needs
-
-enum-known-answer-2 : tie.Need-enum-known-answer-2
-enum-known-answer-2 c = search needs
-
-same-length : tie.Need-same-length
-same-length c = search needs
-
-same-length-2 : tie.Need-same-length-2
-same-length-2 c = search needs
-
 returns : tie.Need-returns
 returns c = record { said = c .before .before .before .before .settle .ensures .said ∙ follows (c .before .before .before .before .before .before .before .before .before .before .before) (c .before .before .before .before .before .before .before .before .answer .given .1) }
-
-same-length-3 : tie.Need-same-length-3
-same-length-3 c = search needs
 
 returns-2 : tie.Need-returns-2
 returns-2 c = record { said = follows (c .before .before .before .before) (c .before .answer2 .given .1) }
@@ -65,13 +41,5 @@ pub release-spec : {M : Type 1} → statement M
 release-spec =
     tie.close
     (tie.spec
-    station-state-requires
-    output-requires
-    enum-known-answer
-    settle-requires
-    enum-known-answer-2
-    same-length
-    same-length-2
-    returns
-    same-length-3
-    returns-2)
+    (λ c κs. search needs) (λ c κs. search needs) (λ c. search needs) (λ c κs. search needs) (λ c. search needs) (λ c. search needs)
+    (λ c. search needs) returns (λ c. search needs) returns-2)

@@ -10,18 +10,6 @@ use borrow.Author.Needs.{needs}
 use Rattle.meter.proofs.meter.settle.Statement.{statement}
 use Rattle.meter.proofs.meter.settle.Tie as tie
 
-slice-read-pulses : tie.Need-slice-read-pulses
-slice-read-pulses c = search needs
-
-pulses-requires : tie.Need-pulses-requires
-pulses-requires c κs = search needs
-
-has-room-requires : tie.Need-has-room-requires
-has-room-requires c κs = search needs
-
-same-length : tie.Need-same-length
-same-length c = search needs
-
 -- What was asked of the total.
 room : (c : tie.After-has-room) →
     let a = c .before .before .before .before .before .before .args in fits (now (a .totals)) (a .billed) (pulsesOf (a .register) (lastReading (now (a .station)))) ≡ c .has-room .result
@@ -33,17 +21,8 @@ returns : tie.Need-returns
 unfolding settled
 returns c = record { said = rw (room (c .before) ∙ not-true _ (c .if1 .taken)) }
 
-put-station-requires : tie.Need-put-station-requires
-put-station-requires c κs = search needs
-
 add-pulses-requires : tie.Need-add-pulses-requires
 add-pulses-requires c κs = (c .before .before .before .before .before .before .before .before .before .before .before .before .pre .1, sym (c .before .before .before .before .before .before .has-room .ensures) ∙ not-false _ (c .before .before .before .before .before .if1 .left))
-
-same-length-2 : tie.Need-same-length-2
-same-length-2 c = search needs
-
-same-length-3 : tie.Need-same-length-3
-same-length-3 c = search needs
 
 returns-2 : tie.Need-returns-2
 unfolding settled
@@ -60,13 +39,5 @@ pub settle-spec : {M : Type 1} → statement M
 settle-spec =
     tie.close
     (tie.spec
-    slice-read-pulses
-    pulses-requires
-    has-room-requires
-    same-length
-    returns
-    put-station-requires
-    add-pulses-requires
-    same-length-2
-    same-length-3
-    returns-2)
+    (λ c. search needs) (λ c κs. search needs) (λ c κs. search needs) (λ c. search needs) returns (λ c κs. search needs) add-pulses-requires
+    (λ c. search needs) (λ c. search needs) returns-2)

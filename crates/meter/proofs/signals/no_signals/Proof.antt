@@ -9,9 +9,6 @@ use borrow.Author.Needs.{needs}
 use Rattle.meter.proofs.signals.no_signals.Statement.{statement}
 use Rattle.meter.proofs.signals.no_signals.Tie as tie
 
-check-under-requires : tie.Need-check-under-requires
-check-under-requires c κs = search needs
-
 checked : (c : tie.After-check-under) →
     let a = c .before .before .args in c .check-under .result .refusal ≡ refusalUnder (a .reading) (now (a .file))
 checked c = ap (λ (r : Checked). r .refusal) (c .check-under .ensures) ∙ under-says _ _ .0
@@ -23,4 +20,4 @@ returns-2 : tie.Need-returns-2
 returns-2 c = sym (next-refused _ 26 (sym (checked (c .before)) ∙ c .if1 .left))
 
 pub no-signals-spec : {M : Type 1} → statement M
-no-signals-spec = tie.close (tie.spec check-under-requires returns returns-2)
+no-signals-spec = tie.close (tie.spec (λ c κs. search needs) returns returns-2)

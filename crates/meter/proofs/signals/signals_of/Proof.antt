@@ -6,15 +6,9 @@ use borrow.Author.Needs.{needs}
 use Rattle.meter.proofs.signals.signals_of.Statement.{statement}
 use Rattle.meter.proofs.signals.signals_of.Tie as tie
 
-input-weight-requires : tie.Need-input-weight-requires
-input-weight-requires c κs = search needs
-
-output-weight-requires : tie.Need-output-weight-requires
-output-weight-requires c κs = search needs
-
 returns : tie.Need-returns
 returns c =
     ap₂ {C = Signals} (λ (p d : ℕ). record { pulse = p; dispense = d }) (c .before .input-weight .ensures) (c .output-weight .ensures)
 
 pub signals-of-spec : {M : Type 1} → statement M
-signals-of-spec = tie.close (tie.spec input-weight-requires output-weight-requires returns)
+signals-of-spec = tie.close (tie.spec (λ c κs. search needs) (λ c κs. search needs) returns)

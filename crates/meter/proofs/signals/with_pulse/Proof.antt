@@ -5,9 +5,6 @@ use Rattle.meter.specs.Meter.{withPulse}
 use Rattle.meter.proofs.signals.with_pulse.Statement.{statement}
 use Rattle.meter.proofs.signals.with_pulse.Tie as tie
 
-sub-result : tie.Need-sub-result
-sub-result c = search needs
-
 returns : tie.Need-returns
 unfolding withPulse
 returns c = rw (eq-eqb _ 0 (c .if1 .taken))
@@ -17,4 +14,4 @@ unfolding withPulse
 returns-2 c = rw (ne-eqb _ 0 (c .if1 .left))
 
 pub with-pulse-spec : {M : Type 1} → statement M
-with-pulse-spec = tie.close (tie.spec sub-result returns returns-2)
+with-pulse-spec = tie.close (tie.spec (λ c. search needs) returns returns-2)

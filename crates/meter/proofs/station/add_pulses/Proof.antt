@@ -6,32 +6,14 @@ use borrow.Author.Needs.{needs}
 use Rattle.meter.proofs.station.add_pulses.Statement.{statement}
 use Rattle.meter.proofs.station.add_pulses.Tie as tie
 
-slice-read-totals : tie.Need-slice-read-totals
-slice-read-totals c = search needs
-
 add-totals : tie.Need-add-totals
 add-totals c = let a = c .before .before .args in omega (arith, first-room (now (a .totals)) (a .billed) (a .pulses) (c .before .if1 .taken) (c .before .before .pre .1))
-
-slice-write-totals : tie.Need-slice-write-totals
-slice-write-totals c = search needs
-
-slice-read-totals-2 : tie.Need-slice-read-totals-2
-slice-read-totals-2 c = search needs
 
 add-totals-2 : tie.Need-add-totals-2
 add-totals-2 c = let a = c .before .before .args in omega (arith, second-room (now (a .totals)) (a .billed) (a .pulses) (c .before .if1 .left) (c .before .before .pre .1))
 
-slice-write-totals-2 : tie.Need-slice-write-totals-2
-slice-write-totals-2 c = search needs
-
-same-length : tie.Need-same-length
-same-length c = search needs
-
 returns : tie.Need-returns
 returns c = let a = c .before .before .args in first-risen (now (a .totals)) (a .billed) (a .pulses) (c .before .if1 .taken) (c .before .before .pre .0)
-
-same-length-2 : tie.Need-same-length-2
-same-length-2 c = search needs
 
 returns-2 : tie.Need-returns-2
 returns-2 c = let a = c .before .before .args in second-risen (now (a .totals)) (a .billed) (a .pulses) (c .before .if1 .left) (c .before .before .pre .0)
@@ -40,13 +22,5 @@ pub add-pulses-spec : {M : Type 1} → statement M
 add-pulses-spec =
     tie.close
     (tie.spec
-    slice-read-totals
-    add-totals
-    slice-write-totals
-    slice-read-totals-2
-    add-totals-2
-    slice-write-totals-2
-    same-length
-    returns
-    same-length-2
-    returns-2)
+    (λ c. search needs) add-totals (λ c. search needs) (λ c. search needs) add-totals-2 (λ c. search needs) (λ c. search needs) returns
+    (λ c. search needs) returns-2)

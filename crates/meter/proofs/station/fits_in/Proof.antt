@@ -9,9 +9,6 @@ use borrow.Author.Needs.{needs}
 use Rattle.meter.proofs.station.fits_in.Statement.{statement}
 use Rattle.meter.proofs.station.fits_in.Tie as tie
 
-sub-result : tie.Need-sub-result
-sub-result c = search needs
-
 -- The rest of the room, and the sum.
 room : (t n : ℕ) → t ≤ 4294967295 → leb n (4294967295 - t) ≡ leb (t + n) 4294967295
 room t n h = go (leb n (4294967295 - t)) refl
@@ -24,4 +21,4 @@ returns : tie.Need-returns
 returns c = room (c .args .total) (c .args .pulses) (search needs)
 
 pub fits-in-spec : {M : Type 1} → statement M
-fits-in-spec = tie.close (tie.spec sub-result returns)
+fits-in-spec = tie.close (tie.spec (λ c. search needs) returns)

@@ -4,12 +4,9 @@ use Rattle.meter.specs.Meter.{pulsesOf}
 use Rattle.meter.proofs.station.pulses.Statement.{statement}
 use Rattle.meter.proofs.station.pulses.Tie as tie
 
-wrapping-sub-u16-requires : tie.Need-wrapping-sub-u16-requires
-wrapping-sub-u16-requires c κs = search needs
-
 returns : tie.Need-returns
 unfolding pulsesOf
 returns c = search needs
 
 pub pulses-spec : {M : Type 1} → statement M
-pulses-spec = tie.close (tie.spec wrapping-sub-u16-requires returns)
+pulses-spec = tie.close (tie.spec (λ c κs. search needs) returns)

@@ -12,9 +12,6 @@ use Rattle.meter.proofs.Laws.{sixth}
 use Rattle.meter.proofs.station.put_station.Statement.{statement}
 use Rattle.meter.proofs.station.put_station.Tie as tie
 
-slice-write-station : tie.Need-slice-write-station
-slice-write-station c = search needs
-
 slice-relend-prefix-put-state : tie.Need-slice-relend-prefix-put-state
 slice-relend-prefix-put-state c = let h = c .before .pre in simp length-set (omega arith)
 
@@ -48,9 +45,4 @@ pub put-station-spec : {M : Type 1} → statement M
 put-station-spec =
     tie.close
     (tie.spec
-    slice-write-station
-    slice-relend-prefix-put-state
-    slice-aggregate-put-state
-    put-state-requires
-    same-length
-    returns)
+    (λ c. search needs) slice-relend-prefix-put-state slice-aggregate-put-state put-state-requires same-length returns)

@@ -13,8 +13,5 @@ slice-aggregate-state-of c = sym (length-take-le 5 (now (c .before .before .args
 state-of-requires : tie.Need-state-of-requires
 state-of-requires c κs = length-take-le 5 (now (c .before .before .args .station)) (omega (arith, c .before .before .pre))
 
-returns : tie.Need-returns
-returns c = search needs
-
 pub station-state-spec : {M : Type 1} → statement M
-station-state-spec = tie.close (tie.spec slice-aggregate-state-of state-of-requires returns)
+station-state-spec = tie.close (tie.spec slice-aggregate-state-of state-of-requires (λ c. search needs))

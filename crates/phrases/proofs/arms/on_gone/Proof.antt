@@ -8,12 +8,6 @@ use Rattle.phrases.specs.Arms.{gone-reset, gone-not}
 use Rattle.phrases.proofs.arms.on_gone.Statement.{statement}
 use Rattle.phrases.proofs.arms.on_gone.Tie as tie
 
-keyword-requires : tie.Need-keyword-requires
-keyword-requires c κs = search needs
-
-turned-requires : tie.Need-turned-requires
-turned-requires c κs = search needs
-
 returns : tie.Need-returns
 returns c =
     let a = c .before .before .before .before .args in
@@ -25,4 +19,4 @@ returns-2 c =
     (λ n d. gone-not d (begunOf n (a .parsed)) (now (a .word)) (c .before .keyword .result) (c .before .keyword .ensures) (c .if1 .left), c .before .before .before .pre)
 
 pub on-gone-spec : {M : Type 1} → statement M
-on-gone-spec = tie.close (tie.spec keyword-requires turned-requires returns returns-2)
+on-gone-spec = tie.close (tie.spec (λ c κs. search needs) (λ c κs. search needs) returns returns-2)

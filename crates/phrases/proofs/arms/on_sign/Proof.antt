@@ -8,19 +8,10 @@ use Rattle.phrases.specs.Arms.{sign-low, sign-high, sign-none}
 use Rattle.phrases.proofs.arms.on_sign.Statement.{statement}
 use Rattle.phrases.proofs.arms.on_sign.Tie as tie
 
-keyword-requires : tie.Need-keyword-requires
-keyword-requires c κs = search needs
-
-turned-requires : tie.Need-turned-requires
-turned-requires c κs = search needs
-
 returns : tie.Need-returns
 returns c =
     let a = c .before .before .before .before .args in
     (λ n d. ap gives (c .turned .ensures .0 n) ∙ sign-low d (begunOf n (a .parsed)) (now (a .word)) (c .before .before .keyword .result) (c .before .before .keyword .ensures) (a .k) (c .before .if1 .taken), c .turned .ensures .1)
-
-turned-requires-2 : tie.Need-turned-requires-2
-turned-requires-2 c κs = search needs
 
 returns-2 : tie.Need-returns-2
 returns-2 c =
@@ -33,6 +24,4 @@ returns-3 c =
     (λ n d. sign-none d (begunOf n (a .parsed)) (now (a .word)) (c .before .before .keyword .result) (c .before .before .keyword .ensures) (a .k) (c .before .if1 .left) (c .if2 .left), c .before .before .before .before .pre .1)
 
 pub on-sign-spec : {M : Type 1} → statement M
-on-sign-spec =
-    tie.close
-    (tie.spec keyword-requires turned-requires returns turned-requires-2 returns-2 returns-3)
+on-sign-spec = tie.close (tie.spec (λ c κs. search needs) (λ c κs. search needs) returns (λ c κs. search needs) returns-2 returns-3)

@@ -11,17 +11,11 @@ use Rattle.conditions.specs.Conditions.{scopeOf}
 use Rattle.phrases.proofs.chosen.on_word.Statement.{statement}
 use Rattle.phrases.proofs.chosen.on_word.Tie as tie
 
-on-opening-requires : tie.Need-on-opening-requires
-on-opening-requires c κs = search needs
-
 returns : tie.Need-returns
 returns c =
     let a = c .before .before .before .before .before .before .before .before .before .before .before .args in
     let d = (scopeOf (now (a .text)) (now (a .tags)) (now (a .starts)) (now (a .ends)) (now (a .clock-starts)) (now (a .clock-ends)) (a .clocks) (spans (now (a .text)) (now (a .place-starts)) (now (a .place-ends)) 0 (a .places))) in
     (λ n. c .on-opening .ensures .0 n (spans (now (a .text)) (now (a .place-starts)) (now (a .place-ends)) 0 (a .places)) ∙ ap (λ (q : ℕ). wordAt d (begunOf n (a .parsed)) (partOf q (a .parsed .clock)) (now (a .word))) (sym (c .before .if1 .taken)), c .on-opening .ensures .1)
-
-on-more-requires : tie.Need-on-more-requires
-on-more-requires c κs = search needs
 
 returns-2 : tie.Need-returns-2
 returns-2 c =
@@ -29,17 +23,11 @@ returns-2 c =
     let d = (scopeOf (now (a .text)) (now (a .tags)) (now (a .starts)) (now (a .ends)) (now (a .clock-starts)) (now (a .clock-ends)) (a .clocks) (spans (now (a .text)) (now (a .place-starts)) (now (a .place-ends)) 0 (a .places))) in
     (λ n. c .on-more .ensures .0 n (spans (now (a .text)) (now (a .place-starts)) (now (a .place-ends)) 0 (a .places)) ∙ ap (λ (q : ℕ). wordAt d (begunOf n (a .parsed)) (partOf q (a .parsed .clock)) (now (a .word))) (sym (c .before .if2 .taken)), c .on-more .ensures .1)
 
-on-arrow-requires : tie.Need-on-arrow-requires
-on-arrow-requires c κs = search needs
-
 returns-3 : tie.Need-returns-3
 returns-3 c =
     let a = c .before .before .before .before .before .before .before .before .before .before .before .before .before .args in
     let d = (scopeOf (now (a .text)) (now (a .tags)) (now (a .starts)) (now (a .ends)) (now (a .clock-starts)) (now (a .clock-ends)) (a .clocks) (spans (now (a .text)) (now (a .place-starts)) (now (a .place-ends)) 0 (a .places))) in
     (λ n. c .on-arrow .ensures .0 n d ∙ ap (λ (q : ℕ). wordAt d (begunOf n (a .parsed)) (partOf q (a .parsed .clock)) (now (a .word))) (sym (c .before .if3 .taken)), c .on-arrow .ensures .1)
-
-on-sign-requires : tie.Need-on-sign-requires
-on-sign-requires c κs = search needs
 
 returns-4 : tie.Need-returns-4
 returns-4 c =
@@ -47,17 +35,11 @@ returns-4 c =
     let d = (scopeOf (now (a .text)) (now (a .tags)) (now (a .starts)) (now (a .ends)) (now (a .clock-starts)) (now (a .clock-ends)) (a .clocks) (spans (now (a .text)) (now (a .place-starts)) (now (a .place-ends)) 0 (a .places))) in
     (λ n. c .on-sign .ensures .0 n d ∙ ap (λ (q : ℕ). wordAt d (begunOf n (a .parsed)) (partOf q (a .parsed .clock)) (now (a .word))) (sym (c .before .if4 .taken)), c .on-sign .ensures .1)
 
-on-low-requires : tie.Need-on-low-requires
-on-low-requires c κs = search needs
-
 returns-5 : tie.Need-returns-5
 returns-5 c =
     let a = c .before .before .before .before .before .before .before .before .before .before .before .before .before .before .before .args in
     let d = (scopeOf (now (a .text)) (now (a .tags)) (now (a .starts)) (now (a .ends)) (now (a .clock-starts)) (now (a .clock-ends)) (a .clocks) (spans (now (a .text)) (now (a .place-starts)) (now (a .place-ends)) 0 (a .places))) in
     (λ n. c .on-low .ensures .0 n d ∙ ap (λ (q : ℕ). wordAt d (begunOf n (a .parsed)) (partOf q (a .parsed .clock)) (now (a .word))) (sym (c .before .if5 .taken)), c .on-low .ensures .1)
-
-on-high-requires : tie.Need-on-high-requires
-on-high-requires c κs = search needs
 
 returns-6 : tie.Need-returns-6
 returns-6 c =
@@ -65,26 +47,17 @@ returns-6 c =
     let d = (scopeOf (now (a .text)) (now (a .tags)) (now (a .starts)) (now (a .ends)) (now (a .clock-starts)) (now (a .clock-ends)) (a .clocks) (spans (now (a .text)) (now (a .place-starts)) (now (a .place-ends)) 0 (a .places))) in
     (λ n. c .on-high .ensures .0 n d ∙ ap (λ (q : ℕ). wordAt d (begunOf n (a .parsed)) (partOf q (a .parsed .clock)) (now (a .word))) (sym (c .before .if6 .taken)), c .on-high .ensures .1)
 
-on-goes-requires : tie.Need-on-goes-requires
-on-goes-requires c κs = search needs
-
 returns-7 : tie.Need-returns-7
 returns-7 c =
     let a = c .before .before .before .before .before .before .before .before .before .before .before .before .before .before .before .before .before .args in
     let d = (scopeOf (now (a .text)) (now (a .tags)) (now (a .starts)) (now (a .ends)) (now (a .clock-starts)) (now (a .clock-ends)) (a .clocks) (spans (now (a .text)) (now (a .place-starts)) (now (a .place-ends)) 0 (a .places))) in
     (λ n. c .on-goes .ensures .0 n d refl ∙ ap (λ (q : ℕ). wordAt d (begunOf n (a .parsed)) (partOf q (a .parsed .clock)) (now (a .word))) (sym (c .before .if7 .taken)), c .on-goes .ensures .1)
 
-on-gone-requires : tie.Need-on-gone-requires
-on-gone-requires c κs = search needs
-
 returns-8 : tie.Need-returns-8
 returns-8 c =
     let a = c .before .before .before .before .before .before .before .before .before .before .before .before .before .before .before .before .before .before .args in
     let d = (scopeOf (now (a .text)) (now (a .tags)) (now (a .starts)) (now (a .ends)) (now (a .clock-starts)) (now (a .clock-ends)) (a .clocks) (spans (now (a .text)) (now (a .place-starts)) (now (a .place-ends)) 0 (a .places))) in
     (λ n. c .on-gone .ensures .0 n d ∙ ap (λ (q : ℕ). wordAt d (begunOf n (a .parsed)) (partOf q (a .parsed .clock)) (now (a .word))) (sym (c .before .if8 .taken)), c .on-gone .ensures .1)
-
-on-clear-requires : tie.Need-on-clear-requires
-on-clear-requires c κs = search needs
 
 returns-9 : tie.Need-returns-9
 returns-9 c =
@@ -97,21 +70,6 @@ pub on-word-spec : {M : Type 1} → statement M
 on-word-spec =
     tie.close
     (tie.spec
-    on-opening-requires
-    returns
-    on-more-requires
-    returns-2
-    on-arrow-requires
-    returns-3
-    on-sign-requires
-    returns-4
-    on-low-requires
-    returns-5
-    on-high-requires
-    returns-6
-    on-goes-requires
-    returns-7
-    on-gone-requires
-    returns-8
-    on-clear-requires
-    returns-9)
+    (λ c κs. search needs) returns (λ c κs. search needs) returns-2 (λ c κs. search needs) returns-3 (λ c κs. search needs) returns-4
+    (λ c κs. search needs) returns-5 (λ c κs. search needs) returns-6 (λ c κs. search needs) returns-7 (λ c κs. search needs) returns-8
+    (λ c κs. search needs) returns-9)

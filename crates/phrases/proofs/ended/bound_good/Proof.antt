@@ -1,6 +1,4 @@
 -- `phrases::ended::bound_good` meets its contract.
-use native.Mathlib.Omega.{arith}
-use borrow.Author.Needs.{needs}
 use Rattle.phrases.specs.Ended.{bound-order, bound-low, bound-high, bound-none}
 use Rattle.phrases.proofs.ended.bound_good.Statement.{statement}
 use Rattle.phrases.proofs.ended.bound_good.Tie as tie

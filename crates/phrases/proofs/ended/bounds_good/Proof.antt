@@ -1,6 +1,6 @@
 -- `phrases::ended::bounds_good` meets its contract. The invariant: the bounds from clock i on decide.
-use mathlib.Core.Path.{_≡_, refl, ap, sym, _∙_}
-use Prim.Native.Nat.{_+_, _-_, _≤_}
+use mathlib.Core.Path.{_≡_, sym, _∙_}
+use Prim.Native.Nat.{_-_, _≤_}
 use native.Mathlib.Omega.{arith}
 use lib.ListN.{take}
 use borrow.Author.Tests.{not-true, not-false}
@@ -8,7 +8,7 @@ use borrow.Author.Needs.{needs}
 use Rattle.policy.specs.Check.{boundsGood}
 use Rattle.phrases.specs.Ended.{good-fails, good-on}
 use Rattle.conditions.specs.Steps.{boundsOf}
-use Rattle.phrases.specs.Ended.{goodFrom, good-start, good-turn, good-end}
+use Rattle.phrases.specs.Ended.{goodFrom, good-start, good-end}
 use Rattle.phrases.proofs.ended.bounds_good.Statement.{statement}
 use Rattle.phrases.proofs.ended.bounds_good.Tie as tie
 
@@ -22,38 +22,11 @@ abbrev μ-loop : tie.MeasureT-loop
 loop-holds : tie.Need-loop-holds Inv-loop μ-loop
 loop-holds c = (omega arith, good-start (c .args .t1) (c .args .t2) (c .args .t3) (c .args .clocks))
 
-mul-bound-good : tie.Need-mul-bound-good Inv-loop μ-loop
-mul-bound-good c = search needs
-
-array-read-bound-good : tie.Need-array-read-bound-good Inv-loop μ-loop
-array-read-bound-good c = search needs
-
-mul-bound-good-2 : tie.Need-mul-bound-good-2 Inv-loop μ-loop
-mul-bound-good-2 c = search needs
-
-array-read-bound-good-2 : tie.Need-array-read-bound-good-2 Inv-loop μ-loop
-array-read-bound-good-2 c = search needs
-
-mul-bound-good-3 : tie.Need-mul-bound-good-3 Inv-loop μ-loop
-mul-bound-good-3 c = search needs
-
-array-read-bound-good-3 : tie.Need-array-read-bound-good-3 Inv-loop μ-loop
-array-read-bound-good-3 c = search needs
-
-bound-good-requires : tie.Need-bound-good-requires Inv-loop μ-loop
-bound-good-requires c κs = search needs
-
 returns : tie.Need-returns Inv-loop μ-loop
 returns c =
     let l = c .before .before .before .loop in
     let a = c .before .before .before .before .args in
     sym (sym (l .inv .1) ∙ good-fails (a .t1) (a .t2) (a .t3) (a .clocks) (l .i) (omega arith) (omega arith) (omega arith) (omega arith) (sym (c .before .bound-good .ensures) ∙ not-true _ (c .if1 .taken)))
-
-add-i : tie.Need-add-i Inv-loop μ-loop
-add-i c = search needs
-
-loop-less : tie.Need-loop-less Inv-loop μ-loop
-loop-less c = search needs
 
 loop-again : tie.Need-loop-again Inv-loop μ-loop
 loop-again c =
@@ -71,18 +44,5 @@ pub bounds-good-spec : {M : Type 1} → statement M
 bounds-good-spec =
     tie.close
     (tie.spec
-    Inv-loop
-    μ-loop
-    loop-holds
-    mul-bound-good
-    array-read-bound-good
-    mul-bound-good-2
-    array-read-bound-good-2
-    mul-bound-good-3
-    array-read-bound-good-3
-    bound-good-requires
-    returns
-    add-i
-    loop-less
-    loop-again
-    returns-2)
+    Inv-loop μ-loop loop-holds (λ c. search needs) (λ c. search needs) (λ c. search needs) (λ c. search needs) (λ c. search needs) (λ c. search needs)
+    (λ c κs. search needs) returns (λ c. search needs) (λ c. search needs) loop-again returns-2)

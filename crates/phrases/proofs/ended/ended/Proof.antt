@@ -1,5 +1,4 @@
 -- `phrases::ended::ended` meets its contract.
-use borrow.Author.Needs.{needs}
 use Rattle.conditions.specs.Steps.{begunOf}
 use Rattle.phrases.specs.Ended.{ends-gone, ends-not, ends-clears}
 use Rattle.phrases.proofs.ended.ended.Statement.{statement}

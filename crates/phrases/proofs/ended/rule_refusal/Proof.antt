@@ -5,14 +5,8 @@ use borrow.Author.Needs.{needs}
 use Rattle.phrases.proofs.ended.rule_refusal.Statement.{statement}
 use Rattle.phrases.proofs.ended.rule_refusal.Tie as tie
 
-ended-requires : tie.Need-ended-requires
-ended-requires c κs = search needs
-
 returns : tie.Need-returns
 returns c = rw (sym (c .before .ended .ensures (c .before .before .args .clocks)) ∙ not-true _ (c .if1 .taken))
-
-bounds-good-requires : tie.Need-bounds-good-requires
-bounds-good-requires c κs = search needs
 
 returns-2 : tie.Need-returns-2
 returns-2 c = rw (sym (c .before .before .before .before .before .ended .ensures (c .before .before .before .before .before .before .args .clocks)) ∙ not-false _ (c .before .before .before .before .if1 .left), sym (c .before .bounds-good .ensures) ∙ not-true _ (c .if2 .taken))
@@ -24,5 +18,4 @@ returns-4 : tie.Need-returns-4
 returns-4 c = rw (sym (c .before .before .before .before .before .before .ended .ensures (c .before .before .before .before .before .before .before .args .clocks)) ∙ not-false _ (c .before .before .before .before .before .if1 .left), sym (c .before .before .bounds-good .ensures) ∙ not-false _ (c .before .if2 .left), le-ltb _ _ (c .if3 .left))
 
 pub rule-refusal-spec : {M : Type 1} → statement M
-rule-refusal-spec =
-    tie.close (tie.spec ended-requires returns bounds-good-requires returns-2 returns-3 returns-4)
+rule-refusal-spec = tie.close (tie.spec (λ c κs. search needs) returns (λ c κs. search needs) returns-2 returns-3 returns-4)

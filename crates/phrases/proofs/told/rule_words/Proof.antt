@@ -1,6 +1,6 @@
 -- `phrases::told::rule_words` meets its contract. The invariant: the words that are left decide.
-use mathlib.Core.Path.{_≡_, ap, sym, _∙_}
-use Prim.Native.Nat.{ℕ, _-_, _≤_}
+use mathlib.Core.Path.{_≡_, sym, _∙_}
+use Prim.Native.Nat.{_-_, _≤_}
 use native.Mathlib.Omega.{arith}
 use lib.ListN.{length}
 use denote.Ref.{now}
@@ -22,17 +22,11 @@ Inv-loop text tags starts ends clock-starts clock-ends clocks place-starts place
 abbrev μ-loop : tie.MeasureT-loop
 μ-loop text tags starts ends clock-starts clock-ends clocks place-starts place-ends places line parsed₀ at₀ parsed at = length line - at
 
-unsaid-requires : tie.Need-unsaid-requires Inv-loop μ-loop
-unsaid-requires c κs = search needs
-
 loop-holds : tie.Need-loop-holds Inv-loop μ-loop
 loop-holds c =
     let a = c .before .before .before .before .before .before .before .before .before .before .args in
     let d = (scopeOf (now (a .text)) (now (a .tags)) (now (a .starts)) (now (a .ends)) (now (a .clock-starts)) (now (a .clock-ends)) (a .clocks) (spans (now (a .text)) (now (a .place-starts)) (now (a .place-ends)) 0 (a .places))) in
     (omega arith, c .unsaid .ensures .1, sym (from-first d (a .clocks) (now (a .line)) (c .unsaid .result) (c .unsaid .ensures .0 (a .clocks) (omega (arith, c .before .before .before .before .before .before .before .before .before .before .pre .1 .0)))))
-
-next-word-requires : tie.Need-next-word-requires Inv-loop μ-loop
-next-word-requires c κs = search needs
 
 returns : tie.Need-returns Inv-loop μ-loop
 returns c =
@@ -48,9 +42,6 @@ part-on-word-start c = omega (arith, c .before .next-word .ensures .within, c .b
 
 part-on-word-end : tie.Need-part-on-word-end Inv-loop μ-loop
 part-on-word-end c = omega (arith, c .before .next-word .ensures .within, c .before .next-word .ensures .order)
-
-on-word-requires : tie.Need-on-word-requires Inv-loop μ-loop
-on-word-requires c κs = search needs
 
 returns-2 : tie.Need-returns-2 Inv-loop μ-loop
 returns-2 c =
@@ -77,17 +68,5 @@ pub rule-words-spec : {M : Type 1} → statement M
 rule-words-spec =
     tie.close
     (tie.spec
-    Inv-loop
-    μ-loop
-    unsaid-requires
-    loop-holds
-    next-word-requires
-    returns
-    sub-on-word
-    part-on-word-start
-    part-on-word-end
-    on-word-requires
-    returns-2
-    loop-less
-    loop-again
-    returns-3)
+    Inv-loop μ-loop (λ c κs. search needs) loop-holds (λ c κs. search needs) returns sub-on-word part-on-word-start part-on-word-end
+    (λ c κs. search needs) returns-2 loop-less loop-again returns-3)

@@ -1,12 +1,6 @@
 -- `phrases::told::unsaid` meets its contract.
-use mathlib.Core.List.{List}
-use mathlib.Core.Path.{_≡_}
-use Prim.Native.Nat.{ℕ}
 use native.Mathlib.Omega.{arith}
-use borrow.Author.Needs.{needs}
-use Rattle.policy.specs.Rules.{Bound}
 use Rattle.wording.specs.Reader.{opening}
-use Rattle.conditions.specs.Steps.{begunOf, Masked}
 use Rattle.phrases.specs.Told.{no-bounds}
 use Rattle.phrases.proofs.told.unsaid.Statement.{statement}
 use Rattle.phrases.proofs.told.unsaid.Tie as tie

@@ -11,22 +11,10 @@ use Rattle.conditions.specs.Conditions.{known-there, known-not}
 use Rattle.phrases.proofs.ways.on_goes.Statement.{statement}
 use Rattle.phrases.proofs.ways.on_goes.Tie as tie
 
-keyword-requires : tie.Need-keyword-requires
-keyword-requires c κs = search needs
-
-on-target-requires : tie.Need-on-target-requires
-on-target-requires c κs = search needs
-
 returns : tie.Need-returns
 returns c =
     let a = c .before .before .before .before .before .before .before .args in
     (λ n d e. ap gives (c .on-target .ensures .0 n) ∙ goes-violation d (begunOf n (a .parsed)) (now (a .word)) (c .before .before .keyword .result) (c .before .before .keyword .ensures) (c .before .if1 .taken), c .on-target .ensures .1)
-
-find-name-requires : tie.Need-find-name-requires
-find-name-requires c κs = search needs
-
-on-target-requires-2 : tie.Need-on-target-requires-2
-on-target-requires-2 c κs = search needs
 
 returns-2 : tie.Need-returns-2
 returns-2 c =
@@ -42,10 +30,4 @@ pub on-goes-spec : {M : Type 1} → statement M
 on-goes-spec =
     tie.close
     (tie.spec
-    keyword-requires
-    on-target-requires
-    returns
-    find-name-requires
-    on-target-requires-2
-    returns-2
-    returns-3)
+    (λ c κs. search needs) (λ c κs. search needs) returns (λ c κs. search needs) (λ c κs. search needs) returns-2 returns-3)

@@ -9,19 +9,10 @@ use Rattle.conditions.specs.Conditions.{scopeOf}
 use Rattle.phrases.proofs.ways.on_more.Statement.{statement}
 use Rattle.phrases.proofs.ways.on_more.Tie as tie
 
-keyword-requires : tie.Need-keyword-requires
-keyword-requires c κs = search needs
-
-turned-requires : tie.Need-turned-requires
-turned-requires c κs = search needs
-
 returns : tie.Need-returns
 returns c =
     let a = c .before .before .before .before .before .before .before .before .before .before .args in
     (λ n places. ap gives (c .turned .ensures .0 n) ∙ more-arrow (scopeOf (now (a .text)) (now (a .tags)) (now (a .starts)) (now (a .ends)) (now (a .clock-starts)) (now (a .clock-ends)) (a .clocks) places) (begunOf n (a .parsed)) (now (a .word)) (c .before .before .keyword .result) (c .before .before .keyword .ensures) (c .before .if1 .taken), c .turned .ensures .1)
-
-on-condition-requires : tie.Need-on-condition-requires
-on-condition-requires c κs = search needs
 
 returns-2 : tie.Need-returns-2
 returns-2 c =
@@ -29,5 +20,4 @@ returns-2 c =
     (λ n places. c .on-condition .ensures .0 n places ∙ more-on (scopeOf (now (a .text)) (now (a .tags)) (now (a .starts)) (now (a .ends)) (now (a .clock-starts)) (now (a .clock-ends)) (a .clocks) places) (begunOf n (a .parsed)) (now (a .word)) (c .before .before .keyword .result) (c .before .before .keyword .ensures) (c .before .if1 .left), c .on-condition .ensures .1)
 
 pub on-more-spec : {M : Type 1} → statement M
-on-more-spec =
-    tie.close (tie.spec keyword-requires turned-requires returns on-condition-requires returns-2)
+on-more-spec = tie.close (tie.spec (λ c κs. search needs) (λ c κs. search needs) returns (λ c κs. search needs) returns-2)

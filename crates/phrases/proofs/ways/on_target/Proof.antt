@@ -1,5 +1,4 @@
 -- `phrases::ways::on_target` meets its contract.
-use borrow.Author.Needs.{needs}
 use Rattle.phrases.specs.Arms.{target-is}
 use Rattle.phrases.proofs.ways.on_target.Statement.{statement}
 use Rattle.phrases.proofs.ways.on_target.Tie as tie

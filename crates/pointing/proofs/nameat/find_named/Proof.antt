@@ -20,23 +20,11 @@ abbrev μ-loop : tie.MeasureT-loop
 loop-holds : tie.Need-loop-holds Inv-loop μ-loop
 loop-holds c = (omega arith, refl)
 
-line-end-requires : tie.Need-line-end-requires Inv-loop μ-loop
-line-end-requires c κs = search needs
-
-declares-bit-requires : tie.Need-declares-bit-requires Inv-loop μ-loop
-declares-bit-requires c κs = search needs
-
-name-in-requires : tie.Need-name-in-requires Inv-loop μ-loop
-name-in-requires c κs = search needs
-
 returns : tie.Need-returns Inv-loop μ-loop
 returns c =
     let a = c .before .before .before .before .before .before .before .args in
     let l = c .before .before .before .before .before .loop in
     c .name-in .ensures ∙ name-here (a .kind) (now (a .text)) (c .before .before .before .line-end .ensures) (omega arith) (c .before .before .declares-bit .ensures) (c .before .if1 .taken) ∙ sym (l .inv .1)
-
-next-line-requires : tie.Need-next-line-requires Inv-loop μ-loop
-next-line-requires c κs = search needs
 
 loop-less : tie.Need-loop-less Inv-loop μ-loop
 loop-less c =
@@ -63,14 +51,5 @@ pub find-named-spec : {M : Type 1} → statement M
 find-named-spec =
     tie.close
     (tie.spec
-    Inv-loop
-    μ-loop
-    loop-holds
-    line-end-requires
-    declares-bit-requires
-    name-in-requires
-    returns
-    next-line-requires
-    loop-less
-    loop-again
-    returns-2)
+    Inv-loop μ-loop loop-holds (λ c κs. search needs) (λ c κs. search needs) (λ c κs. search needs) returns (λ c κs. search needs) loop-less
+    loop-again returns-2)

@@ -7,17 +7,11 @@ use Rattle.pointing.specs.NameAt.{nameWord, name-none, word-lacks, secon
 use Rattle.pointing.proofs.nameat.name_in.Statement.{statement}
 use Rattle.pointing.proofs.nameat.name_in.Tie as tie
 
-word-in-requires : tie.Need-word-in-requires
-word-in-requires c κs = search needs
-
 returns : tie.Need-returns
 returns c =
     let s = c .before .before .before in
     let a = s .args in
     name-none (a .kind) (a .at) (part (now (a .text)) (a .at) (a .end - a .at)) (word-lacks (s .pre .1) (s .pre .0) (c .before .word-in .ensures) (c .if1 .taken) (nameWord (a .kind)))
-
-word-in-requires-2 : tie.Need-word-in-requires-2
-word-in-requires-2 c κs = search needs
 
 returns-2 : tie.Need-returns-2
 returns-2 c =
@@ -25,26 +19,17 @@ returns-2 c =
     let a = s .args in
     second-none (s .pre .1) (s .pre .0) (c .before .before .before .word-in .ensures) (c .before .before .if1 .left) (c .before .word-in2 .ensures) (a .kind) (c .if2 .taken)
 
-sub-t16 : tie.Need-sub-t16
-sub-t16 c = search needs
-
 returns-3 : tie.Need-returns-3
 returns-3 c =
     let s = c .before .before .before .before .before .before in
     let a = s .args in
     second-there (s .pre .1) (s .pre .0) (c .before .before .before .before .word-in .ensures) (c .before .before .before .if1 .left) (c .before .before .word-in2 .ensures) (c .before .if2 .left) (a .kind) (c .if3 .taken)
 
-word-in-requires-3 : tie.Need-word-in-requires-3
-word-in-requires-3 c κs = search needs
-
 returns-4 : tie.Need-returns-4
 returns-4 c =
     let s = c .before .before .before .before .before .before .before .before in
     let a = s .args in
     third-none (s .pre .1) (s .pre .0) (c .before .before .before .before .before .before .word-in .ensures) (c .before .before .before .before .before .if1 .left) (c .before .before .before .before .word-in2 .ensures) (c .before .before .before .if2 .left) (c .before .word-in3 .ensures) (a .kind) (c .before .before .if3 .left) (c .if4 .taken)
-
-sub-t17 : tie.Need-sub-t17
-sub-t17 c = search needs
 
 returns-5 : tie.Need-returns-5
 returns-5 c =
@@ -56,13 +41,5 @@ pub name-in-spec : {M : Type 1} → statement M
 name-in-spec =
     tie.close
     (tie.spec
-    word-in-requires
-    returns
-    word-in-requires-2
-    returns-2
-    sub-t16
-    returns-3
-    word-in-requires-3
-    returns-4
-    sub-t17
+    (λ c κs. search needs) returns (λ c κs. search needs) returns-2 (λ c. search needs) returns-3 (λ c κs. search needs) returns-4 (λ c. search needs)
     returns-5)

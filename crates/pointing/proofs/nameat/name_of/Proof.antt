@@ -7,15 +7,6 @@ use Rattle.compiling.specs.Promise.{Got, got, ceilings-fit, file-stopped, file-
 use Rattle.pointing.proofs.nameat.name_of.Statement.{statement}
 use Rattle.pointing.proofs.nameat.name_of.Tie as tie
 
-slice-aggregate-read-lines : tie.Need-slice-aggregate-read-lines
-slice-aggregate-read-lines c = search needs
-
-slice-aggregate-read-lines-2 : tie.Need-slice-aggregate-read-lines-2
-slice-aggregate-read-lines-2 c = search needs
-
-read-lines-requires : tie.Need-read-lines-requires
-read-lines-requires c κs = search needs
-
 returns : tie.Need-returns
 returns c = let a = c .before .before .before .before .before .before .before .before .args in let r = c .before .before .before .before .read-lines in name-stops (a .kind) (now (a .text)) (a .i) (file-stopped (now (a .text)) [] (r .result) (r .ensures .0) (c .if1 .taken))
 
@@ -35,9 +26,6 @@ returns-2 c =
     let g : Got (now (a .text)) (r .result) = got (r .ensures .0) (c .before .before .before .before .if1 .left) in
     name-stops (a .kind) (now (a .text)) (a .i) (file-own (now (a .text)) [] f g (c .before .own-refusal .ensures) (c .if2 .taken))
 
-find-named-requires : tie.Need-find-named-requires
-find-named-requires c κs = search needs
-
 returns-3 : tie.Need-returns-3
 returns-3 c =
     let a = c .before .before .before .before .before .before .before .before .before .before .before .before .before .args in
@@ -50,11 +38,4 @@ pub name-of-spec : {M : Type 1} → statement M
 name-of-spec =
     tie.close
     (tie.spec
-    slice-aggregate-read-lines
-    slice-aggregate-read-lines-2
-    read-lines-requires
-    returns
-    own-refusal-requires
-    returns-2
-    find-named-requires
-    returns-3)
+    (λ c. search needs) (λ c. search needs) (λ c κs. search needs) returns own-refusal-requires returns-2 (λ c κs. search needs) returns-3)

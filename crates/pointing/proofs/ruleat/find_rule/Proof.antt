@@ -23,26 +23,11 @@ loop-holds : tie.Need-loop-holds Inv-loop μ-loop
 unfolding rulesLeft
 loop-holds c = (omega arith, omega arith, refl)
 
-line-end-requires : tie.Need-line-end-requires Inv-loop μ-loop
-line-end-requires c κs = search needs
-
-rule-bit-requires : tie.Need-rule-bit-requires Inv-loop μ-loop
-rule-bit-requires c κs = search needs
-
-add-result : tie.Need-add-result Inv-loop μ-loop
-add-result c = search needs
-
 returns : tie.Need-returns Inv-loop μ-loop
 returns c =
     let a = c .before .before .before .before .before .before .args in
     let l = c .before .before .before .before .loop in
     sym (l .inv .2 ∙ left-here (now (a .text)) (l .passed) (c .before .before .line-end .result + 1) (c .before .before .line-end .ensures) (omega arith) refl (c .before .rule-bit .ensures) (c .if1 .taken))
-
-add-passed : tie.Need-add-passed Inv-loop μ-loop
-add-passed c = search needs
-
-next-line-requires : tie.Need-next-line-requires Inv-loop μ-loop
-next-line-requires c κs = search needs
 
 loop-less : tie.Need-loop-less Inv-loop μ-loop
 loop-less c =
@@ -74,15 +59,5 @@ pub find-rule-spec : {M : Type 1} → statement M
 find-rule-spec =
     tie.close
     (tie.spec
-    Inv-loop
-    μ-loop
-    loop-holds
-    line-end-requires
-    rule-bit-requires
-    add-result
-    returns
-    add-passed
-    next-line-requires
-    loop-less
-    loop-again
-    returns-2)
+    Inv-loop μ-loop loop-holds (λ c κs. search needs) (λ c κs. search needs) (λ c. search needs) returns (λ c. search needs) (λ c κs. search needs)
+    loop-less loop-again returns-2)

@@ -7,15 +7,6 @@ use Rattle.pointing.specs.RuleAt.{rule-stops, rule-none, rule-there}
 use Rattle.pointing.proofs.ruleat.line_of_rule.Statement.{statement}
 use Rattle.pointing.proofs.ruleat.line_of_rule.Tie as tie
 
-slice-aggregate-read-lines : tie.Need-slice-aggregate-read-lines
-slice-aggregate-read-lines c = search needs
-
-slice-aggregate-read-lines-2 : tie.Need-slice-aggregate-read-lines-2
-slice-aggregate-read-lines-2 c = search needs
-
-read-lines-requires : tie.Need-read-lines-requires
-read-lines-requires c κs = search needs
-
 returns : tie.Need-returns
 returns c = let a = c .before .before .before .before .before .before .before .before .args in let r = c .before .before .before .before .read-lines in rule-stops (now (a .text)) (a .i) (file-stopped (now (a .text)) [] (r .result) (r .ensures .0) (c .if1 .taken))
 
@@ -34,9 +25,6 @@ returns-2 c =
     let f = r .ensures .1 in
     let g : Got (now (a .text)) (r .result) = got (r .ensures .0) (c .before .before .before .before .if1 .left) in
     rule-stops (now (a .text)) (a .i) (file-own (now (a .text)) [] f g (c .before .own-refusal .ensures) (c .if2 .taken))
-
-find-rule-requires : tie.Need-find-rule-requires
-find-rule-requires c κs = search needs
 
 returns-3 : tie.Need-returns-3
 returns-3 c =
@@ -58,12 +46,4 @@ pub line-of-rule-spec : {M : Type 1} → statement M
 line-of-rule-spec =
     tie.close
     (tie.spec
-    slice-aggregate-read-lines
-    slice-aggregate-read-lines-2
-    read-lines-requires
-    returns
-    own-refusal-requires
-    returns-2
-    find-rule-requires
-    returns-3
-    returns-4)
+    (λ c. search needs) (λ c. search needs) (λ c κs. search needs) returns own-refusal-requires returns-2 (λ c κs. search needs) returns-3 returns-4)

@@ -31,15 +31,6 @@ passed c =
     let size : 7 + 4 * a .clocks ≤ 23 = omega (arith, c .before .before .pre) in
     (few, mul-le-mul most size)
 
-rules-below-requires : tie.Need-rules-below-requires
-rules-below-requires c κs = search needs
-
-mul-start : tie.Need-mul-start
-mul-start c = search needs
-
-add-start : tie.Need-add-start
-add-start c = search needs
-
 mul-start-2 : tie.Need-mul-start-2
 mul-start-2 c = omega (arith, passed c)
 
@@ -67,4 +58,6 @@ returns c =
 
 pub own-rules-spec : {M : Type 1} → statement M
 own-rules-spec =
-    tie.close (tie.spec rules-below-requires mul-start add-start mul-start-2 sub-rules-level rules-level-requires returns)
+    tie.close
+    (tie.spec
+    (λ c κs. search needs) (λ c. search needs) (λ c. search needs) mul-start-2 sub-rules-level rules-level-requires returns)

@@ -30,16 +30,10 @@ sub-byte-at c = omega (arith, bytes-before (now (c .before .before .args .file))
 sub-byte-at-2 : tie.Need-sub-byte-at-2
 sub-byte-at-2 c = omega (arith, bytes-before (now (c .before .before .before .args .file)))
 
-add-byte-at : tie.Need-add-byte-at
-add-byte-at c = search needs
-
-byte-at-requires : tie.Need-byte-at-requires
-byte-at-requires c κs = search needs
-
 returns : tie.Need-returns
 returns c =
     let s = c .before .before .before .before in
     ap (λ (b : ℕ). eqb b 0) (c .byte-at .ensures .0) ∙ sym (rests-by (now (s .args .file)) (s .args .layout .reading) (s .args .location) _ (omega (arith, s .pre)) (rw (s .pre .0, s .pre .1)))
 
 pub may-rest-spec : {M : Type 1} → statement M
-may-rest-spec = tie.close (tie.spec sub-byte-at sub-byte-at-2 add-byte-at byte-at-requires returns)
+may-rest-spec = tie.close (tie.spec sub-byte-at sub-byte-at-2 (λ c. search needs) (λ c κs. search needs) returns)

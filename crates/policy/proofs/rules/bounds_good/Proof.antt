@@ -42,39 +42,6 @@ turn c =
 loop-holds : tie.Need-loop-holds Inv-loop μ-loop
 loop-holds c = (search needs, rw (mul-zero, add-zero, sub-zero))
 
-mul-pair-within : tie.Need-mul-pair-within Inv-loop μ-loop
-mul-pair-within c = search needs
-
-add-pair-within : tie.Need-add-pair-within Inv-loop μ-loop
-add-pair-within c = search needs
-
-pair-within-requires : tie.Need-pair-within-requires Inv-loop μ-loop
-pair-within-requires c κs = search needs
-
-cast-low : tie.Need-cast-low Inv-loop μ-loop
-cast-low c = search needs
-
-mul-pair-within-2 : tie.Need-mul-pair-within-2 Inv-loop μ-loop
-mul-pair-within-2 c = search needs
-
-add-pair-within-2 : tie.Need-add-pair-within-2 Inv-loop μ-loop
-add-pair-within-2 c = search needs
-
-add-pair-within-3 : tie.Need-add-pair-within-3 Inv-loop μ-loop
-add-pair-within-3 c = search needs
-
-pair-within-requires-2 : tie.Need-pair-within-requires-2 Inv-loop μ-loop
-pair-within-requires-2 c κs = search needs
-
-cast-high : tie.Need-cast-high Inv-loop μ-loop
-cast-high c = search needs
-
-mul-ceiling : tie.Need-mul-ceiling Inv-loop μ-loop
-mul-ceiling c = search needs
-
-array-read-ceiling : tie.Need-array-read-ceiling Inv-loop μ-loop
-array-read-ceiling c = search needs
-
 returns : tie.Need-returns Inv-loop μ-loop
 unfolding boundGood
 returns c = sym (turn (c .before) ∙ simp (lt-leb _ _ (c .if1 .taken)))
@@ -94,12 +61,6 @@ returns-3 c =
       le-ltb _ _ (c .before .if3 .taken),
       ne-eqb _ _ (c .if4 .taken),
     ))
-
-add-i : tie.Need-add-i Inv-loop μ-loop
-add-i c = search needs
-
-loop-less : tie.Need-loop-less Inv-loop μ-loop
-loop-less c = search needs
 
 loop-again : tie.Need-loop-again Inv-loop μ-loop
 unfolding boundGood
@@ -125,24 +86,6 @@ pub bounds-good-spec : {M : Type 1} → statement M
 bounds-good-spec =
     tie.close
     (tie.spec
-    Inv-loop
-    μ-loop
-    loop-holds
-    mul-pair-within
-    add-pair-within
-    pair-within-requires
-    cast-low
-    mul-pair-within-2
-    add-pair-within-2
-    add-pair-within-3
-    pair-within-requires-2
-    cast-high
-    mul-ceiling
-    array-read-ceiling
-    returns
-    returns-2
-    returns-3
-    add-i
-    loop-less
-    loop-again
-    returns-4)
+    Inv-loop μ-loop loop-holds (λ c. search needs) (λ c. search needs) (λ c κs. search needs) (λ c. search needs) (λ c. search needs)
+    (λ c. search needs) (λ c. search needs) (λ c κs. search needs) (λ c. search needs) (λ c. search needs) (λ c. search needs) returns returns-2
+    returns-3 (λ c. search needs) (λ c. search needs) loop-again returns-4)

@@ -85,9 +85,6 @@ past5 c =
     past4 (c .before .before .before)
     ∙ simp (← c .before .byte-within6 .ensures .0, lt-ltb _ _ (rw (one-shl _ (start5 c .pre .0 .1 .clocks)) at (c .if5 .left)))
 
-byte-within-requires : tie.Need-byte-within-requires
-byte-within-requires c κs = search needs
-
 returns : tie.Need-returns
 unfolding headGood ruleFrom
 returns c = simp (← c .before .byte-within .ensures .0, lt-leb _ _ (c .if1 .taken))
@@ -96,63 +93,18 @@ returns-2 : tie.Need-returns-2
 returns-2 c =
     let c1 = c .before .before in sym (past1 c1 ∙ simp (← c1 .before .byte-within .ensures .0, le-ltb _ _ (c .if2 .taken)))
 
-add-byte-within : tie.Need-add-byte-within
-add-byte-within c = search needs
-
-byte-within-requires-2 : tie.Need-byte-within-requires-2
-byte-within-requires-2 c κs = search needs
-
-add-byte-within-2 : tie.Need-add-byte-within-2
-add-byte-within-2 c = search needs
-
-byte-within-requires-3 : tie.Need-byte-within-requires-3
-byte-within-requires-3 c κs = search needs
-
-mask-good-requires : tie.Need-mask-good-requires
-mask-good-requires c κs = search needs
-
 returns-3 : tie.Need-returns-3
 returns-3 c =
     sym (past2 (c .before .before .before .before) ∙ simp (inputs-told (c .before) ∙ not-true _ (c .if3 .taken)))
-
-add-byte-within-3 : tie.Need-add-byte-within-3
-add-byte-within-3 c = search needs
-
-byte-within-requires-4 : tie.Need-byte-within-requires-4
-byte-within-requires-4 c κs = search needs
-
-add-byte-within-4 : tie.Need-add-byte-within-4
-add-byte-within-4 c = search needs
-
-byte-within-requires-5 : tie.Need-byte-within-requires-5
-byte-within-requires-5 c κs = search needs
-
-mask-good-requires-2 : tie.Need-mask-good-requires-2
-mask-good-requires-2 c κs = search needs
 
 returns-4 : tie.Need-returns-4
 returns-4 c =
     sym (past3 (c .before .before .before .before) ∙ simp (outputs-told (c .before) ∙ not-true _ (c .if4 .taken)))
 
-shl-if5 : tie.Need-shl-if5
-shl-if5 c = search needs
-
-add-byte-within-5 : tie.Need-add-byte-within-5
-add-byte-within-5 c = search needs
-
-byte-within-requires-6 : tie.Need-byte-within-requires-6
-byte-within-requires-6 c κs = search needs
-
 returns-5 : tie.Need-returns-5
 returns-5 c =
     let c4 = c .before .before .before in
     sym (past4 c4 ∙ simp (← c .before .byte-within6 .ensures .0, le-ltb _ _ (rw (one-shl _ (start4 c4 .pre .0 .1 .clocks)) at (c .if5 .taken))))
-
-add-byte-within-6 : tie.Need-add-byte-within-6
-add-byte-within-6 c = search needs
-
-byte-within-requires-7 : tie.Need-byte-within-requires-7
-byte-within-requires-7 c κs = search needs
 
 returns-6 : tie.Need-returns-6
 returns-6 c =
@@ -166,26 +118,6 @@ pub head-good-spec : {M : Type 1} → statement M
 head-good-spec =
     tie.close
     (tie.spec
-    byte-within-requires
-    returns
-    returns-2
-    add-byte-within
-    byte-within-requires-2
-    add-byte-within-2
-    byte-within-requires-3
-    mask-good-requires
-    returns-3
-    add-byte-within-3
-    byte-within-requires-4
-    add-byte-within-4
-    byte-within-requires-5
-    mask-good-requires-2
-    returns-4
-    shl-if5
-    add-byte-within-5
-    byte-within-requires-6
-    returns-5
-    add-byte-within-6
-    byte-within-requires-7
-    returns-6
-    returns-7)
+    (λ c κs. search needs) returns returns-2 (λ c. search needs) (λ c κs. search needs) (λ c. search needs) (λ c κs. search needs)
+    (λ c κs. search needs) returns-3 (λ c. search needs) (λ c κs. search needs) (λ c. search needs) (λ c κs. search needs) (λ c κs. search needs)
+    returns-4 (λ c. search needs) (λ c. search needs) (λ c κs. search needs) returns-5 (λ c. search needs) (λ c κs. search needs) returns-6 returns-7)

@@ -6,9 +6,6 @@ use Rattle.policy.proofs.RuleLaws.{one-shl}
 use Rattle.policy.proofs.rules.mask_good.Statement.{statement}
 use Rattle.policy.proofs.rules.mask_good.Tie as tie
 
-shl-if1 : tie.Need-shl-if1
-shl-if1 c = search needs
-
 returns : tie.Need-returns
 unfolding maskGood
 returns c = simp (lt-ltb _ _ (rw (one-shl _ (c .before .pre)) at (c .if1 .taken)))
@@ -18,4 +15,4 @@ unfolding maskGood
 returns-2 c = simp (le-ltb _ _ (rw (one-shl _ (c .before .pre)) at (c .if1 .left)))
 
 pub mask-good-spec : {M : Type 1} → statement M
-mask-good-spec = tie.close (tie.spec shl-if1 returns returns-2)
+mask-good-spec = tie.close (tie.spec (λ c. search needs) returns returns-2)

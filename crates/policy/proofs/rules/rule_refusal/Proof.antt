@@ -19,18 +19,9 @@ clocks s =
     let four : length (map (λ (c : ℕ). c) cs) ≡ 4 = s .good .1 .1 .0 .1 .1 .1 .1 .1 .1 .0 .1 .0 .1 in
     length-take-le (s .args .shape .clocks) cs (omega (arith, length-map cs (λ (c : ℕ). c)))
 
-head-good-requires : tie.Need-head-good-requires
-head-good-requires c κs = search needs
-
 returns : tie.Need-returns
 unfolding ruleRefusal
 returns c = simp (clocks (c .before .before .before), sym (c .before .head-good .ensures) ∙ not-true _ (c .if1 .taken))
-
-add-bounds-good : tie.Need-add-bounds-good
-add-bounds-good c = search needs
-
-bounds-good-requires : tie.Need-bounds-good-requires
-bounds-good-requires c κs = search needs
 
 returns-2 : tie.Need-returns-2
 unfolding ruleRefusal ruleFrom
@@ -53,6 +44,4 @@ returns-3 c =
     )
 
 pub rule-refusal-spec : {M : Type 1} → statement M
-rule-refusal-spec =
-    tie.close
-    (tie.spec head-good-requires returns add-bounds-good bounds-good-requires returns-2 returns-3)
+rule-refusal-spec = tie.close (tie.spec (λ c κs. search needs) returns (λ c. search needs) (λ c κs. search needs) returns-2 returns-3)

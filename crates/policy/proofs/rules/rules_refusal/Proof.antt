@@ -52,12 +52,6 @@ within : (c : tie.In-loop Inv-loop μ-loop) →
 within c =
     omega (arith, mul-le-mul-right (ruleSize (c .before .before .before .before .args .shape .clocks)) (c .loop-test .taken))
 
-mul-size : tie.Need-mul-size Inv-loop μ-loop
-mul-size c = search needs
-
-add-size : tie.Need-add-size Inv-loop μ-loop
-add-size c = search needs
-
 loop-holds : tie.Need-loop-holds Inv-loop μ-loop
 loop-holds c = (search needs, search needs, search needs, rw sub-zero)
 
@@ -69,15 +63,6 @@ returns c = sym (turn (c .before) ∙ first-refused _ _ (c .if1 .taken))
 
 byte-within-requires : tie.Need-byte-within-requires Inv-loop μ-loop
 byte-within-requires c κs = omega (arith, within (c .before .before))
-
-add-at : tie.Need-add-at Inv-loop μ-loop
-add-at c = search needs
-
-add-i : tie.Need-add-i Inv-loop μ-loop
-add-i c = search needs
-
-loop-less : tie.Need-loop-less Inv-loop μ-loop
-loop-less c = search needs
 
 loop-again : tie.Need-loop-again Inv-loop μ-loop
 loop-again c = (
@@ -97,16 +82,5 @@ pub rules-refusal-spec : {M : Type 1} → statement M
 rules-refusal-spec =
     tie.close
     (tie.spec
-    Inv-loop
-    μ-loop
-    mul-size
-    add-size
-    loop-holds
-    rule-refusal-requires
-    returns
-    byte-within-requires
-    add-at
-    add-i
-    loop-less
-    loop-again
-    returns-2)
+    Inv-loop μ-loop (λ c. search needs) (λ c. search needs) loop-holds rule-refusal-requires returns byte-within-requires (λ c. search needs)
+    (λ c. search needs) (λ c. search needs) loop-again returns-2)

@@ -28,39 +28,15 @@ fits c =
     let a = c .before .before .before .before .before .args in
     section-fits (now (a .file)) (a .at) 2 _ 0 256 (ruleSize (a .shape .clocks)) (sym (c .before .section-refusal .ensures) ∙ c .if1 .left)
 
-pair-at-requires : tie.Need-pair-at-requires
-pair-at-requires c κs = search needs
-
-mul-size : tie.Need-mul-size
-mul-size c = search needs
-
-add-size : tie.Need-add-size
-add-size c = search needs
-
-section-refusal-requires : tie.Need-section-refusal-requires
-section-refusal-requires c κs = search needs
-
 returns : tie.Need-returns
 unfolding rulesSectionRefusal
 returns c = simp (known (c .before)) (sym (first-refused _ _ (c .if1 .taken)))
-
-add-rules-refusal : tie.Need-add-rules-refusal
-add-rules-refusal c = search needs
-
-add-rules-refusal-2 : tie.Need-add-rules-refusal-2
-add-rules-refusal-2 c = search needs
 
 mul-rules-refusal : tie.Need-mul-rules-refusal
 mul-rules-refusal c = omega (arith, fits c)
 
 add-rules-refusal-3 : tie.Need-add-rules-refusal-3
 add-rules-refusal-3 c = omega (arith, fits c)
-
-sub-rules-refusal : tie.Need-sub-rules-refusal
-sub-rules-refusal c = search needs
-
-part-rules-refusal-start : tie.Need-part-rules-refusal-start
-part-rules-refusal-start c = search needs
 
 part-rules-refusal-end : tie.Need-part-rules-refusal-end
 part-rules-refusal-end c = omega (arith, fits c)
@@ -83,17 +59,5 @@ pub rules-section-refusal-spec : {M : Type 1} → statement M
 rules-section-refusal-spec =
     tie.close
     (tie.spec
-    pair-at-requires
-    mul-size
-    add-size
-    section-refusal-requires
-    returns
-    add-rules-refusal
-    add-rules-refusal-2
-    mul-rules-refusal
-    add-rules-refusal-3
-    sub-rules-refusal
-    part-rules-refusal-start
-    part-rules-refusal-end
-    rules-refusal-requires
-    returns-2)
+    (λ c κs. search needs) (λ c. search needs) (λ c. search needs) (λ c κs. search needs) returns (λ c. search needs) (λ c. search needs)
+    mul-rules-refusal add-rules-refusal-3 (λ c. search needs) (λ c. search needs) part-rules-refusal-end rules-refusal-requires returns-2)

@@ -19,30 +19,6 @@ loop-holds : tie.Need-loop-holds Inv-loop μ-loop
 unfolding pairsFrom
 loop-holds c = (search needs, refl)
 
-mul-pair-at : tie.Need-mul-pair-at Inv-loop μ-loop
-mul-pair-at c = search needs
-
-add-pair-at : tie.Need-add-pair-at Inv-loop μ-loop
-add-pair-at c = search needs
-
-pair-at-requires : tie.Need-pair-at-requires Inv-loop μ-loop
-pair-at-requires c κs = search needs
-
-cast-ceilings : tie.Need-cast-ceilings Inv-loop μ-loop
-cast-ceilings c = search needs
-
-mul-ceilings : tie.Need-mul-ceilings Inv-loop μ-loop
-mul-ceilings c = search needs
-
-array-write-ceilings : tie.Need-array-write-ceilings Inv-loop μ-loop
-array-write-ceilings c = search needs
-
-add-i : tie.Need-add-i Inv-loop μ-loop
-add-i c = search needs
-
-loop-less : tie.Need-loop-less Inv-loop μ-loop
-loop-less c = search needs
-
 loop-again : tie.Need-loop-again Inv-loop μ-loop
 loop-again c =
     (search needs, rw (c .before .before .loop .inv .1, c .pair-at .ensures .0) (pairs-more _ _ _ (omega arith)))
@@ -54,16 +30,5 @@ pub ceilings-of-spec : {M : Type 1} → statement M
 ceilings-of-spec =
     tie.close
     (tie.spec
-    Inv-loop
-    μ-loop
-    loop-holds
-    mul-pair-at
-    add-pair-at
-    pair-at-requires
-    cast-ceilings
-    mul-ceilings
-    array-write-ceilings
-    add-i
-    loop-less
-    loop-again
-    returns)
+    Inv-loop μ-loop loop-holds (λ c. search needs) (λ c. search needs) (λ c κs. search needs) (λ c. search needs) (λ c. search needs)
+    (λ c. search needs) (λ c. search needs) (λ c. search needs) loop-again returns)

@@ -24,18 +24,9 @@ judged c = cc
 fits : (c : tie.Else1) → c .before .before .byte-at .result ≤ 4
 fits c = section-fits _ _ _ _ _ _ _ (sym (c .before .section-refusal .ensures) ∙ c .if1 .left) .1
 
-byte-at-requires : tie.Need-byte-at-requires
-byte-at-requires c κs = search needs
-
-section-refusal-requires : tie.Need-section-refusal-requires
-section-refusal-requires c κs = search needs
-
 returns : tie.Need-returns
 unfolding clocksRefusal
 returns c = rw (← counted (c .before), first-refused _ _ (c .if1 .taken))
-
-add-ceilings-good : tie.Need-add-ceilings-good
-add-ceilings-good c = search needs
 
 ceilings-good-requires : tie.Need-ceilings-good-requires
 ceilings-good-requires c κs = omega (arith, fits c)
@@ -54,10 +45,4 @@ pub clocks-refusal-spec : {M : Type 1} → statement M
 clocks-refusal-spec =
     tie.close
     (tie.spec
-    byte-at-requires
-    section-refusal-requires
-    returns
-    add-ceilings-good
-    ceilings-good-requires
-    returns-2
-    returns-3)
+    (λ c κs. search needs) (λ c κs. search needs) returns (λ c. search needs) ceilings-good-requires returns-2 returns-3)

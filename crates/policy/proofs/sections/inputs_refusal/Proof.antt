@@ -27,33 +27,12 @@ judged c = c .tags-good .ensures ∙ rw add-sub-cancel-left (cc)
 fits : (c : tie.Else1) → 1 + c .before .before .byte-at .result * 1 ≤ length (now (c .before .before .before .before .args .file))
 fits c = section-fits _ _ _ _ _ _ _ (sym (c .before .section-refusal .ensures) ∙ c .if1 .left) .2
 
-byte-at-requires : tie.Need-byte-at-requires
-byte-at-requires c κs = search needs
-
-section-refusal-requires : tie.Need-section-refusal-requires
-section-refusal-requires c κs = search needs
-
 returns : tie.Need-returns
 unfolding inputsRefusal
 returns c = rw (← counted (c .before), first-refused _ _ (c .if1 .taken))
 
-slice-aggregate-tags-good : tie.Need-slice-aggregate-tags-good
-slice-aggregate-tags-good c = search needs
-
-add-tags-good : tie.Need-add-tags-good
-add-tags-good c = search needs
-
-sub-tags-good : tie.Need-sub-tags-good
-sub-tags-good c = search needs
-
-part-tags-good-start : tie.Need-part-tags-good-start
-part-tags-good-start c = search needs
-
 part-tags-good-end : tie.Need-part-tags-good-end
 part-tags-good-end c = omega (arith, fits (c .before))
-
-tags-good-requires : tie.Need-tags-good-requires
-tags-good-requires c κs = search needs
 
 returns-2 : tie.Need-returns-2
 unfolding inputsRefusal
@@ -69,14 +48,5 @@ pub inputs-refusal-spec : {M : Type 1} → statement M
 inputs-refusal-spec =
     tie.close
     (tie.spec
-    byte-at-requires
-    section-refusal-requires
-    returns
-    slice-aggregate-tags-good
-    add-tags-good
-    sub-tags-good
-    part-tags-good-start
-    part-tags-good-end
-    tags-good-requires
-    returns-2
-    returns-3)
+    (λ c κs. search needs) (λ c κs. search needs) returns (λ c. search needs) (λ c. search needs) (λ c. search needs) (λ c. search needs)
+    part-tags-good-end (λ c κs. search needs) returns-2 returns-3)

@@ -27,36 +27,12 @@ fits : (c : tie.Else1) →
     c .before .before .before .before .args .at + 1 + c .before .before .byte-at .result * 1 ≤ length (now (c .before .before .before .before .args .file))
 fits c = section-fits _ _ _ _ _ _ _ (sym (c .before .section-refusal .ensures) ∙ c .if1 .left) .2
 
-byte-at-requires : tie.Need-byte-at-requires
-byte-at-requires c κs = search needs
-
-section-refusal-requires : tie.Need-section-refusal-requires
-section-refusal-requires c κs = search needs
-
 returns : tie.Need-returns
 unfolding locationsRefusal
 returns c = rw (← counted (c .before), first-refused _ _ (c .if1 .taken))
 
-add-locations-good : tie.Need-add-locations-good
-add-locations-good c = search needs
-
-add-locations-good-2 : tie.Need-add-locations-good-2
-add-locations-good-2 c = search needs
-
-add-locations-good-3 : tie.Need-add-locations-good-3
-add-locations-good-3 c = search needs
-
-sub-locations-good : tie.Need-sub-locations-good
-sub-locations-good c = search needs
-
-part-locations-good-start : tie.Need-part-locations-good-start
-part-locations-good-start c = search needs
-
 part-locations-good-end : tie.Need-part-locations-good-end
 part-locations-good-end c = omega (arith, fits c)
-
-locations-good-requires : tie.Need-locations-good-requires
-locations-good-requires c κs = search needs
 
 returns-2 : tie.Need-returns-2
 unfolding locationsRefusal
@@ -72,15 +48,5 @@ pub locations-refusal-spec : {M : Type 1} → statement M
 locations-refusal-spec =
     tie.close
     (tie.spec
-    byte-at-requires
-    section-refusal-requires
-    returns
-    add-locations-good
-    add-locations-good-2
-    add-locations-good-3
-    sub-locations-good
-    part-locations-good-start
-    part-locations-good-end
-    locations-good-requires
-    returns-2
-    returns-3)
+    (λ c κs. search needs) (λ c κs. search needs) returns (λ c. search needs) (λ c. search needs) (λ c. search needs) (λ c. search needs)
+    (λ c. search needs) part-locations-good-end (λ c κs. search needs) returns-2 returns-3)

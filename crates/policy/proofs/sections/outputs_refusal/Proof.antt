@@ -34,9 +34,6 @@ fits : (c : tie.Else1) →
     a .args .at + 1 + c .before .before .byte-at .result * 1 ≤ length (now (a .args .file))
 fits c = section-fits _ _ _ _ _ _ _ (sym (c .before .section-refusal .ensures) ∙ c .if1 .left) .2
 
-byte-at-requires : tie.Need-byte-at-requires
-byte-at-requires c κs = search needs
-
 section-refusal-requires : tie.Need-section-refusal-requires
 section-refusal-requires c κs = omega (arith, place (c .before .before))
 
@@ -46,12 +43,6 @@ returns c = rw (← counted (c .before), first-refused _ _ (c .if1 .taken))
 
 add-tags-good : tie.Need-add-tags-good
 add-tags-good c = omega (arith, place (c .before .before .before .before))
-
-sub-tags-good : tie.Need-sub-tags-good
-sub-tags-good c = search needs
-
-part-tags-good-start : tie.Need-part-tags-good-start
-part-tags-good-start c = search needs
 
 part-tags-good-end : tie.Need-part-tags-good-end
 part-tags-good-end c = omega (arith, place (c .before .before .before .before))
@@ -65,17 +56,8 @@ add-tags-good-3 c = omega (arith, fits (c .before))
 add-tags-good-4 : tie.Need-add-tags-good-4
 add-tags-good-4 c = omega (arith, fits (c .before))
 
-sub-tags-good-2 : tie.Need-sub-tags-good-2
-sub-tags-good-2 c = search needs
-
-part-tags-good-start-2 : tie.Need-part-tags-good-start-2
-part-tags-good-start-2 c = search needs
-
 part-tags-good-end-2 : tie.Need-part-tags-good-end-2
 part-tags-good-end-2 c = omega (arith, fits (c .before))
-
-tags-good-requires : tie.Need-tags-good-requires
-tags-good-requires c κs = search needs
 
 returns-2 : tie.Need-returns-2
 unfolding outputsRefusal
@@ -91,19 +73,5 @@ pub outputs-refusal-spec : {M : Type 1} → statement M
 outputs-refusal-spec =
     tie.close
     (tie.spec
-    byte-at-requires
-    section-refusal-requires
-    returns
-    add-tags-good
-    sub-tags-good
-    part-tags-good-start
-    part-tags-good-end
-    add-tags-good-2
-    add-tags-good-3
-    add-tags-good-4
-    sub-tags-good-2
-    part-tags-good-start-2
-    part-tags-good-end-2
-    tags-good-requires
-    returns-2
-    returns-3)
+    (λ c κs. search needs) section-refusal-requires returns add-tags-good (λ c. search needs) (λ c. search needs) part-tags-good-end add-tags-good-2
+    add-tags-good-3 add-tags-good-4 (λ c. search needs) (λ c. search needs) part-tags-good-end-2 (λ c κs. search needs) returns-2 returns-3)

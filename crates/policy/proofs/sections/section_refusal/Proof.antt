@@ -12,9 +12,6 @@ use Rattle.policy.proofs.sections.section_refusal.Tie as tie
 area : (c : tie.Else3) → c .before .before .before .args .n * c .before .before .before .args .size ≤ 65536 * 65536
 area c = mul-le-mul {n₂ = 65536} {m₂ = 65536} (omega arith) (omega arith)
 
-add-if1 : tie.Need-add-if1
-add-if1 c = search needs
-
 returns : tie.Need-returns
 unfolding sectionRefusal
 returns c = simp (lt-leb _ _ (c .if1 .taken))
@@ -27,9 +24,6 @@ returns-3 : tie.Need-returns-3
 unfolding sectionRefusal
 returns-3 c =
     simp (le-leb _ _ (c .before .before .if1 .left), le-leb _ _ (c .before .if2 .left), lt-leb _ _ (c .if3 .taken))
-
-add-if4 : tie.Need-add-if4
-add-if4 c = search needs
 
 mul-if4 : tie.Need-mul-if4
 mul-if4 c = omega (arith, area c)
@@ -60,6 +54,4 @@ returns-5 c =
     )
 
 pub section-refusal-spec : {M : Type 1} → statement M
-section-refusal-spec =
-    tie.close
-    (tie.spec add-if1 returns returns-2 returns-3 add-if4 mul-if4 add-if4-2 returns-4 returns-5)
+section-refusal-spec = tie.close (tie.spec (λ c. search needs) returns returns-2 returns-3 (λ c. search needs) mul-if4 add-if4-2 returns-4 returns-5)

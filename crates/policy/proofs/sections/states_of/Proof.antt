@@ -20,15 +20,6 @@ loop-holds : tie.Need-loop-holds Inv-loop μ-loop
 unfolding statesOf
 loop-holds c = search needs
 
-mul-states : tie.Need-mul-states Inv-loop μ-loop
-mul-states c = search needs
-
-array-read-states : tie.Need-array-read-states Inv-loop μ-loop
-array-read-states c = search needs
-
-cast-states : tie.Need-cast-states Inv-loop μ-loop
-cast-states c = search needs
-
 add-states : tie.Need-add-states Inv-loop μ-loop
 add-states c = omega (arith, c .before .before .pre .2 (c .before .loop .i) (c .loop-test .taken))
 
@@ -43,12 +34,6 @@ mul-states-2 c =
       states-fit (a .args .t1) {k = i + 1} {l = a .args .locations} (λ j h. a .pre .2 j (omega arith)) (a .pre .1) (omega arith),
     )
 
-add-i : tie.Need-add-i Inv-loop μ-loop
-add-i c = search needs
-
-loop-less : tie.Need-loop-less Inv-loop μ-loop
-loop-less c = search needs
-
 loop-again : tie.Need-loop-again Inv-loop μ-loop
 loop-again c = (search needs, rw (c .before .loop .inv .1, states-more))
 
@@ -59,15 +44,5 @@ pub states-of-spec : {M : Type 1} → statement M
 states-of-spec =
     tie.close
     (tie.spec
-    Inv-loop
-    μ-loop
-    loop-holds
-    mul-states
-    array-read-states
-    cast-states
-    add-states
-    mul-states-2
-    add-i
-    loop-less
-    loop-again
-    returns)
+    Inv-loop μ-loop loop-holds (λ c. search needs) (λ c. search needs) (λ c. search needs) add-states mul-states-2 (λ c. search needs)
+    (λ c. search needs) loop-again returns)

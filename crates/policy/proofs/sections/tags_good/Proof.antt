@@ -21,9 +21,6 @@ abbrev μ-loop : tie.MeasureT-loop
 loop-holds : tie.Need-loop-holds Inv-loop μ-loop
 loop-holds c = (search needs, rw append-nil)
 
-shared-slice-read-t : tie.Need-shared-slice-read-t Inv-loop μ-loop
-shared-slice-read-t c = search needs
-
 returns : tie.Need-returns Inv-loop μ-loop
 returns c =
     let l = c .before .before in
@@ -38,9 +35,6 @@ returns-2 c =
       le-leb _ _ (c .before .if1 .left),
       lt-leb _ _ (c .if2 .taken),
     )
-
-is-among-requires : tie.Need-is-among-requires Inv-loop μ-loop
-is-among-requires c κs = search needs
 
 returns-3 : tie.Need-returns-3 Inv-loop μ-loop
 returns-3 c =
@@ -57,9 +51,6 @@ returns-3 c =
 slice-aggregate-is-among : tie.Need-slice-aggregate-is-among Inv-loop μ-loop
 slice-aggregate-is-among c = sym (length-take-le _ _ (omega arith))
 
-is-among-requires-2 : tie.Need-is-among-requires-2 Inv-loop μ-loop
-is-among-requires-2 c κs = search needs
-
 returns-4 : tie.Need-returns-4 Inv-loop μ-loop
 returns-4 c =
     let w = c .before .before .before in
@@ -73,12 +64,6 @@ returns-4 c =
       sym (w .before .is-among .ensures) ∙ w .if3 .left,
       sym (c .before .is-among2 .ensures) ∙ c .if4 .taken,
     )
-
-add-i : tie.Need-add-i Inv-loop μ-loop
-add-i c = search needs
-
-loop-less : tie.Need-loop-less Inv-loop μ-loop
-loop-less c = search needs
 
 loop-again : tie.Need-loop-again Inv-loop μ-loop
 loop-again c =
@@ -103,18 +88,5 @@ pub tags-good-spec : {M : Type 1} → statement M
 tags-good-spec =
     tie.close
     (tie.spec
-    Inv-loop
-    μ-loop
-    loop-holds
-    shared-slice-read-t
-    returns
-    returns-2
-    is-among-requires
-    returns-3
-    slice-aggregate-is-among
-    is-among-requires-2
-    returns-4
-    add-i
-    loop-less
-    loop-again
-    returns-5)
+    Inv-loop μ-loop loop-holds (λ c. search needs) returns returns-2 (λ c κs. search needs) returns-3 slice-aggregate-is-among (λ c κs. search needs)
+    returns-4 (λ c. search needs) (λ c. search needs) loop-again returns-5)

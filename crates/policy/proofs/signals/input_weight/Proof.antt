@@ -4,12 +4,9 @@ use Rattle.policy.specs.Signals.{inputWeight}
 use Rattle.policy.proofs.signals.input_weight.Statement.{statement}
 use Rattle.policy.proofs.signals.input_weight.Tie as tie
 
-weight-at-requires : tie.Need-weight-at-requires
-weight-at-requires c κs = search needs
-
 returns : tie.Need-returns
 unfolding inputWeight
 returns c = c .weight-at .ensures
 
 pub input-weight-spec : {M : Type 1} → statement M
-input-weight-spec = tie.close (tie.spec weight-at-requires returns)
+input-weight-spec = tie.close (tie.spec (λ c κs. search needs) returns)

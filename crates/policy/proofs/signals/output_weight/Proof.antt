@@ -8,15 +8,6 @@ use Rattle.policy.specs.Signals.{weightAt, outputWeight}
 use Rattle.policy.proofs.signals.output_weight.Statement.{statement}
 use Rattle.policy.proofs.signals.output_weight.Tie as tie
 
-byte-at-requires : tie.Need-byte-at-requires
-byte-at-requires c κs = search needs
-
-add-weight-at : tie.Need-add-weight-at
-add-weight-at c = search needs
-
-weight-at-requires : tie.Need-weight-at-requires
-weight-at-requires c κs = search needs
-
 returns : tie.Need-returns
 unfolding outputsAt outputWeight
 returns c =
@@ -24,4 +15,4 @@ returns c =
     c .weight-at .ensures ∙ ap (λ (n : ℕ). weightAt (now (a .file)) (1 + n) (a .tag)) (c .before .byte-at .ensures .0)
 
 pub output-weight-spec : {M : Type 1} → statement M
-output-weight-spec = tie.close (tie.spec byte-at-requires add-weight-at weight-at-requires returns)
+output-weight-spec = tie.close (tie.spec (λ c κs. search needs) (λ c. search needs) (λ c κs. search needs) returns)

@@ -23,12 +23,6 @@ Inv-loop file at tag count start weight₀ i₀ weight i =
 abbrev μ-loop : tie.MeasureT-loop
 μ-loop file at tag count start weight₀ i₀ weight i = 4 - i
 
-byte-at-requires : tie.Need-byte-at-requires Inv-loop μ-loop
-byte-at-requires c κs = search needs
-
-add-start : tie.Need-add-start Inv-loop μ-loop
-add-start c = search needs
-
 loop-holds : tie.Need-loop-holds Inv-loop μ-loop
 loop-holds c = (zero-le, refl, one-mul _, c .byte-at .ensures .0, refl)
 
@@ -81,12 +75,6 @@ mul-weight c =
     let p = pow-le-pow-right {n = 2} (omega arith) h in
     omega (arith, l .inv .1, p)
 
-add-i : tie.Need-add-i Inv-loop μ-loop
-add-i c = search needs
-
-loop-less : tie.Need-loop-less Inv-loop μ-loop
-loop-less c = search needs
-
 twice : (w i : ℕ) → w ≡ 2 ^ i → w * 2 ≡ 2 ^ (i + 1)
 twice w i e = let n : i + 1 ≡ suc i = omega arith in rw (n, pow-suc 2 i, e)
 
@@ -110,19 +98,5 @@ pub weight-at-spec : {M : Type 1} → statement M
 weight-at-spec =
     tie.close
     (tie.spec
-    Inv-loop
-    μ-loop
-    byte-at-requires
-    add-start
-    loop-holds
-    returns
-    add-if2
-    returns-2
-    add-if3
-    shared-slice-read-if3
-    returns-3
-    mul-weight
-    add-i
-    loop-less
-    loop-again
-    returns-4)
+    Inv-loop μ-loop (λ c κs. search needs) (λ c. search needs) loop-holds returns add-if2 returns-2 add-if3 shared-slice-read-if3 returns-3 mul-weight
+    (λ c. search needs) (λ c. search needs) loop-again returns-4)

@@ -18,9 +18,6 @@ may c = allowed _ _ _ _ _ _ (sym (c .before .before .before .before .before .ref
 laid : (c : tie.Else1) → let a = c .before .before .before .before .before .before .before .before .before .before .before .before .before .args in Granted (a .reading) (now (a .file)) (now (a .marks)) (c .before .before .before .before .before .before .before .before .check-under .result .layout)
 laid c = granted-laid _ (c .before .before .before .before .before .before .before .before .check-under .ensures) (may c .no-early)
 
-check-under-requires : tie.Need-check-under-requires
-check-under-requires c κs = search needs
-
 refusal-requires : tie.Need-refusal-requires
 refusal-requires c κs = (c .before .before .check-under .ensures, c .before .before .before .before .before .before .before .pre .0, c .before .before .before .before .before .before .before .pre .1)
 
@@ -68,16 +65,5 @@ pub explain-spec : {M : Type 1} → statement M
 explain-spec =
     tie.close
     (tie.spec
-    check-under-requires
-    refusal-requires
-    same-length
-    same-length-2
-    returns
-    slice-reshare-prefix-reasons
-    slice-aggregate-reasons
-    slice-reshare-prefix-reasons-2
-    slice-aggregate-reasons-2
-    reasons-requires
-    same-length-3
-    same-length-4
-    returns-2)
+    (λ c κs. search needs) refusal-requires same-length same-length-2 returns slice-reshare-prefix-reasons slice-aggregate-reasons
+    slice-reshare-prefix-reasons-2 slice-aggregate-reasons-2 reasons-requires same-length-3 same-length-4 returns-2)

@@ -3,9 +3,6 @@ use borrow.Author.Needs.{needs}
 use Rattle.reasons.proofs.halves.reasons.Statement.{statement}
 use Rattle.reasons.proofs.halves.reasons.Tie as tie
 
-own-of-requires : tie.Need-own-of-requires
-own-of-requires c κs = search needs
-
 tell-requires : tie.Need-tell-requires
 tell-requires c κs =
     let s = c .before .before .before .before .before in
@@ -15,4 +12,4 @@ returns : tie.Need-returns
 returns c = c .before .tell .ensures .0
 
 pub reasons-spec : {M : Type 1} → statement M
-reasons-spec = tie.close (tie.spec own-of-requires tell-requires returns)
+reasons-spec = tie.close (tie.spec (λ c κs. search needs) tell-requires returns)

@@ -52,21 +52,6 @@ is-next c =
     ∙ output-state _ _ _ _ (s .args .state) z (s .args .y) (passed-in _ (laid-well (h .laid)) _ (s .pre .0 .1) _ (h .inside) (s .pre .0 .2) (s .args .x) (s .args .y)) (s .pre .1 .2)
     (released _ (laid-well (h .laid)) _ (s .pre .0 .1) _ (h .inside) (s .pre .0 .2) (s .args .x) (s .args .y) .1)
 
-here-by-requires : tie.Need-here-by-requires
-here-by-requires c κs = search needs
-
-input-by-requires : tie.Need-input-by-requires
-input-by-requires c κs = search needs
-
-value-or-requires : tie.Need-value-or-requires
-value-or-requires c κs = search needs
-
-output-by-requires : tie.Need-output-by-requires
-output-by-requires c κs = search needs
-
-value-or-requires-2 : tie.Need-value-or-requires-2
-value-or-requires-2 c κs = search needs
-
 for-input-requires : tie.Need-for-input-requires
 for-input-requires c κs =
     let s = c .before .before .before .before .before .before .before .before .before in
@@ -109,11 +94,5 @@ pub tell-spec : {M : Type 1} → statement M
 tell-spec =
     tie.close
     (tie.spec
-    here-by-requires
-    input-by-requires
-    value-or-requires
-    output-by-requires
-    value-or-requires-2
-    for-input-requires
-    for-output-requires
-    returns)
+    (λ c κs. search needs) (λ c κs. search needs) (λ c κs. search needs) (λ c κs. search needs) (λ c κs. search needs) for-input-requires
+    for-output-requires returns)

@@ -72,9 +72,6 @@ ticks-back c = let s = c .before .before .before .before .before .before .before
 rests-back : (c : tie.After-count) → let a = c .before .before .before .before .before .before .before .before .before .before .before .before .args in length (c .count .last .1 .1 .1 .1 .0 ++ drop (a .checked .layout .states) (now (a .rests))) ≡ length (now (a .rests))
 rests-back c = let s = c .before .before .before .before .before .before .before .before .before .before .before .before in back-length (laid (c .before .before .before .before .before .before) .laid) (now (s .args .rests)) (room (laid (c .before .before .before .before .before .before) .laid) (now (s .args .rests)) (s .pre .2)) (c .count .last .1 .1 .1 .1 .0) (c .count .kept .1 .1 .1 .1 .0)
 
-marks-refusal-requires : tie.Need-marks-refusal-requires
-marks-refusal-requires c κs = search needs
-
 returns : tie.Need-returns
 returns c = by-marks _ _ _ _ _ _ _ _ (marked (c .before)) (c .if1 .taken)
 
@@ -155,26 +152,6 @@ pub refusal-spec : {M : Type 1} → statement M
 refusal-spec =
     tie.close
     (tie.spec
-    marks-refusal-requires
-    returns
-    state-refusal-requires
-    returns-2
-    slice-relend-prefix-count
-    slice-aggregate-count
-    slice-relend-prefix-count-2
-    slice-aggregate-count-2
-    count-requires
-    same-length
-    same-length-2
-    returns-3
-    values-requires
-    same-length-3
-    same-length-4
-    returns-4
-    values-requires-2
-    same-length-5
-    same-length-6
-    returns-5
-    same-length-7
-    same-length-8
-    returns-6)
+    (λ c κs. search needs) returns state-refusal-requires returns-2 slice-relend-prefix-count slice-aggregate-count slice-relend-prefix-count-2
+    slice-aggregate-count-2 count-requires same-length same-length-2 returns-3 values-requires same-length-3 same-length-4 returns-4 values-requires-2
+    same-length-5 same-length-6 returns-5 same-length-7 same-length-8 returns-6)

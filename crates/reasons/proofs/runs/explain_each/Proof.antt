@@ -20,9 +20,6 @@ abbrev μ-loop : tie.MeasureT-loop
 loop-holds : tie.Need-loop-holds Inv-loop μ-loop
 loop-holds c = c .before .before .before .before .before .before .before .pre .0 .0
 
-shared-slice-read-event : tie.Need-shared-slice-read-event Inv-loop μ-loop
-shared-slice-read-event c = search needs
-
 own-at-requires : tie.Need-own-at-requires Inv-loop μ-loop
 own-at-requires c κs =
     let l = c .before .before in
@@ -56,17 +53,11 @@ add-i : tie.Need-add-i Inv-loop μ-loop
 add-i c =
     let l = c .before .before .before .before .before .before .before in omega (arith, inside (c .before), l .loop .inv .long, l .before .before .before .before .before .before .before .before .good)
 
-loop-less : tie.Need-loop-less Inv-loop μ-loop
-loop-less c = search needs
-
 loop-again : tie.Need-loop-again Inv-loop μ-loop
 loop-again c =
     let l = c .before .before .before .before .before .before .before in
     let t = c .before .before .before .tell .ensures in
     walking-turn (l .loop .inv) (l .before .before .before .before .before .before .before .before .pre .1 .0) (c .before .before .before .before .before .before .loop-test .taken) (inside (c .before)) (t .0) (c .before .both .ensures) (t .1)
-
-same-length : tie.Need-same-length Inv-loop μ-loop
-same-length c = search needs
 
 returns : tie.Need-returns Inv-loop μ-loop
 returns c = walking-ends (c .before .loop .inv) (c .loop-test .left)
@@ -75,17 +66,5 @@ pub explain-each-spec : {M : Type 1} → statement M
 explain-each-spec =
     tie.close
     (tie.spec
-    Inv-loop
-    μ-loop
-    loop-holds
-    shared-slice-read-event
-    own-at-requires
-    tell-requires
-    both-requires
-    mul-words
-    slice-write-words
-    add-i
-    loop-less
-    loop-again
-    same-length
-    returns)
+    Inv-loop μ-loop loop-holds (λ c. search needs) own-at-requires tell-requires both-requires mul-words slice-write-words add-i (λ c. search needs)
+    loop-again (λ c. search needs) returns)

@@ -29,19 +29,10 @@ starts s =
     (ap (λ (z : Place). isMarked (now (s .args .marks)) (numberOf (policyOf (s .args .layout .reading) (now (s .args .file))) z)) (laid-place k (s .args .state)) ∙ g .1)
     (good-back k (s .args .state) (clocks s) (g .0))
 
-refused-requires : tie.Need-refused-requires
-refused-requires c κs = search needs
-
 returns : tie.Need-returns
 returns c =
     let s = c .before .before .before .before .before .before .before .before in
     λ work z. rw (c .refused .ensures) (answers-no _ _ _ _ _ _ work (run-20 _ _ _ _ _ _ work z (sym (s .pre .0 .1) ∙ c .before .if1 .taken)) (λ e. omega arith))
-
-events-good-requires : tie.Need-events-good-requires
-events-good-requires c κs = search needs
-
-refused-requires-2 : tie.Need-refused-requires-2
-refused-requires-2 c κs = search needs
 
 returns-2 : tie.Need-returns-2
 returns-2 c =
@@ -60,9 +51,6 @@ explain-all-requires c κs =
       (marks-prepared (policyOf (s .args .layout .reading) (now (s .args .file))) (now (s .args .marks)) (sym (s .pre .0 .1) ∙ f .before .if1 .left), s .pre .0 .2, sym (f .events-good .ensures) ∙ not-false _ (c .before .if2 .left)),
     )
 
-same-length : tie.Need-same-length
-same-length c = search needs
-
 returns-3 : tie.Need-returns-3
 returns-3 c =
     let g = c .before .before .explain-all .ensures in
@@ -77,11 +65,4 @@ pub explained-spec : {M : Type 1} → statement M
 explained-spec =
     tie.close
     (tie.spec
-    refused-requires
-    returns
-    events-good-requires
-    refused-requires-2
-    returns-2
-    explain-all-requires
-    same-length
-    returns-3)
+    (λ c κs. search needs) returns (λ c κs. search needs) (λ c κs. search needs) returns-2 explain-all-requires (λ c. search needs) returns-3)

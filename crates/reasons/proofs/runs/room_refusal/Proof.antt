@@ -26,9 +26,6 @@ counted c =
     let k : Granted (s .args .reading) (now (s .args .file)) (now (s .args .marks)) (s .args .checked .layout) = granted-laid _ (s .pre) (passed c) in
     k .laid .states ∙ ap (λ (r : ℕ). states (policyOf r (now (s .args .file)))) (k .named)
 
-marks-refusal-requires : tie.Need-marks-refusal-requires
-marks-refusal-requires c κs = search needs
-
 returns : tie.Need-returns
 returns c = sym (room-first _ _ _ _ _ _ (marked (c .before)) (c .if1 .taken))
 
@@ -44,4 +41,4 @@ returns-4 c =
     let e = c .before .before .before in sym (room-0 _ _ _ _ _ _ (passed e) (omega (arith, c .before .if2 .left, counted e)) (omega (arith, c .if3 .left)))
 
 pub room-refusal-spec : {M : Type 1} → statement M
-room-refusal-spec = tie.close (tie.spec marks-refusal-requires returns returns-2 returns-3 returns-4)
+room-refusal-spec = tie.close (tie.spec (λ c κs. search needs) returns returns-2 returns-3 returns-4)

@@ -3,27 +3,6 @@ use borrow.Author.Needs.{needs}
 use Rattle.reasons.proofs.runs.shortest.Statement.{statement}
 use Rattle.reasons.proofs.runs.shortest.Tie as tie
 
-least-requires : tie.Need-least-requires
-least-requires c κs = search needs
-
-least-requires-2 : tie.Need-least-requires-2
-least-requires-2 c κs = search needs
-
-least-requires-3 : tie.Need-least-requires-3
-least-requires-3 c κs = search needs
-
-least-requires-4 : tie.Need-least-requires-4
-least-requires-4 c κs = search needs
-
-least-requires-5 : tie.Need-least-requires-5
-least-requires-5 c κs = search needs
-
-least-requires-6 : tie.Need-least-requires-6
-least-requires-6 c κs = search needs
-
-least-requires-7 : tie.Need-least-requires-7
-least-requires-7 c κs = search needs
-
 returns : tie.Need-returns
 returns c =
     rw (
@@ -37,4 +16,8 @@ returns c =
     )
 
 pub shortest-spec : {M : Type 1} → statement M
-shortest-spec = tie.close (tie.spec least-requires least-requires-2 least-requires-3 least-requires-4 least-requires-5 least-requires-6 least-requires-7 returns)
+shortest-spec =
+    tie.close
+    (tie.spec
+    (λ c κs. search needs) (λ c κs. search needs) (λ c κs. search needs) (λ c κs. search needs) (λ c κs. search needs) (λ c κs. search needs)
+    (λ c κs. search needs) returns)

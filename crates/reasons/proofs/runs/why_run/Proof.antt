@@ -1,6 +1,6 @@
 -- `reasons::runs::why_run` meets its contract: the refusals in their order; the tables are made once, and each event is explained by them.
 use mathlib.Core.Path.{_≡_, refl, sym, ap, subst, _∙_}
-use mathlib.Core.List.{List, _++_}
+use mathlib.Core.List.{_++_}
 use Prim.Native.Nat.{ℕ, _≤_}
 use lib.ListN.{length, drop}
 use lib.Seq.{length-take-le}
@@ -95,18 +95,6 @@ rests-fits t =
     let e = past t .before .before .before in
     back-fits (laid e .laid) (now (start e .args .rests)) (enough e .rests) (t .count-in .last .1 .1 .1 .1 .0) (t .count-in .kept .1 .1 .1 .1 .0)
 
-check-under-requires : tie.Need-check-under-requires
-check-under-requires c κs = search needs
-
-shortest-requires : tie.Need-shortest-requires
-shortest-requires c κs = search needs
-
-room-refusal-requires : tie.Need-room-refusal-requires
-room-refusal-requires c κs = search needs
-
-refused-requires : tie.Need-refused-requires
-refused-requires c κs = search needs
-
 returns : tie.Need-returns
 returns c =
     let t = c .before .if1 .taken in
@@ -115,9 +103,6 @@ returns c =
 
 state-refusal-requires : tie.Need-state-refusal-requires
 state-refusal-requires c κs = let k = laid (c .before) in (k .laid, k .enough)
-
-refused-requires-2 : tie.Need-refused-requires-2
-refused-requires-2 c κs = search needs
 
 returns-2 : tie.Need-returns-2
 returns-2 c =
@@ -175,33 +160,6 @@ explained-requires c κs =
       (k .enough, sym (d .before .state-refusal .ensures) ∙ d .if2 .left, passed e .2),
     )
 
-same-length : tie.Need-same-length
-same-length c = search needs
-
-same-length-2 : tie.Need-same-length-2
-same-length-2 c = search needs
-
-same-length-3 : tie.Need-same-length-3
-same-length-3 c = search needs
-
-same-length-4 : tie.Need-same-length-4
-same-length-4 c = search needs
-
-same-length-5 : tie.Need-same-length-5
-same-length-5 c = search needs
-
-same-length-6 : tie.Need-same-length-6
-same-length-6 c = search needs
-
-same-length-7 : tie.Need-same-length-7
-same-length-7 c = search needs
-
-same-length-8 : tie.Need-same-length-8
-same-length-8 c = search needs
-
-same-length-9 : tie.Need-same-length-9
-same-length-9 c = search needs
-
 returns-3 : tie.Need-returns-3
 returns-3 c =
     let x = c .before .before .explained in
@@ -221,31 +179,8 @@ pub why-run-spec : {M : Type 1} → statement M
 why-run-spec =
     tie.close
     (tie.spec
-    check-under-requires
-    shortest-requires
-    room-refusal-requires
-    refused-requires
-    returns
-    state-refusal-requires
-    refused-requires-2
-    returns-2
-    slice-relend-prefix-count-in
-    slice-aggregate-count-in
-    slice-relend-prefix-count-in-2
-    slice-aggregate-count-in-2
-    count-in-requires
-    slice-reshare-prefix-explained
-    slice-aggregate-explained
-    slice-reshare-prefix-explained-2
-    slice-aggregate-explained-2
-    explained-requires
-    same-length
-    same-length-2
-    same-length-3
-    same-length-4
-    same-length-5
-    same-length-6
-    same-length-7
-    same-length-8
-    same-length-9
-    returns-3)
+    (λ c κs. search needs) (λ c κs. search needs) (λ c κs. search needs) (λ c κs. search needs) returns state-refusal-requires (λ c κs. search needs)
+    returns-2 slice-relend-prefix-count-in slice-aggregate-count-in slice-relend-prefix-count-in-2 slice-aggregate-count-in-2 count-in-requires
+    slice-reshare-prefix-explained slice-aggregate-explained slice-reshare-prefix-explained-2 slice-aggregate-explained-2 explained-requires
+    (λ c. search needs) (λ c. search needs) (λ c. search needs) (λ c. search needs) (λ c. search needs) (λ c. search needs) (λ c. search needs)
+    (λ c. search needs) (λ c. search needs) returns-3)

@@ -41,12 +41,6 @@ mul-to-2 c = omega (arith, fits (c .before))
 add-to-2 : tie.Need-add-to-2
 add-to-2 c = omega (arith, fits (c .before))
 
-sub-first-rule : tie.Need-sub-first-rule
-sub-first-rule c = search needs
-
-part-first-rule-start : tie.Need-part-first-rule-start
-part-first-rule-start c = search needs
-
 part-first-rule-end : tie.Need-part-first-rule-end
 part-first-rule-end c = omega (arith, fits (c .before))
 
@@ -75,13 +69,4 @@ pub decided-spec : {M : Type 1} → statement M
 decided-spec =
     tie.close
     (tie.spec
-    add-from
-    mul-to
-    add-to
-    mul-to-2
-    add-to-2
-    sub-first-rule
-    part-first-rule-start
-    part-first-rule-end
-    first-rule-requires
-    returns)
+    add-from mul-to add-to mul-to-2 add-to-2 (λ c. search needs) (λ c. search needs) part-first-rule-end first-rule-requires returns)

@@ -1,6 +1,6 @@
 -- `reasons::tell::left_at` meets its contract, by the two tables.
 use mathlib.Core.Path.{_≡_, sym, ap, _∙_}
-use Prim.Native.Nat.{_-_, _<_}
+use Prim.Native.Nat.{_<_}
 use native.Mathlib.Omega.{arith}
 use lib.ListN.{getD}
 use Rattle.policy.specs.File.{policyOf}
@@ -23,32 +23,14 @@ rested c = let s = c .before .before .before .before .before .before .before .be
 some-left : (c : tie.Then2) → let a = c .before .before .before .before .before .before .before .before .before .before .before .args in 0 < getD (now (a .rests)) (a .number) 0
 some-left c = let s = c .before .before .before .before .before .before .before .before .before .before .before in rests-some (laid-well (s .pre .0)) (s .pre .1) (s .pre .2) (s .pre .3) (rested (c .before) ∙ c .if2 .taken)
 
-mul-k : tie.Need-mul-k
-mul-k c = search needs
-
-shared-slice-read-k : tie.Need-shared-slice-read-k
-shared-slice-read-k c = search needs
-
 sub-t14 : tie.Need-sub-t14
 sub-t14 c = let s = c .before .before .before .before .before in omega (arith, counted-ticks (laid-well (s .pre .0)) (s .pre .1) (s .pre .2) (c .if1 .taken) .1)
-
-cast-t15 : tie.Need-cast-t15
-cast-t15 c = search needs
 
 returns : tie.Need-returns
 returns c = let s = c .before .before .before .before .before in counted-ticks (laid-well (s .pre .0)) (s .pre .1) (s .pre .2) (c .if1 .taken) .0
 
 numbered-requires : tie.Need-numbered-requires
 numbered-requires c κs = let s = c .before .before .before .before .before .before in omega (arith, s .pre .2, laid-well (s .pre .0) .states)
-
-mul-all : tie.Need-mul-all
-mul-all c = search needs
-
-shared-slice-read-all : tie.Need-shared-slice-read-all
-shared-slice-read-all c = search needs
-
-cast-may-rest : tie.Need-cast-may-rest
-cast-may-rest c = search needs
 
 may-rest-requires : tie.Need-may-rest-requires
 may-rest-requires c κs =
@@ -83,18 +65,5 @@ pub left-at-spec : {M : Type 1} → statement M
 left-at-spec =
     tie.close
     (tie.spec
-    mul-k
-    shared-slice-read-k
-    sub-t14
-    cast-t15
-    returns
-    numbered-requires
-    mul-all
-    shared-slice-read-all
-    cast-may-rest
-    may-rest-requires
-    sub-t19
-    cast-t20
-    cast-t21
-    returns-2
-    returns-3)
+    (λ c. search needs) (λ c. search needs) sub-t14 (λ c. search needs) returns numbered-requires (λ c. search needs) (λ c. search needs)
+    (λ c. search needs) may-rest-requires sub-t19 cast-t20 cast-t21 returns-2 returns-3)

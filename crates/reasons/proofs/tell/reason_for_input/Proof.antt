@@ -72,15 +72,4 @@ pub reason-for-input-spec : {M : Type 1} → statement M
 reason-for-input-spec =
     tie.close
     (tie.spec
-    Inv-loop
-    μ-loop
-    values-requires
-    reason-of-requires
-    loop-holds
-    cast-loop
-    reason-of-requires-2
-    better-requires
-    add-y
-    loop-less
-    loop-again
-    returns)
+    Inv-loop μ-loop values-requires reason-of-requires loop-holds cast-loop reason-of-requires-2 better-requires add-y loop-less loop-again returns)

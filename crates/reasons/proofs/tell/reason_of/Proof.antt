@@ -54,15 +54,6 @@ leads : (c : tie.Else1) →
     (ruleFrom (a .layout .clocks) (now (a .file)) (a .layout .«rules_start» + a .here .own .start + c .before .before .before .before .before .before .before .i .given .0 .0 * ruleSize (a .layout .clocks))) true (c .before .before .next-of .result .number)
 leads c = led-as (not-false _ (c .if1 .left)) (c .before .before .next-of .ensures)
 
-decided-requires : tie.Need-decided-requires
-decided-requires c κs = search needs
-
-enum-told : tie.Need-enum-told
-enum-told c = search needs
-
-enum-known-i : tie.Need-enum-known-i
-enum-known-i c = search needs
-
 mul-size : tie.Need-mul-size
 mul-size c = omega (arith, laid-limits (c .before .before .before .before .before .before .before .before .pre .0 .0))
 
@@ -82,9 +73,6 @@ next-of-requires : tie.Need-next-of-requires
 next-of-requires c κs =
     let s = c .before .before .before .before .before .before .before .before .before .before in
     (s .pre .0 .0, s .pre .0 .2, rule-there (s .pre .0 .0) (s .pre .0 .1) (eventXY (s .args .x) (s .args .y)) (found (c .before .before .before) .0))
-
-div-t18 : tie.Need-div-t18
-div-t18 c = search needs
 
 add-t19 : tie.Need-add-t19
 add-t19 c = let s = c .before .before .before .before .before .before .before .before .before .before .before .before .before .before in omega (arith, rule-few (s .pre .0 .0) (s .pre .0 .1) (eventXY (s .args .x) (s .args .y)) (found (c .before .before .before .before .before .before .before) .0))
@@ -120,18 +108,5 @@ pub reason-of-spec : {M : Type 1} → statement M
 reason-of-spec =
     tie.close
     (tie.spec
-    decided-requires
-    enum-told
-    enum-known-i
-    mul-size
-    add-size
-    add-next-of
-    mul-next-of
-    add-next-of-2
-    next-of-requires
-    div-t18
-    add-t19
-    returns
-    left-at-requires
-    returns-2
-    returns-3)
+    (λ c κs. search needs) (λ c. search needs) (λ c. search needs) mul-size add-size add-next-of mul-next-of add-next-of-2 next-of-requires
+    (λ c. search needs) add-t19 returns left-at-requires returns-2 returns-3)

@@ -8,20 +8,8 @@ use Rattle.texts.specs.Decimal.{decimal-one}
 use Rattle.rule_text.proofs.limits.put_digits.Statement.{statement}
 use Rattle.rule_text.proofs.limits.put_digits.Tie as tie
 
-cast-digit : tie.Need-cast-digit
-cast-digit c = search needs
-
-add-digit : tie.Need-add-digit
-add-digit c = search needs
-
-slice-aggregate-put-bytes : tie.Need-slice-aggregate-put-bytes
-slice-aggregate-put-bytes c = search needs
-
 put-bytes-requires : tie.Need-put-bytes-requires
 put-bytes-requires c κs = let a = c .before .before .before .before .args in omega (arith, ap length (decimal-one (a .n) (omega arith)))
-
-same-length : tie.Need-same-length
-same-length c = search needs
 
 returns : tie.Need-returns
 returns c =
@@ -29,16 +17,12 @@ returns c =
     let same : a .n % 10 ≡ a .n = omega arith in
     rw (decimal-one (a .n) (omega arith), same) (c .before .before .put-bytes .ensures)
 
-put-decimal-requires : tie.Need-put-decimal-requires
-put-decimal-requires c κs = search needs
-
-same-length-2 : tie.Need-same-length-2
-same-length-2 c = search needs
-
 returns-2 : tie.Need-returns-2
 returns-2 c = c .before .before .put-decimal .ensures
 
 pub put-digits-spec : {M : Type 1} → statement M
 put-digits-spec =
     tie.close
-    (tie.spec cast-digit add-digit slice-aggregate-put-bytes put-bytes-requires same-length returns put-decimal-requires same-length-2 returns-2)
+    (tie.spec
+    (λ c. search needs) (λ c. search needs) (λ c. search needs) put-bytes-requires (λ c. search needs) returns (λ c κs. search needs)
+    (λ c. search needs) returns-2)

@@ -6,14 +6,8 @@ use Rattle.texts.specs.Decimal.{decimal-short}
 use Rattle.rule_text.proofs.limits.put_name.Statement.{statement}
 use Rattle.rule_text.proofs.limits.put_name.Tie as tie
 
-put-bytes-requires : tie.Need-put-bytes-requires
-put-bytes-requires c κs = search needs
-
 put-digits-requires : tie.Need-put-digits-requires
 put-digits-requires c κs = omega (arith, c .before .before .before .put-bytes .ensures .next, decimal-short (c .before .before .before .before .before .before .before .args .n) 4 (omega arith))
-
-same-length : tie.Need-same-length
-same-length c = search needs
 
 returns : tie.Need-returns
 returns c =
@@ -23,4 +17,4 @@ returns c =
     (wrote-then (omega arith) (p .ensures) (q .ensures), omega (arith, p .ensures .next, q .ensures .next, decimal-short (a .n) 4 (omega arith)))
 
 pub put-name-spec : {M : Type 1} → statement M
-put-name-spec = tie.close (tie.spec put-bytes-requires put-digits-requires same-length returns)
+put-name-spec = tie.close (tie.spec (λ c κs. search needs) put-digits-requires (λ c. search needs) returns)

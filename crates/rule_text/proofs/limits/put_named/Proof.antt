@@ -8,14 +8,8 @@ use Rattle.texts.specs.WroteLaws.{wrote-then}
 use Rattle.rule_text.proofs.limits.put_named.Statement.{statement}
 use Rattle.rule_text.proofs.limits.put_named.Tie as tie
 
-put-bytes-requires : tie.Need-put-bytes-requires
-put-bytes-requires c κs = search needs
-
 put-number-requires : tie.Need-put-number-requires
 put-number-requires c κs = let p = c .before .before .before .put-bytes in (omega arith, omega (arith, p .ensures .next))
-
-same-length : tie.Need-same-length
-same-length c = search needs
 
 returns : tie.Need-returns
 returns c =
@@ -25,4 +19,4 @@ returns c =
     (rw (append-assoc (now (a .before)) (decimal (a .n)) (now (a .after))) (wrote-then (omega arith) (p .ensures) (q .ensures .0)), omega (arith, p .ensures .next, q .ensures .1))
 
 pub put-named-spec : {M : Type 1} → statement M
-put-named-spec = tie.close (tie.spec put-bytes-requires put-number-requires same-length returns)
+put-named-spec = tie.close (tie.spec (λ c κs. search needs) put-number-requires (λ c. search needs) returns)

@@ -12,9 +12,6 @@ put-digits-requires c κs = omega (arith, decimal-short (c .before .before .befo
 put-bytes-requires : tie.Need-put-bytes-requires
 put-bytes-requires c κs = omega (arith, c .before .before .before .put-digits .ensures .next, decimal-short (c .before .before .before .before .before .before .before .args .n) 4 (omega arith))
 
-same-length : tie.Need-same-length
-same-length c = search needs
-
 returns : tie.Need-returns
 returns c =
     let a = c .before .before .before .before .before .before .before .before .before .before .args in
@@ -23,4 +20,4 @@ returns c =
     (wrote-then (omega arith) (p .ensures) (q .ensures), omega (arith, p .ensures .next, q .ensures .next, decimal-short (a .n) 4 (omega arith)))
 
 pub put-number-spec : {M : Type 1} → statement M
-put-number-spec = tie.close (tie.spec put-digits-requires put-bytes-requires same-length returns)
+put-number-spec = tie.close (tie.spec put-digits-requires put-bytes-requires (λ c. search needs) returns)

@@ -1,8 +1,7 @@
 -- `rule_text::rule::put_conditions` meets its contract: nothing was written where the position is the same.
-use mathlib.Core.Path.{_≡_, subst}
-use mathlib.Core.List.{List, _++_}
+use mathlib.Core.Path.{subst}
+use mathlib.Core.List.{List}
 use native.Mathlib.Omega.{arith}
-use lib.ListN.{length}
 use denote.Ref.{now}
 use borrow.Author.Needs.{needs}
 use Rattle.policy.specs.File.{ruleFrom}
@@ -12,27 +11,12 @@ use Rattle.rule_text.specs.Pieces.{conditionText, any-other, any-alone}
 use Rattle.rule_text.proofs.rule.put_conditions.Statement.{statement}
 use Rattle.rule_text.proofs.rule.put_conditions.Tie as tie
 
-put-asked-requires : tie.Need-put-asked-requires
-put-asked-requires c κs = search needs
-
-same-length : tie.Need-same-length
-same-length c = search needs
-
 returns : tie.Need-returns
 returns c =
     let a = c .before .before .before .before .before .before .before .before .before .args in
     let p = c .before .before .before .put-asked in
     let t = conditionText (now (a .inputs)) (now (a .outputs)) (ruleFrom (a .clocks) (now (a .file)) (a .rule)) in
     (subst (λ (z : List _). Wrote (now (a .text)) (a .at) z (p .result) (p .last .0)) (any-other t (λ e. c .if1 .taken (omega (arith, p .ensures .0 .next)))) (p .ensures .0), omega arith)
-
-slice-aggregate-put-bytes : tie.Need-slice-aggregate-put-bytes
-slice-aggregate-put-bytes c = search needs
-
-put-bytes-requires : tie.Need-put-bytes-requires
-put-bytes-requires c κs = search needs
-
-same-length-2 : tie.Need-same-length-2
-same-length-2 c = search needs
 
 returns-2 : tie.Need-returns-2
 returns-2 c =
@@ -46,10 +30,4 @@ pub put-conditions-spec : {M : Type 1} → statement M
 put-conditions-spec =
     tie.close
     (tie.spec
-    put-asked-requires
-    same-length
-    returns
-    slice-aggregate-put-bytes
-    put-bytes-requires
-    same-length-2
-    returns-2)
+    (λ c κs. search needs) (λ c. search needs) returns (λ c. search needs) (λ c κs. search needs) (λ c. search needs) returns-2)

@@ -7,15 +7,6 @@ use Rattle.texts.specs.WroteLaws.{wrote-none}
 use Rattle.rule_text.proofs.rule.put_reset.Statement.{statement}
 use Rattle.rule_text.proofs.rule.put_reset.Tie as tie
 
-slice-aggregate-put-name : tie.Need-slice-aggregate-put-name
-slice-aggregate-put-name c = search needs
-
-put-name-requires : tie.Need-put-name-requires
-put-name-requires c κs = search needs
-
-same-length : tie.Need-same-length
-same-length c = search needs
-
 returns : tie.Need-returns
 returns c = (rw (eq-eqb (c .before .before .before .before .before .before .before .args .mask % 2) 1 (c .before .before .before .before .before .if1 .taken)) (c .before .before .put-name .ensures .0), omega arith)
 
@@ -23,5 +14,4 @@ returns-2 : tie.Need-returns-2
 returns-2 c = (rw (ne-eqb (c .before .before .args .mask % 2) 1 (c .if1 .left)) (wrote-none _ _), omega arith)
 
 pub put-reset-spec : {M : Type 1} → statement M
-put-reset-spec =
-    tie.close (tie.spec slice-aggregate-put-name put-name-requires same-length returns returns-2)
+put-reset-spec = tie.close (tie.spec (λ c. search needs) (λ c κs. search needs) (λ c. search needs) returns returns-2)

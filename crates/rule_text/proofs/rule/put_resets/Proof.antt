@@ -1,7 +1,6 @@
 -- `rule_text::rule::put_resets` meets its contract. The invariant: the first i clocks are looked at, in at most 7 bytes each.
 use Prim.Native.Nat.{_+_, _*_, _-_, _≤_}
 use native.Mathlib.Omega.{arith}
-use denote.Ref.{now}
 use borrow.Author.Needs.{needs}
 use Rattle.texts.specs.Under.{LinesUnder, under-start, under-all, under-on}
 use Rattle.wording.specs.Writer.{resetNames}
@@ -18,15 +17,6 @@ abbrev μ-loop : tie.MeasureT-loop
 loop-holds : tie.Need-loop-holds Inv-loop μ-loop
 loop-holds c = (omega arith, omega arith, under-start _ _ _)
 
-put-reset-requires : tie.Need-put-reset-requires Inv-loop μ-loop
-put-reset-requires c κs = search needs
-
-add-i : tie.Need-add-i Inv-loop μ-loop
-add-i c = search needs
-
-loop-less : tie.Need-loop-less Inv-loop μ-loop
-loop-less c = search needs
-
 loop-again : tie.Need-loop-again Inv-loop μ-loop
 loop-again c =
     let p = c .before .before .put-reset in
@@ -36,9 +26,6 @@ loop-again c =
       omega arith,
       under-on (omega arith) (l .inv .2) (resets-turn (a .clocks) (l .i) (l .mask-on) (omega arith)) (p .ensures .0) (p .kept .0),
     )
-
-same-length : tie.Need-same-length Inv-loop μ-loop
-same-length c = search needs
 
 returns : tie.Need-returns Inv-loop μ-loop
 returns c =
@@ -50,12 +37,4 @@ pub put-resets-spec : {M : Type 1} → statement M
 put-resets-spec =
     tie.close
     (tie.spec
-    Inv-loop
-    μ-loop
-    loop-holds
-    put-reset-requires
-    add-i
-    loop-less
-    loop-again
-    same-length
-    returns)
+    Inv-loop μ-loop loop-holds (λ c κs. search needs) (λ c. search needs) (λ c. search needs) loop-again (λ c. search needs) returns)

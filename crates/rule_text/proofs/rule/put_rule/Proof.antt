@@ -10,33 +10,6 @@ use Rattle.rule_text.specs.Pieces.{rule-made}
 use Rattle.rule_text.proofs.rule.put_rule.Statement.{statement}
 use Rattle.rule_text.proofs.rule.put_rule.Tie as tie
 
-add-byte-within : tie.Need-add-byte-within
-add-byte-within c = search needs
-
-byte-within-requires : tie.Need-byte-within-requires
-byte-within-requires c κs = search needs
-
-add-byte-within-2 : tie.Need-add-byte-within-2
-add-byte-within-2 c = search needs
-
-byte-within-requires-2 : tie.Need-byte-within-requires-2
-byte-within-requires-2 c κs = search needs
-
-slice-aggregate-put-bytes : tie.Need-slice-aggregate-put-bytes
-slice-aggregate-put-bytes c = search needs
-
-put-bytes-requires : tie.Need-put-bytes-requires
-put-bytes-requires c κs = search needs
-
-put-conditions-requires : tie.Need-put-conditions-requires
-put-conditions-requires c κs = search needs
-
-put-ending-requires : tie.Need-put-ending-requires
-put-ending-requires c κs = search needs
-
-same-length : tie.Need-same-length
-same-length c = search needs
-
 returns : tie.Need-returns
 returns c =
     let a = c .before .before .before .before .before .before .before .before .before .before .before .before .before .before .before .before .before .before .before .args in
@@ -49,13 +22,5 @@ pub put-rule-spec : {M : Type 1} → statement M
 put-rule-spec =
     tie.close
     (tie.spec
-    add-byte-within
-    byte-within-requires
-    add-byte-within-2
-    byte-within-requires-2
-    slice-aggregate-put-bytes
-    put-bytes-requires
-    put-conditions-requires
-    put-ending-requires
-    same-length
-    returns)
+    (λ c. search needs) (λ c κs. search needs) (λ c. search needs) (λ c κs. search needs) (λ c. search needs) (λ c κs. search needs)
+    (λ c κs. search needs) (λ c κs. search needs) (λ c. search needs) returns)

@@ -25,18 +25,6 @@ abbrev μ-loop : tie.MeasureT-loop
 loop-holds : tie.Need-loop-holds Inv-loop μ-loop
 loop-holds c = (omega arith, refl, omega arith, halved-none _, halved-none _, rw (trail-none) (wrote-none _ _))
 
-shared-slice-read-put-signal : tie.Need-shared-slice-read-put-signal Inv-loop μ-loop
-shared-slice-read-put-signal c = search needs
-
-put-signal-requires : tie.Need-put-signal-requires Inv-loop μ-loop
-put-signal-requires c κs = search needs
-
-add-i : tie.Need-add-i Inv-loop μ-loop
-add-i c = search needs
-
-loop-less : tie.Need-loop-less Inv-loop μ-loop
-loop-less c = search needs
-
 loop-again : tie.Need-loop-again Inv-loop μ-loop
 loop-again c =
     let p = c .before .before .put-signal in
@@ -56,9 +44,6 @@ loop-again c =
       rw (trail-more i (now (a .tags)) (a .care) (a .value) (omega arith)) (wrote-then (omega arith) (l .loop .inv .5) one),
     )
 
-same-length : tie.Need-same-length Inv-loop μ-loop
-same-length c = search needs
-
 returns : tie.Need-returns Inv-loop μ-loop
 returns c =
     let l = c .before in
@@ -68,4 +53,6 @@ returns c =
 pub put-signals-spec : {M : Type 1} → statement M
 put-signals-spec =
     tie.close
-    (tie.spec Inv-loop μ-loop loop-holds shared-slice-read-put-signal put-signal-requires add-i loop-less loop-again same-length returns)
+    (tie.spec
+    Inv-loop μ-loop loop-holds (λ c. search needs) (λ c κs. search needs) (λ c. search needs) (λ c. search needs) loop-again (λ c. search needs)
+    returns)

@@ -5,32 +5,8 @@ use borrow.Author.Needs.{needs}
 use Rattle.showing.proofs.declared.put_place.Statement.{statement}
 use Rattle.showing.proofs.declared.put_place.Tie as tie
 
-slice-aggregate-put-named : tie.Need-slice-aggregate-put-named
-slice-aggregate-put-named c = search needs
-
-slice-aggregate-put-named-2 : tie.Need-slice-aggregate-put-named-2
-slice-aggregate-put-named-2 c = search needs
-
-put-named-requires : tie.Need-put-named-requires
-put-named-requires c κs = search needs
-
-same-length : tie.Need-same-length
-same-length c = search needs
-
 returns : tie.Need-returns
 returns c = (rw (eq-eqb (c .before .before .before .before .before .before .before .before .args .byte) 1 (c .before .before .before .before .before .before .if1 .taken)) (c .before .before .put-named .ensures .0), omega arith)
-
-slice-aggregate-put-named-3 : tie.Need-slice-aggregate-put-named-3
-slice-aggregate-put-named-3 c = search needs
-
-slice-aggregate-put-named-4 : tie.Need-slice-aggregate-put-named-4
-slice-aggregate-put-named-4 c = search needs
-
-put-named-requires-2 : tie.Need-put-named-requires-2
-put-named-requires-2 c κs = search needs
-
-same-length-2 : tie.Need-same-length-2
-same-length-2 c = search needs
 
 returns-2 : tie.Need-returns-2
 returns-2 c = (rw (ne-eqb (c .before .before .before .before .before .before .before .before .args .byte) 1 (c .before .before .before .before .before .before .if1 .left)) (c .before .before .put-named2 .ensures .0), omega arith)
@@ -39,13 +15,5 @@ pub put-place-spec : {M : Type 1} → statement M
 put-place-spec =
     tie.close
     (tie.spec
-    slice-aggregate-put-named
-    slice-aggregate-put-named-2
-    put-named-requires
-    same-length
-    returns
-    slice-aggregate-put-named-3
-    slice-aggregate-put-named-4
-    put-named-requires-2
-    same-length-2
-    returns-2)
+    (λ c. search needs) (λ c. search needs) (λ c κs. search needs) (λ c. search needs) returns (λ c. search needs) (λ c. search needs)
+    (λ c κs. search needs) (λ c. search needs) returns-2)

@@ -1,9 +1,7 @@
 -- `showing::lines::put_line` meets its contract: the part that the line is of, and the line.
 use mathlib.Core.Path.{_≡_, refl, ap, _∙_}
-use mathlib.Core.List.{List}
-use Prim.Native.Nat.{ℕ, _+_, _-_, _*_, _≤_}
+use Prim.Native.Nat.{_+_, _-_, _*_}
 use native.Mathlib.Omega.{arith}
-use lib.ListN.{length}
 use denote.Ref.{now}
 use borrow.Author.Needs.{needs}
 use Rattle.policy.specs.File.{byteAt, pairAt, inputCount, outputCount, clockCount, locationCount}
@@ -13,21 +11,9 @@ use Rattle.showing.specs.Lines.{framed, ruleLine, input-line, output-lin
 use Rattle.showing.proofs.lines.put_line.Statement.{statement}
 use Rattle.showing.proofs.lines.put_line.Tie as tie
 
-slice-aggregate-put-tag : tie.Need-slice-aggregate-put-tag
-slice-aggregate-put-tag c = search needs
-
-add-put-tag : tie.Need-add-put-tag
-add-put-tag c = search needs
-
 shared-slice-read-put-tag : tie.Need-shared-slice-read-put-tag
 shared-slice-read-put-tag c =
     omega (arith, c .before .before .before .before .before .before .before .pre, framed (c .before .before .before .before .before .before .before .pre .0), c .before .before .before .if1 .taken)
-
-put-tag-requires : tie.Need-put-tag-requires
-put-tag-requires c κs = search needs
-
-same-length : tie.Need-same-length
-same-length c = search needs
 
 returns : tie.Need-returns
 returns c =
@@ -38,9 +24,6 @@ returns c =
     let k = framed (s .pre .0) in
     (record { line = tagPiece (ascii "input") (byteAt f (1 + i)); turn = input-line f k i refl (omega (arith, s .pre .0, c .before .before .before .before .before .before .if1 .taken)); wrote = c .before .before .put-tag .ensures .0 }, omega (arith, c .before .before .put-tag .ensures .1))
 
-slice-aggregate-put-tag-2 : tie.Need-slice-aggregate-put-tag-2
-slice-aggregate-put-tag-2 c = search needs
-
 add-put-tag-2 : tie.Need-add-put-tag-2
 add-put-tag-2 c =
     omega (arith, c .before .before .before .before .before .before .before .before .before .pre, framed (c .before .before .before .before .before .before .before .before .before .pre .0), c .before .before .if2 .taken, c .before .before .before .before .before .if1 .left)
@@ -48,12 +31,6 @@ add-put-tag-2 c =
 shared-slice-read-put-tag-2 : tie.Need-shared-slice-read-put-tag-2
 shared-slice-read-put-tag-2 c =
     omega (arith, c .before .before .before .before .before .before .before .before .before .before .pre, framed (c .before .before .before .before .before .before .before .before .before .before .pre .0), c .before .before .before .if2 .taken, c .before .before .before .before .before .before .if1 .left)
-
-put-tag-requires-2 : tie.Need-put-tag-requires-2
-put-tag-requires-2 c κs = search needs
-
-same-length-2 : tie.Need-same-length-2
-same-length-2 c = search needs
 
 returns-2 : tie.Need-returns-2
 returns-2 c =
@@ -89,9 +66,6 @@ pair-within-requires c κs =
 put-clock-requires : tie.Need-put-clock-requires
 put-clock-requires c κs =
     omega (arith, c .before .before .before .before .before .before .before .before .before .before .before .before .before .before .pre, framed (c .before .before .before .before .before .before .before .before .before .before .before .before .before .before .pre .0), c .before .before .if3 .taken, c .before .pair-within .ensures .1)
-
-same-length-3 : tie.Need-same-length-3
-same-length-3 c = search needs
 
 returns-3 : tie.Need-returns-3
 returns-3 c =
@@ -131,9 +105,6 @@ put-place-requires : tie.Need-put-place-requires
 put-place-requires c κs =
     omega (arith, c .before .before .before .before .before .before .before .before .before .before .before .before .before .before .before .before .before .before .pre, framed (c .before .before .before .before .before .before .before .before .before .before .before .before .before .before .before .before .before .before .pre .0), c .before .before .before .if4 .taken)
 
-same-length-4 : tie.Need-same-length-4
-same-length-4 c = search needs
-
 returns-4 : tie.Need-returns-4
 returns-4 c =
     let s = c .before .before .before .before .before .before .before .before .before .before .before .before .before .before .before .before .before .before .before .before .before in
@@ -153,9 +124,6 @@ returns-4 c =
 put-ruled-requires : tie.Need-put-ruled-requires
 put-ruled-requires c κs =
     let s = c .before .before .before .before .before .before .before .before .before .before .before .before .before .before .before .before .before in (s .pre .0, omega (arith, s .pre, c .before .before .before .before .before .before .before .before .before .before .before .before .before .if1 .left, c .before .before .before .before .before .before .before .before .before .before .if2 .left, c .before .before .before .before .before .if3 .left, c .before .before .if4 .left), s .pre .2)
-
-same-length-5 : tie.Need-same-length-5
-same-length-5 c = search needs
 
 returns-5 : tie.Need-returns-5
 returns-5 c =
@@ -178,34 +146,7 @@ pub put-line-spec : {M : Type 1} → statement M
 put-line-spec =
     tie.close
     (tie.spec
-    slice-aggregate-put-tag
-    add-put-tag
-    shared-slice-read-put-tag
-    put-tag-requires
-    same-length
-    returns
-    slice-aggregate-put-tag-2
-    add-put-tag-2
-    shared-slice-read-put-tag-2
-    put-tag-requires-2
-    same-length-2
-    returns-2
-    add-ceilings
-    add-ceilings-2
-    mul-pair-within
-    add-pair-within
-    pair-within-requires
-    put-clock-requires
-    same-length-3
-    returns-3
-    mul-byte
-    add-byte
-    add-byte-2
-    add-byte-3
-    shared-slice-read-byte
-    put-place-requires
-    same-length-4
-    returns-4
-    put-ruled-requires
-    same-length-5
-    returns-5)
+    (λ c. search needs) (λ c. search needs) shared-slice-read-put-tag (λ c κs. search needs) (λ c. search needs) returns (λ c. search needs)
+    add-put-tag-2 shared-slice-read-put-tag-2 (λ c κs. search needs) (λ c. search needs) returns-2 add-ceilings add-ceilings-2 mul-pair-within
+    add-pair-within pair-within-requires put-clock-requires (λ c. search needs) returns-3 mul-byte add-byte add-byte-2 add-byte-3
+    shared-slice-read-byte put-place-requires (λ c. search needs) returns-4 put-ruled-requires (λ c. search needs) returns-5)

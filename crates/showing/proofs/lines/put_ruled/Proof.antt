@@ -1,16 +1,14 @@
 -- `showing::lines::put_ruled` meets its contract: the rule's parts of the file, its `at`, its line.
-use mathlib.Core.Path.{_≡_, refl, subst, _∙_}
+use mathlib.Core.Path.{refl, subst, _∙_}
 use mathlib.Core.List.{List}
-use Prim.Native.Nat.{ℕ, _+_, _-_, _≤_}
+use Prim.Native.Nat.{ℕ, _+_, _-_}
 use native.Mathlib.Omega.{arith}
-use lib.ListN.{length}
 use denote.Ref.{now}
 use borrow.Author.Needs.{needs}
-use Rattle.policy.specs.File.{ruleSize}
 use Rattle.policy.specs.Frame.{longest}
 use Rattle.texts.specs.Wrote.{Wrote}
 use Rattle.texts.specs.WroteLaws.{wrote-then}
-use Rattle.showing.specs.Lines.{framed, ruleAt, rule-position, rule-within, rule-by}
+use Rattle.showing.specs.Lines.{framed, rule-position, rule-within, rule-by}
 use Rattle.showing.proofs.lines.put_ruled.Statement.{statement}
 use Rattle.showing.proofs.lines.put_ruled.Tie as tie
 
@@ -18,16 +16,10 @@ rule-at-requires : tie.Need-rule-at-requires
 rule-at-requires c κs =
     let s = c .before .before in omega (arith, s .pre, framed (s .pre .0), longest (now (s .args .file)) (framed (s .pre .0)))
 
-source-before-requires : tie.Need-source-before-requires
-source-before-requires c κs = search needs
-
 byte-within-requires : tie.Need-byte-within-requires
 byte-within-requires c κs =
     let s = c .before .before .before .before in
     omega (arith, c .before .rule-at .ensures ∙ rule-position (s .pre .0) (s .args .i), rule-within (now (s .args .file)) (framed (s .pre .0)) (s .args .i) (omega (arith, s .pre)))
-
-put-at-requires : tie.Need-put-at-requires
-put-at-requires c κs = search needs
 
 add-inputs-end : tie.Need-add-inputs-end
 add-inputs-end c =
@@ -41,21 +33,9 @@ add-outputs-end : tie.Need-add-outputs-end
 add-outputs-end c =
     omega (arith, c .before .before .before .before .before .before .before .before .before .before .before .pre, framed (c .before .before .before .before .before .before .before .before .before .before .before .pre .0))
 
-sub-put-rule : tie.Need-sub-put-rule
-sub-put-rule c = search needs
-
-part-put-rule-start : tie.Need-part-put-rule-start
-part-put-rule-start c = search needs
-
 part-put-rule-end : tie.Need-part-put-rule-end
 part-put-rule-end c =
     omega (arith, c .before .before .before .before .before .before .before .before .before .before .before .before .pre, framed (c .before .before .before .before .before .before .before .before .before .before .before .before .pre .0))
-
-sub-put-rule-2 : tie.Need-sub-put-rule-2
-sub-put-rule-2 c = search needs
-
-part-put-rule-start-2 : tie.Need-part-put-rule-start-2
-part-put-rule-start-2 c = search needs
 
 part-put-rule-end-2 : tie.Need-part-put-rule-end-2
 part-put-rule-end-2 c =
@@ -68,9 +48,6 @@ put-rule-requires c κs =
     let at = c .before .before .before .before .before .before .before .before .before .before .before .rule-at .ensures ∙ rule-position (s .pre .0) (s .args .i) in
     let within = rule-within (now (s .args .file)) k (s .args .i) (omega (arith, s .pre)) in
     (omega (arith, k, s .pre), omega (arith, k, s .pre), omega (arith, k, s .pre), omega (arith, at, within, s .pre .0 .clocks), omega (arith, s .pre .2, c .before .before .before .before .before .before .before .put-at .ensures .1, c .before .before .before .before .before .before .before .put-at .kept .0))
-
-same-length : tie.Need-same-length
-same-length c = search needs
 
 returns : tie.Need-returns
 returns c =
@@ -90,19 +67,6 @@ pub put-ruled-spec : {M : Type 1} → statement M
 put-ruled-spec =
     tie.close
     (tie.spec
-    rule-at-requires
-    source-before-requires
-    byte-within-requires
-    put-at-requires
-    add-inputs-end
-    add-outputs-start
-    add-outputs-end
-    sub-put-rule
-    part-put-rule-start
-    part-put-rule-end
-    sub-put-rule-2
-    part-put-rule-start-2
-    part-put-rule-end-2
-    put-rule-requires
-    same-length
-    returns)
+    rule-at-requires (λ c κs. search needs) byte-within-requires (λ c κs. search needs) add-inputs-end add-outputs-start add-outputs-end
+    (λ c. search needs) (λ c. search needs) part-put-rule-end (λ c. search needs) (λ c. search needs) part-put-rule-end-2 put-rule-requires
+    (λ c. search needs) returns)

@@ -1,8 +1,7 @@
 -- `showing::lines::source_before` meets its contract, by whether there is a rule before.
-use mathlib.Core.Path.{_≡_, ap, _∙_}
+use mathlib.Core.Path.{ap, _∙_}
 use Prim.Native.Nat.{_-_}
 use native.Mathlib.Omega.{arith}
-use lib.ListN.{length}
 use denote.Ref.{now}
 use borrow.Author.Needs.{needs}
 use Rattle.policy.specs.File.{byteAt}
@@ -13,9 +12,6 @@ use Rattle.showing.proofs.lines.source_before.Tie as tie
 
 returns : tie.Need-returns
 returns c = first-source (now (c .before .before .args .file)) (c .before .before .args .i) (c .if1 .taken)
-
-sub-rule-at : tie.Need-sub-rule-at
-sub-rule-at c = search needs
 
 rule-at-requires : tie.Need-rule-at-requires
 rule-at-requires c κs =
@@ -35,5 +31,4 @@ returns-2 c =
     ∙ later-source (now (s .args .file)) (s .args .i) (c .before .before .if1 .left)
 
 pub source-before-spec : {M : Type 1} → statement M
-source-before-spec =
-    tie.close (tie.spec returns sub-rule-at rule-at-requires byte-within-requires returns-2)
+source-before-spec = tie.close (tie.spec returns (λ c. search needs) rule-at-requires byte-within-requires returns-2)

@@ -1,5 +1,5 @@
 -- `showing::writer::has_room` meets its contract: the longest text fits, or the length is known.
-use mathlib.Core.Path.{_≡_, ap, sym}
+use mathlib.Core.Path.{ap, sym}
 use Prim.Native.Nat.{ℕ}
 use native.Mathlib.Omega.{arith}
 use lib.Dec.{leb}
@@ -18,14 +18,8 @@ returns c =
     let f = now (s .args .file) in
     sym (le-leb (length (textOfFile f)) (s .args .room) (omega (arith, written-at-most f (s .pre .0 .passes), c .if1 .taken)))
 
-text-length-requires : tie.Need-text-length-requires
-text-length-requires c κs = search needs
-
-same-length : tie.Need-same-length
-same-length c = search needs
-
 returns-2 : tie.Need-returns-2
 returns-2 c = ap (λ (n : ℕ). leb n (c .before .before .before .before .before .before .before .args .room)) (c .before .before .text-length .ensures)
 
 pub has-room-spec : {M : Type 1} → statement M
-has-room-spec = tie.close (tie.spec returns text-length-requires same-length returns-2)
+has-room-spec = tie.close (tie.spec returns (λ c κs. search needs) (λ c. search needs) returns-2)

@@ -48,12 +48,6 @@ put-bytes-requires c κs =
     let p = c .before .before .before .before .put-line .ensures .0 in
     omega (arith, under-room (fits (c .before .before .before .before .before .before .before .before .before .before .before .before)) (c .before .before .before .before .before .before .before .loop .inv .2) (p .line) (textFrom _ _) (p .turn), ap length (front-is (p .wrote)))
 
-add-i : tie.Need-add-i Inv-loop μ-loop
-add-i c = search needs
-
-loop-less : tie.Need-loop-less Inv-loop μ-loop
-loop-less c = search needs
-
 loop-again : tie.Need-loop-again Inv-loop μ-loop
 loop-again c =
     let w = c .before .before .put-bytes in
@@ -61,12 +55,6 @@ loop-again c =
     let l = c .before .before .before .before .before .before .before .before .before .before .loop in
     let one = subst (λ (z : List ℕ). Wrote (l .out) (l .next) z (w .result) (w .last .0)) (front-is (p .ensures .0 .wrote)) (w .ensures) in
     (omega (arith, c .before .before .before .before .before .before .before .before .before .loop-test .taken), p .kept .0 ∙ l .inv .1, under-more (fits (c .before .before .before .before .before .before .before .before .before .before .before .before .before .before .before)) (l .inv .2) (p .ensures .0 .turn) one (w .kept .0))
-
-same-length : tie.Need-same-length Inv-loop μ-loop
-same-length c = search needs
-
-same-length-2 : tie.Need-same-length-2 Inv-loop μ-loop
-same-length-2 c = search needs
 
 returns : tie.Need-returns Inv-loop μ-loop
 returns c =
@@ -80,17 +68,5 @@ pub put-text-spec : {M : Type 1} → statement M
 put-text-spec =
     tie.close
     (tie.spec
-    Inv-loop
-    μ-loop
-    line-count-requires
-    loop-holds
-    put-line-requires
-    slice-reshare-prefix-put-bytes
-    slice-aggregate-put-bytes
-    put-bytes-requires
-    add-i
-    loop-less
-    loop-again
-    same-length
-    same-length-2
-    returns)
+    Inv-loop μ-loop line-count-requires loop-holds put-line-requires slice-reshare-prefix-put-bytes slice-aggregate-put-bytes put-bytes-requires
+    (λ c. search needs) (λ c. search needs) loop-again (λ c. search needs) (λ c. search needs) returns)

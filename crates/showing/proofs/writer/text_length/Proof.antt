@@ -30,20 +30,11 @@ add-total : tie.Need-add-total Inv-loop μ-loop
 add-total c =
     omega (arith, c .before .before .put-line .ensures .1, c .before .before .before .before .before .loop .inv .0, c .before .before .before .before .before .loop .inv .1, c .before .before .before .before .loop-test .taken, c .before .before .before .before .before .before .line-count .ensures, c .before .before .before .before .before .before .before .before .before .pre .0, framed (c .before .before .before .before .before .before .before .before .before .pre .0))
 
-add-i : tie.Need-add-i Inv-loop μ-loop
-add-i c = search needs
-
-loop-less : tie.Need-loop-less Inv-loop μ-loop
-loop-less c = search needs
-
 loop-again : tie.Need-loop-again Inv-loop μ-loop
 loop-again c =
     let p = c .before .before .put-line in
     let l = c .before .before .before .before .before .loop in
     (omega (arith, c .before .before .before .before .loop-test .taken), omega (arith, l .inv .1, p .ensures .1), p .kept .0 ∙ l .inv .2, omega (arith, l .inv .3, line-long (p .ensures .0)))
-
-same-length : tie.Need-same-length Inv-loop μ-loop
-same-length c = search needs
 
 returns : tie.Need-returns Inv-loop μ-loop
 returns c =
@@ -57,14 +48,5 @@ pub text-length-spec : {M : Type 1} → statement M
 text-length-spec =
     tie.close
     (tie.spec
-    Inv-loop
-    μ-loop
-    line-count-requires
-    loop-holds
-    put-line-requires
-    add-total
-    add-i
-    loop-less
-    loop-again
-    same-length
+    Inv-loop μ-loop line-count-requires loop-holds put-line-requires add-total (λ c. search needs) (λ c. search needs) loop-again (λ c. search needs)
     returns)

@@ -1,5 +1,5 @@
 -- `showing::writer::write_by` meets its contract: the check, then the room.
-use mathlib.Core.Path.{_≡_, sym, _∙_}
+use mathlib.Core.Path.{sym, _∙_}
 use native.Mathlib.Omega.{arith}
 use denote.Ref.{now}
 use borrow.Author.Needs.{needs}
@@ -9,9 +9,6 @@ use Rattle.showing.specs.Promise.{check-says, write-refused, write-short
 use Rattle.showing.proofs.writer.write_by.Statement.{statement}
 use Rattle.showing.proofs.writer.write_by.Tie as tie
 
-check-requires : tie.Need-check-requires
-check-requires c κs = search needs
-
 returns : tie.Need-returns
 returns c = write-refused _ _ (check-says (c .before .check .ensures) .0) (c .if1 .taken)
 
@@ -19,9 +16,6 @@ has-room-requires : tie.Need-has-room-requires
 has-room-requires c κs =
     let passes = sym (check-says (c .before .before .before .check .ensures) .0) ∙ c .before .before .if1 .left in
     (laid-out passes (check-says (c .before .before .before .check .ensures) .1 passes), c .before .before .before .before .before .before .before .pre)
-
-same-length : tie.Need-same-length
-same-length c = search needs
 
 returns-2 : tie.Need-returns-2
 returns-2 c = write-short _ _ (sym (check-says (c .before .before .before .before .before .before .before .check .ensures) .0) ∙ c .before .before .before .before .before .before .if1 .left) (leb-false _ _ (sym (c .before .before .before .has-room .ensures) ∙ not-true _ (c .if2 .taken)))
@@ -32,12 +26,6 @@ put-text-requires c κs =
     let h = c .before .before .before .before .before .has-room in
     (laid-out passes (check-says (c .before .before .before .before .before .before .before .before .before .check .ensures) .1 passes), omega (arith, c .before .before .before .before .before .before .before .before .before .before .before .before .before .pre, h .kept), leb-true _ _ (sym (h .ensures) ∙ not-false _ (c .before .before .if2 .left)))
 
-same-length-2 : tie.Need-same-length-2
-same-length-2 c = search needs
-
-same-length-3 : tie.Need-same-length-3
-same-length-3 c = search needs
-
 returns-3 : tie.Need-returns-3
 returns-3 c =
     let a = c .before .before .before .before .before .before .before .before .before .before .before .before .before .before .before .before .before .before .args in
@@ -47,12 +35,4 @@ pub write-by-spec : {M : Type 1} → statement M
 write-by-spec =
     tie.close
     (tie.spec
-    check-requires
-    returns
-    has-room-requires
-    same-length
-    returns-2
-    put-text-requires
-    same-length-2
-    same-length-3
-    returns-3)
+    (λ c κs. search needs) returns has-room-requires (λ c. search needs) returns-2 put-text-requires (λ c. search needs) (λ c. search needs) returns-3)

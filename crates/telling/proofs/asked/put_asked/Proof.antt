@@ -35,29 +35,11 @@ add-rule-start c = let s = c .before .before .before .before .before .before in 
 add-rule-end : tie.Need-add-rule-end
 add-rule-end c = let s = c .before .before .before .before .before .before in omega (arith, laid-limits (s .pre .0 .0), rule-fits (s .pre .0 .0) (s .args .i) (s .pre .0 .1))
 
-sub-put-asks : tie.Need-sub-put-asks
-sub-put-asks c = search needs
-
-part-put-asks-start : tie.Need-part-put-asks-start
-part-put-asks-start c = search needs
-
 part-put-asks-end : tie.Need-part-put-asks-end
 part-put-asks-end c = let s = c .before .before .before .before .before .before .before in omega (arith, tags-fit (s .pre .0 .0))
 
-sub-put-asks-2 : tie.Need-sub-put-asks-2
-sub-put-asks-2 c = search needs
-
-part-put-asks-start-2 : tie.Need-part-put-asks-start-2
-part-put-asks-start-2 c = search needs
-
 part-put-asks-end-2 : tie.Need-part-put-asks-end-2
 part-put-asks-end-2 c = let s = c .before .before .before .before .before .before .before .before in omega (arith, tags-fit (s .pre .0 .0))
-
-sub-put-asks-3 : tie.Need-sub-put-asks-3
-sub-put-asks-3 c = search needs
-
-part-put-asks-start-3 : tie.Need-part-put-asks-start-3
-part-put-asks-start-3 c = search needs
 
 part-put-asks-end-3 : tie.Need-part-put-asks-end-3
 part-put-asks-end-3 c = let s = c .before .before .before .before .before .before .before .before .before in omega (arith, rule-fits (s .pre .0 .0) (s .args .i) (s .pre .0 .1))
@@ -78,9 +60,6 @@ put-asks-requires c κs =
       omega (arith, s .pre .1, ap length (asks-taken k i h)),
     )
 
-same-length : tie.Need-same-length
-same-length c = search needs
-
 returns : tie.Need-returns
 returns c =
     let e = c .before .before in
@@ -91,23 +70,6 @@ pub put-asked-spec : {M : Type 1} → statement M
 put-asked-spec =
     tie.close
     (tie.spec
-    add-inputs-end
-    add-outputs-start
-    add-outputs-end
-    mul-size
-    add-size
-    mul-rule-start
-    add-rule-start
-    add-rule-end
-    sub-put-asks
-    part-put-asks-start
-    part-put-asks-end
-    sub-put-asks-2
-    part-put-asks-start-2
-    part-put-asks-end-2
-    sub-put-asks-3
-    part-put-asks-start-3
-    part-put-asks-end-3
-    put-asks-requires
-    same-length
-    returns)
+    add-inputs-end add-outputs-start add-outputs-end mul-size add-size mul-rule-start add-rule-start add-rule-end (λ c. search needs)
+    (λ c. search needs) part-put-asks-end (λ c. search needs) (λ c. search needs) part-put-asks-end-2 (λ c. search needs) (λ c. search needs)
+    part-put-asks-end-3 put-asks-requires (λ c. search needs) returns)

@@ -11,12 +11,6 @@ use Rattle.telling.specs.Text.{most-one, most-more}
 use Rattle.telling.proofs.lines.put_most.Statement.{statement}
 use Rattle.telling.proofs.lines.put_most.Tie as tie
 
-put-bytes-requires : tie.Need-put-bytes-requires
-put-bytes-requires c κs = search needs
-
-slice-aggregate-put-about : tie.Need-slice-aggregate-put-about
-slice-aggregate-put-about c = search needs
-
 put-about-requires : tie.Need-put-about-requires
 put-about-requires c κs =
     let i = c .before .before in
@@ -31,9 +25,6 @@ put-about-requires c κs =
       ap length (most-one (now (a .one)) (now (a .more)) (a .k) (i .if1 .taken)) ∙ three-length (ascii "after it at most ") (decimal (a .k)) (now (a .one)),
     )
 
-same-length : tie.Need-same-length
-same-length c = search needs
-
 returns : tie.Need-returns
 returns c =
     let e = c .before .before in
@@ -41,9 +32,6 @@ returns c =
     let h = i .before .before .before in
     let s = h .before .before .before .before .before .before in
     rw (most-one (now (s .args .one)) (now (s .args .more)) (s .args .k) (i .if1 .taken)) (wrote-then (omega (arith, s .pre)) (h .put-bytes .ensures) (e .put-about .ensures))
-
-slice-aggregate-put-about-2 : tie.Need-slice-aggregate-put-about-2
-slice-aggregate-put-about-2 c = search needs
 
 put-about-requires-2 : tie.Need-put-about-requires-2
 put-about-requires-2 c κs =
@@ -59,9 +47,6 @@ put-about-requires-2 c κs =
       ap length (most-more (now (a .one)) (now (a .more)) (a .k) (i .if1 .left)) ∙ three-length (ascii "after it at most ") (decimal (a .k)) (now (a .more)),
     )
 
-same-length-2 : tie.Need-same-length-2
-same-length-2 c = search needs
-
 returns-2 : tie.Need-returns-2
 returns-2 c =
     let e = c .before .before in
@@ -74,12 +59,5 @@ pub put-most-spec : {M : Type 1} → statement M
 put-most-spec =
     tie.close
     (tie.spec
-    put-bytes-requires
-    slice-aggregate-put-about
-    put-about-requires
-    same-length
-    returns
-    slice-aggregate-put-about-2
-    put-about-requires-2
-    same-length-2
-    returns-2)
+    (λ c κs. search needs) (λ c. search needs) put-about-requires (λ c. search needs) returns (λ c. search needs) put-about-requires-2
+    (λ c. search needs) returns-2)

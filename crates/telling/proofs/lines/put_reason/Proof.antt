@@ -24,12 +24,6 @@ room s e =
     subst (λ (z : Reason). s .args .at + length (line s z) ≤ length (now (s .args .text))) e
     (omega (arith, s .pre .1, line-short (s .pre .0 .0) (now (s .args .broken)) (now (s .args .half)) (reasonSaid (s .args .reason)) (s .pre .0 .1) (s .pre .0 .2) (s .pre .1 .0)))
 
-enum-told : tie.Need-enum-told
-enum-told c = search needs
-
-enum-known-reason : tie.Need-enum-known-reason
-enum-known-reason c = search needs
-
 put-rule-requires : tie.Need-put-rule-requires
 put-rule-requires c κs =
     let k = c .before .before .reason .given in
@@ -39,34 +33,16 @@ put-rule-requires c κs =
       omega (arith, room s (k .1), length-append (now (a .broken)) (ruleWords (policyOf (a .layout .reading) (now (a .file))) (k .0 .0))),
     )
 
-enum-told-2 : tie.Need-enum-told-2
-enum-told-2 c = search needs
-
-slice-aggregate-put-plain : tie.Need-slice-aggregate-put-plain
-slice-aggregate-put-plain c = search needs
-
 put-plain-requires : tie.Need-put-plain-requires
 put-plain-requires c κs =
     let s = c .before .before .before .before .before .before .before .before in
     omega (arith, s .pre .1)
-
-enum-known-reason-2 : tie.Need-enum-known-reason-2
-enum-known-reason-2 c = search needs
-
-slice-aggregate-put-most : tie.Need-slice-aggregate-put-most
-slice-aggregate-put-most c = search needs
-
-slice-aggregate-put-most-2 : tie.Need-slice-aggregate-put-most-2
-slice-aggregate-put-most-2 c = search needs
 
 put-most-requires : tie.Need-put-most-requires
 put-most-requires c κs =
     let k = c .before .before .before .before .reason2 .given in
     let s = c .before .before .before .before .before .before .before .before .before .before in
     omega (arith, room s (k .1), length-append (now (s .args .half)) (ticksWords (k .0 .0)))
-
-enum-known-reason-3 : tie.Need-enum-known-reason-3
-enum-known-reason-3 c = search needs
 
 put-rests-requires : tie.Need-put-rests-requires
 put-rests-requires c κs =
@@ -77,28 +53,16 @@ put-rests-requires c κs =
 returns : tie.Need-returns
 returns c = let s = c .before .before .before .before .before .before in rw (ap (line s) (c .enum-told .given .1)) (wrote-none _ _)
 
-same-length : tie.Need-same-length
-same-length c = search needs
-
 returns-2 : tie.Need-returns-2
 returns-2 c = let k = c .before .before .before .before .before in rw (ap (line (k .before .before .before .before .before .before)) (k .reason .given .1)) (c .before .before .put-rule .ensures)
 
-same-length-2 : tie.Need-same-length-2
-same-length-2 c = search needs
-
 returns-3 : tie.Need-returns-3
 returns-3 c = let k = c .before .before .before .before .before in rw (ap (line (k .before .before .before .before .before .before)) (k .enum-told2 .given .1)) (c .before .before .put-plain .ensures)
-
-same-length-3 : tie.Need-same-length-3
-same-length-3 c = search needs
 
 returns-4 : tie.Need-returns-4
 returns-4 c =
     let k = c .before .before .before .before .before .before .before in
     rw (ap (line (k .before .before .before .before .before .before)) (k .reason2 .given .1)) (c .before .before .put-most .ensures)
-
-same-length-4 : tie.Need-same-length-4
-same-length-4 c = search needs
 
 returns-5 : tie.Need-returns-5
 returns-5 c = let k = c .before .before .before .before .before in rw (ap (line (k .before .before .before .before .before .before)) (k .reason3 .given .1)) (c .before .before .put-rests .ensures)
@@ -107,24 +71,6 @@ pub put-reason-spec : {M : Type 1} → statement M
 put-reason-spec =
     tie.close
     (tie.spec
-    enum-told
-    enum-known-reason
-    put-rule-requires
-    enum-told-2
-    slice-aggregate-put-plain
-    put-plain-requires
-    enum-known-reason-2
-    slice-aggregate-put-most
-    slice-aggregate-put-most-2
-    put-most-requires
-    enum-known-reason-3
-    put-rests-requires
-    returns
-    same-length
-    returns-2
-    same-length-2
-    returns-3
-    same-length-3
-    returns-4
-    same-length-4
-    returns-5)
+    (λ c. search needs) (λ c. search needs) put-rule-requires (λ c. search needs) (λ c. search needs) put-plain-requires (λ c. search needs)
+    (λ c. search needs) (λ c. search needs) put-most-requires (λ c. search needs) put-rests-requires returns (λ c. search needs) returns-2
+    (λ c. search needs) returns-3 (λ c. search needs) returns-4 (λ c. search needs) returns-5)

@@ -18,22 +18,10 @@ use Rattle.telling.proofs.lines.put_reasons.Tie as tie
 abbrev brokenInput : List ℕ
 brokenInput = ascii "input: no output will do; with none on, "
 
-slice-aggregate-put-reason : tie.Need-slice-aggregate-put-reason
-slice-aggregate-put-reason c = search needs
-
-slice-aggregate-put-reason-2 : tie.Need-slice-aggregate-put-reason-2
-slice-aggregate-put-reason-2 c = search needs
-
 put-reason-requires : tie.Need-put-reason-requires
 put-reason-requires c κs =
     let s = c .before .before .before .before .before in
     ((s .pre .0 .0, s .pre .1 .0 .0, s .pre .1 .0 .1), (omega arith, omega (arith, s .pre .0 .1)))
-
-slice-aggregate-put-reason-3 : tie.Need-slice-aggregate-put-reason-3
-slice-aggregate-put-reason-3 c = search needs
-
-slice-aggregate-put-reason-4 : tie.Need-slice-aggregate-put-reason-4
-slice-aggregate-put-reason-4 c = search needs
 
 -- The line of the input is short, and so is that of the output.
 input-short : (s : tie.Start) → length (inputLine (policyOf (s .args .layout .reading) (now (s .args .file))) (reasonSaid (s .args .told .input))) ≤ 192
@@ -47,9 +35,6 @@ put-reason-requires-2 c κs =
     let p = c .before .before .before .before .before in
     let s = p .before .before .before .before .before .before in
     ((s .pre .0 .0, s .pre .1 .1 .0, s .pre .1 .1 .1), (omega arith, omega (arith, s .pre .0 .1, input-short s, p .put-reason .ensures .next, p .put-reason .kept .0)))
-
-same-length : tie.Need-same-length
-same-length c = search needs
 
 returns : tie.Need-returns
 unfolding reasonLines
@@ -65,11 +50,5 @@ pub put-reasons-spec : {M : Type 1} → statement M
 put-reasons-spec =
     tie.close
     (tie.spec
-    slice-aggregate-put-reason
-    slice-aggregate-put-reason-2
-    put-reason-requires
-    slice-aggregate-put-reason-3
-    slice-aggregate-put-reason-4
-    put-reason-requires-2
-    same-length
+    (λ c. search needs) (λ c. search needs) put-reason-requires (λ c. search needs) (λ c. search needs) put-reason-requires-2 (λ c. search needs)
     returns)

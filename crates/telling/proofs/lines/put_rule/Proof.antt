@@ -13,12 +13,6 @@ use Rattle.telling.proofs.lines.put_rule.Tie as tie
 put-bytes-requires : tie.Need-put-bytes-requires
 put-bytes-requires c κs = omega (arith, c .before .before .before .before .pre .1)
 
-slice-aggregate-put-about : tie.Need-slice-aggregate-put-about
-slice-aggregate-put-about c = search needs
-
-slice-aggregate-put-about-2 : tie.Need-slice-aggregate-put-about-2
-slice-aggregate-put-about-2 c = search needs
-
 put-about-requires : tie.Need-put-about-requires
 put-about-requires c κs =
     let h = c .before .before .before .before .before in
@@ -45,9 +39,6 @@ put-asked-requires c κs =
       ),
     )
 
-slice-aggregate-put-bytes : tie.Need-slice-aggregate-put-bytes
-slice-aggregate-put-bytes c = search needs
-
 put-bytes-requires-2 : tie.Need-put-bytes-requires-2
 put-bytes-requires-2 c κs =
     let q = c .before .before .before .before in
@@ -68,9 +59,6 @@ put-bytes-requires-2 c κs =
       three-length (ascii "rule ") (decimal (a .i)) (ascii " forbids it: "),
     )
 
-same-length : tie.Need-same-length
-same-length c = search needs
-
 returns : tie.Need-returns
 unfolding ruleWords
 returns c =
@@ -87,12 +75,5 @@ pub put-rule-spec : {M : Type 1} → statement M
 put-rule-spec =
     tie.close
     (tie.spec
-    put-bytes-requires
-    slice-aggregate-put-about
-    slice-aggregate-put-about-2
-    put-about-requires
-    put-asked-requires
-    slice-aggregate-put-bytes
-    put-bytes-requires-2
-    same-length
-    returns)
+    put-bytes-requires (λ c. search needs) (λ c. search needs) put-about-requires put-asked-requires (λ c. search needs) put-bytes-requires-2
+    (λ c. search needs) returns)

@@ -5,21 +5,6 @@ use Rattle.telling.specs.Asked.{passed-on, given-out, released-by}
 use Rattle.telling.proofs.release.release.Statement.{statement}
 use Rattle.telling.proofs.release.release.Tie as tie
 
-own-of-requires : tie.Need-own-of-requires
-own-of-requires c κs = search needs
-
-input-by-requires : tie.Need-input-by-requires
-input-by-requires c κs = search needs
-
-value-or-requires : tie.Need-value-or-requires
-value-or-requires c κs = search needs
-
-output-by-requires : tie.Need-output-by-requires
-output-by-requires c κs = search needs
-
-value-or-requires-2 : tie.Need-value-or-requires-2
-value-or-requires-2 c κs = search needs
-
 returns : tie.Need-returns
 returns c =
     let s = c .before .before .before .before .before .before .before .before in
@@ -34,9 +19,4 @@ pub release-spec : {M : Type 1} → statement M
 release-spec =
     tie.close
     (tie.spec
-    own-of-requires
-    input-by-requires
-    value-or-requires
-    output-by-requires
-    value-or-requires-2
-    returns)
+    (λ c κs. search needs) (λ c κs. search needs) (λ c κs. search needs) (λ c κs. search needs) (λ c κs. search needs) returns)

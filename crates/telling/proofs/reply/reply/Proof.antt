@@ -35,21 +35,6 @@ verdict c = c .before .before .before .before
 abbrev given : tie.After-events-in → tie.After-summary
 given c = verdict c .before .before .before
 
-outcome-requires : tie.Need-outcome-requires
-outcome-requires c κs = search needs
-
-enum-known-n : tie.Need-enum-known-n
-enum-known-n c = search needs
-
-put-refused-requires : tie.Need-put-refused-requires
-put-refused-requires c κs = search needs
-
-enum-known-summary : tie.Need-enum-known-summary
-enum-known-summary c = search needs
-
-put-verdict-requires : tie.Need-put-verdict-requires
-put-verdict-requires c κs = search needs
-
 policy-in-requires : tie.Need-policy-in-requires
 policy-in-requires c κs = enforced (c .before .before .before .before .before) .passes .policy
 
@@ -73,15 +58,6 @@ tell-all-requires c κs =
       (s .pre .2, s .pre .3, n, omega (arith, n, s .pre .4, v .put-verdict .kept .0, v .put-verdict .ensures .1)),
     )
 
-same-length : tie.Need-same-length
-same-length c = search needs
-
-same-length-2 : tie.Need-same-length-2
-same-length-2 c = search needs
-
-same-length-3 : tie.Need-same-length-3
-same-length-3 c = search needs
-
 returns : tie.Need-returns
 returns c =
     let f = c .before .before in
@@ -92,21 +68,6 @@ returns c =
       said = refuses (sym (o .outcome .ensures .said) ∙ ap preparedSaid (k .n .given .1));
       replied = replied (f .put-refused .ensures) (f .put-refused .kept .0);
     }
-
-same-length-4 : tie.Need-same-length-4
-same-length-4 c = search needs
-
-same-length-5 : tie.Need-same-length-5
-same-length-5 c = search needs
-
-same-length-6 : tie.Need-same-length-6
-same-length-6 c = search needs
-
-same-length-7 : tie.Need-same-length-7
-same-length-7 c = search needs
-
-same-length-8 : tie.Need-same-length-8
-same-length-8 c = search needs
 
 returns-2 : tie.Need-returns-2
 returns-2 c =
@@ -126,23 +87,6 @@ pub reply-spec : {M : Type 1} → statement M
 reply-spec =
     tie.close
     (tie.spec
-    outcome-requires
-    enum-known-n
-    put-refused-requires
-    enum-known-summary
-    put-verdict-requires
-    policy-in-requires
-    events-in-requires
-    slice-reshare-prefix-tell-all
-    slice-aggregate-tell-all
-    tell-all-requires
-    same-length
-    same-length-2
-    same-length-3
-    returns
-    same-length-4
-    same-length-5
-    same-length-6
-    same-length-7
-    same-length-8
-    returns-2)
+    (λ c κs. search needs) (λ c. search needs) (λ c κs. search needs) (λ c. search needs) (λ c κs. search needs) policy-in-requires events-in-requires
+    slice-reshare-prefix-tell-all slice-aggregate-tell-all tell-all-requires (λ c. search needs) (λ c. search needs) (λ c. search needs) returns
+    (λ c. search needs) (λ c. search needs) (λ c. search needs) (λ c. search needs) (λ c. search needs) returns-2)

@@ -15,12 +15,6 @@ granted : (c : tie.After-check-under) →
     let a = c .before .before .before .before .before .before .before .args in Granted (a .reading) (now (a .file)) (now (a .marks)) (c .check-under .result .layout)
 granted c = granted-laid _ (c .check-under .ensures) (c .before .before .before .before .before .before .before .pre .0 .early)
 
-check-under-requires : tie.Need-check-under-requires
-check-under-requires c κs = search needs
-
-start-requires : tie.Need-start-requires
-start-requires c κs = search needs
-
 slice-relend-prefix-tell-counted : tie.Need-slice-relend-prefix-tell-counted
 slice-relend-prefix-tell-counted c =
     let k = granted (c .before .before) in
@@ -52,15 +46,6 @@ tell-counted-requires c κs =
       ),
     )
 
-same-length : tie.Need-same-length
-same-length c = search needs
-
-same-length-2 : tie.Need-same-length-2
-same-length-2 c = search needs
-
-same-length-3 : tie.Need-same-length-3
-same-length-3 c = search needs
-
 returns : tie.Need-returns
 returns c =
     let t = c .before .before .before .before .before .before in
@@ -72,14 +57,5 @@ pub tell-all-spec : {M : Type 1} → statement M
 tell-all-spec =
     tie.close
     (tie.spec
-    check-under-requires
-    start-requires
-    slice-relend-prefix-tell-counted
-    slice-aggregate-tell-counted
-    slice-relend-prefix-tell-counted-2
-    slice-aggregate-tell-counted-2
-    tell-counted-requires
-    same-length
-    same-length-2
-    same-length-3
-    returns)
+    (λ c κs. search needs) (λ c κs. search needs) slice-relend-prefix-tell-counted slice-aggregate-tell-counted slice-relend-prefix-tell-counted-2
+    slice-aggregate-tell-counted-2 tell-counted-requires (λ c. search needs) (λ c. search needs) (λ c. search needs) returns)

@@ -19,12 +19,6 @@ abbrev μ-loop : tie.MeasureT-loop
 loop-holds : tie.Need-loop-holds Inv-loop μ-loop
 loop-holds c = telling-starts _ _ _ (c .before .before .before .before .before .before .pre .0 .0)
 
-add-tell-tick : tie.Need-add-tell-tick Inv-loop μ-loop
-add-tell-tick c = search needs
-
-shared-slice-read-tell-tick : tie.Need-shared-slice-read-tell-tick Inv-loop μ-loop
-shared-slice-read-tell-tick c = search needs
-
 tell-tick-requires : tie.Need-tell-tick-requires Inv-loop μ-loop
 tell-tick-requires c κs =
     let s = c .before .before .before .before .before .before .before .before .before .before in
@@ -35,20 +29,11 @@ tell-tick-requires c κs =
       ((ltb-true _ _ (g .0), ltb-true _ _ (g .1)), (omega (arith, i, s .pre .1 .0), omega (arith, i, l .inv .room, l .inv .long, s .pre .1 .2))),
     )
 
-add-i : tie.Need-add-i Inv-loop μ-loop
-add-i c = search needs
-
-loop-less : tie.Need-loop-less Inv-loop μ-loop
-loop-less c = search needs
-
 loop-again : tie.Need-loop-again Inv-loop μ-loop
 loop-again c =
     let s = c .before .before .before .before .before .before .before .before .before .before .before .before .before .before in
     let t = c .before .before .before .tell-tick in
     telling-turn (c .before .before .before .before .before .before .before .loop .inv) (c .before .before .before .before .before .before .loop-test .taken) (omega (arith, s .pre .1 .2)) (t .kept .1 .1 .1 .1 .1 .1 .1 .1 .0) (t .ensures)
-
-same-length : tie.Need-same-length Inv-loop μ-loop
-same-length c = search needs
 
 returns : tie.Need-returns Inv-loop μ-loop
 returns c = telling-ends (c .before .loop .inv) (c .loop-test .left)
@@ -57,14 +42,5 @@ pub tell-spec : {M : Type 1} → statement M
 tell-spec =
     tie.close
     (tie.spec
-    Inv-loop
-    μ-loop
-    loop-holds
-    add-tell-tick
-    shared-slice-read-tell-tick
-    tell-tick-requires
-    add-i
-    loop-less
-    loop-again
-    same-length
-    returns)
+    Inv-loop μ-loop loop-holds (λ c. search needs) (λ c. search needs) tell-tick-requires (λ c. search needs) (λ c. search needs) loop-again
+    (λ c. search needs) returns)

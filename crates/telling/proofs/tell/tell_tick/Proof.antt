@@ -12,12 +12,6 @@ use Rattle.telling.specs.Told.{told-tick}
 use Rattle.telling.proofs.tell.tell_tick.Statement.{statement}
 use Rattle.telling.proofs.tell.tell_tick.Tie as tie
 
-release-requires : tie.Need-release-requires
-release-requires c κs = search needs
-
-reasons-requires : tie.Need-reasons-requires
-reasons-requires c κs = search needs
-
 mul-put-tick : tie.Need-mul-put-tick
 mul-put-tick c = omega (arith, released-small (c .before .before .before .before .before .before .before .before .before .pre .0 .0) (c .before .before .before .release .ensures))
 
@@ -38,9 +32,6 @@ put-reasons-requires c κs =
     let n = explained-named (s .args .layout .reading) (now (s .args .file)) (b .explained) in
     ((s .pre .0 .0 .standing .laid, omega (arith, l, t .ensures .next, t .kept .0, s .pre .1 .1 .1)), ((n .0, b .few-input), (n .1, b .few-output)))
 
-same-length : tie.Need-same-length
-same-length c = search needs
-
 returns : tie.Need-returns
 returns c =
     let s = c .before .before .before .before .before .before .before .before .before .before .before .before .before .before .before .before .before .before in
@@ -58,11 +49,4 @@ pub tell-tick-spec : {M : Type 1} → statement M
 tell-tick-spec =
     tie.close
     (tie.spec
-    release-requires
-    reasons-requires
-    mul-put-tick
-    add-put-tick
-    put-tick-requires
-    put-reasons-requires
-    same-length
-    returns)
+    (λ c κs. search needs) (λ c κs. search needs) mul-put-tick add-put-tick put-tick-requires put-reasons-requires (λ c. search needs) returns)

@@ -7,18 +7,6 @@ use Rattle.ticks.specs.Laws.{one-more}
 use Rattle.ticks.proofs.Milliseconds.rounded.Statement.{statement}
 use Rattle.ticks.proofs.Milliseconds.rounded.Tie as tie
 
-div-whole : tie.Need-div-whole
-div-whole c = search needs
-
-rem-left : tie.Need-rem-left
-rem-left c = search needs
-
-enum-told : tie.Need-enum-told
-enum-told c = search needs
-
-enum-told-2 : tie.Need-enum-told-2
-enum-told-2 c = search needs
-
 add-next : tie.Need-add-next
 add-next c =
     let start = c .before .before .before in
@@ -38,4 +26,5 @@ returns-3 c = simp (c .before .enum-told2 .given .1, ne-eqb _ _ (c .if1 .left))
 pub rounded-spec : {M : Type 1} → statement M
 rounded-spec =
     tie.close
-    (tie.spec div-whole rem-left enum-told enum-told-2 add-next returns returns-2 returns-3)
+    (tie.spec
+    (λ c. search needs) (λ c. search needs) (λ c. search needs) (λ c. search needs) add-next returns returns-2 returns-3)

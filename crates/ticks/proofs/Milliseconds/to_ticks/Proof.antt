@@ -10,9 +10,6 @@ use Rattle.ticks.proofs.Milliseconds.to_ticks.Tie as tie
 returns : tie.Need-returns
 returns c = record { said = sym (no-length _ _ _ (c .if1 .taken)) }
 
-rounded-requires : tie.Need-rounded-requires
-rounded-requires c κs = search needs
-
 returns-2 : tie.Need-returns-2
 returns-2 c = record { said = sym (too-many _ _ _ (omega arith) (omega arith)) }
 
@@ -20,4 +17,4 @@ returns-3 : tie.Need-returns-3
 returns-3 c = record { said = ap gives (c .before .before .rounded .ensures) ∙ sym (given _ _ _ (omega arith) (omega arith)) }
 
 pub to-ticks-spec : {M : Type 1} → statement M
-to-ticks-spec = tie.close (tie.spec returns rounded-requires returns-2 returns-3)
+to-ticks-spec = tie.close (tie.spec returns (λ c κs. search needs) returns-2 returns-3)

@@ -9,12 +9,6 @@ use Rattle.translating.specs.ToFile.{stoppedLine}
 use Rattle.translating.proofs.to_file.put_stopped.Statement.{statement}
 use Rattle.translating.proofs.to_file.put_stopped.Tie as tie
 
-slice-aggregate-put-about : tie.Need-slice-aggregate-put-about
-slice-aggregate-put-about c = search needs
-
-slice-aggregate-put-about-2 : tie.Need-slice-aggregate-put-about-2
-slice-aggregate-put-about-2 c = search needs
-
 put-about-requires : tie.Need-put-about-requires
 put-about-requires c κs = omega (arith, decimal-short (c .before .before .before .before .args .refusal) 2 (omega arith))
 
@@ -30,9 +24,6 @@ put-decimal-requires c κs =
       decimal-short (s .args .at) 19 (omega arith),
     )
 
-slice-aggregate-put-bytes : tie.Need-slice-aggregate-put-bytes
-slice-aggregate-put-bytes c = search needs
-
 put-bytes-requires : tie.Need-put-bytes-requires
 put-bytes-requires c κs =
     let d = c .before .before .before .before in
@@ -47,9 +38,6 @@ put-bytes-requires c κs =
       decimal-short (s .args .at) 19 (omega arith),
     )
 
-same-length : tie.Need-same-length
-same-length c = search needs
-
 returns : tie.Need-returns
 unfolding stoppedLine
 returns c =
@@ -61,11 +49,4 @@ pub put-stopped-spec : {M : Type 1} → statement M
 put-stopped-spec =
     tie.close
     (tie.spec
-    slice-aggregate-put-about
-    slice-aggregate-put-about-2
-    put-about-requires
-    put-decimal-requires
-    slice-aggregate-put-bytes
-    put-bytes-requires
-    same-length
-    returns)
+    (λ c. search needs) (λ c. search needs) put-about-requires put-decimal-requires (λ c. search needs) put-bytes-requires (λ c. search needs) returns)

@@ -11,12 +11,6 @@ use Rattle.translating.specs.Ways.{too-long, stopped-way, read-way}
 use Rattle.translating.proofs.to_file.reply.Statement.{statement}
 use Rattle.translating.proofs.to_file.reply.Tie as tie
 
-put-stopped-requires : tie.Need-put-stopped-requires
-put-stopped-requires c κs = search needs
-
-same-length : tie.Need-same-length
-same-length c = search needs
-
 returns : tie.Need-returns
 returns c =
     let p = c .before .before .put-stopped in
@@ -24,18 +18,6 @@ returns c =
     let a = i .before .before .before .before .args in
     let t = too-long (now (a .text)) (omega (arith, i .if1 .taken)) in
     (rw (t .0) (replied (wrote-none (now (a .file)) 0) refl), rw (t .1) (replied (p .ensures) (p .kept .0)))
-
-read-requires : tie.Need-read-requires
-read-requires c κs = search needs
-
-put-stopped-requires-2 : tie.Need-put-stopped-requires-2
-put-stopped-requires-2 c κs = search needs
-
-same-length-2 : tie.Need-same-length-2
-same-length-2 c = search needs
-
-same-length-3 : tie.Need-same-length-3
-same-length-3 c = search needs
 
 returns-2 : tie.Need-returns-2
 returns-2 c =
@@ -49,15 +31,6 @@ returns-2 c =
       rw (w .0) (replied (subst (Wrote (now (a .file)) 0 [] 0) (sym (w .2)) (wrote-none (now (a .file)) 0)) (d .read .kept .1 .0)),
       rw (w .1) (replied (p .ensures) (p .kept .0)),
     )
-
-put-compiled-requires : tie.Need-put-compiled-requires
-put-compiled-requires c κs = search needs
-
-same-length-4 : tie.Need-same-length-4
-same-length-4 c = search needs
-
-same-length-5 : tie.Need-same-length-5
-same-length-5 c = search needs
 
 returns-3 : tie.Need-returns-3
 returns-3 c =
@@ -74,15 +47,5 @@ pub reply-spec : {M : Type 1} → statement M
 reply-spec =
     tie.close
     (tie.spec
-    put-stopped-requires
-    same-length
-    returns
-    read-requires
-    put-stopped-requires-2
-    same-length-2
-    same-length-3
-    returns-2
-    put-compiled-requires
-    same-length-4
-    same-length-5
-    returns-3)
+    (λ c κs. search needs) (λ c. search needs) returns (λ c κs. search needs) (λ c κs. search needs) (λ c. search needs) (λ c. search needs) returns-2
+    (λ c κs. search needs) (λ c. search needs) (λ c. search needs) returns-3)

@@ -11,15 +11,6 @@ use Rattle.translating.specs.Ways.{refused-way, shown-way}
 use Rattle.translating.proofs.to_text.reply.Statement.{statement}
 use Rattle.translating.proofs.to_text.reply.Tie as tie
 
-write-requires : tie.Need-write-requires
-write-requires c κs = search needs
-
-put-refused-requires : tie.Need-put-refused-requires
-put-refused-requires c κs = search needs
-
-same-length : tie.Need-same-length
-same-length c = search needs
-
 returns : tie.Need-returns
 returns c =
     let p = c .before .before .put-refused in
@@ -30,9 +21,6 @@ returns c =
     rw (w .0)
     (replied (subst (λ (b : List ℕ). Wrote b 0 (refusedLine (d .write .result .refusal)) (p .result) (p .last .0)) (w .1) (p .ensures)) (p .kept .0 ∙ d .write .kept .1 .0))
 
-same-length-2 : tie.Need-same-length-2
-same-length-2 c = search needs
-
 returns-2 : tie.Need-returns-2
 returns-2 c =
     let d = c .before .before .before .before in
@@ -40,4 +28,4 @@ returns-2 c =
     replied (shown-way (now (s .args .file)) (now (s .args .text)) (s .pre) (d .write .ensures) (c .if1 .left)) (d .write .kept .1 .0)
 
 pub reply-spec : {M : Type 1} → statement M
-reply-spec = tie.close (tie.spec write-requires put-refused-requires same-length returns same-length-2 returns-2)
+reply-spec = tie.close (tie.spec (λ c κs. search needs) (λ c κs. search needs) (λ c. search needs) returns (λ c. search needs) returns-2)

@@ -10,15 +10,6 @@ use Rattle.waves.proofs.lengths.change_length.Tie as tie
 returns : tie.Need-returns
 returns c = (rw (eq-eqb _ 0 (c .if1 .taken)), omega arith)
 
-time-length-requires : tie.Need-time-length-requires
-time-length-requires c κs = search needs
-
-event-length-requires : tie.Need-event-length-requires
-event-length-requires c κs = search needs
-
-add-result : tie.Need-add-result
-add-result c = search needs
-
 returns-2 : tie.Need-returns-2
 returns-2 c =
     let i = c .before .before in
@@ -26,5 +17,4 @@ returns-2 c =
     (omega (arith, change-long (now (a .inputs)) (now (a .outputs)) (a .time) (a .shown) 0 (i .if1 .left)), omega arith)
 
 pub change-length-spec : {M : Type 1} → statement M
-change-length-spec =
-    tie.close (tie.spec returns time-length-requires event-length-requires add-result returns-2)
+change-length-spec = tie.close (tie.spec returns (λ c κs. search needs) (λ c κs. search needs) (λ c. search needs) returns-2)

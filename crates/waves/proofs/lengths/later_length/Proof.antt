@@ -18,27 +18,6 @@ Inv-loop inputs outputs events total₀ before₀ i₀ total before i =
 abbrev μ-loop : tie.MeasureT-loop
 μ-loop inputs outputs events total₀ before₀ i₀ total before i = length events - i
 
-shared-slice-read-before : tie.Need-shared-slice-read-before Inv-loop μ-loop
-shared-slice-read-before c = search needs
-
-loop-holds : tie.Need-loop-holds Inv-loop μ-loop
-loop-holds c = search needs
-
-shared-slice-read-event : tie.Need-shared-slice-read-event Inv-loop μ-loop
-shared-slice-read-event c = search needs
-
-change-length-requires : tie.Need-change-length-requires Inv-loop μ-loop
-change-length-requires c κs = search needs
-
-add-total : tie.Need-add-total Inv-loop μ-loop
-add-total c = search needs
-
-add-i : tie.Need-add-i Inv-loop μ-loop
-add-i c = search needs
-
-loop-less : tie.Need-loop-less Inv-loop μ-loop
-loop-less c = search needs
-
 loop-again : tie.Need-loop-again Inv-loop μ-loop
 loop-again c =
     let l = c .before .before .before in
@@ -48,12 +27,6 @@ loop-again c =
     let z = now (s .args .events) in
     let i = l .loop .i in
     (omega arith, omega arith, omega arith, omega (arith, later-length-turn x y z i (l .loop .before) (omega arith)))
-
-time-length-requires : tie.Need-time-length-requires Inv-loop μ-loop
-time-length-requires c κs = search needs
-
-add-result : tie.Need-add-result Inv-loop μ-loop
-add-result c = search needs
 
 returns : tie.Need-returns Inv-loop μ-loop
 returns c =
@@ -69,16 +42,5 @@ pub later-length-spec : {M : Type 1} → statement M
 later-length-spec =
     tie.close
     (tie.spec
-    Inv-loop
-    μ-loop
-    shared-slice-read-before
-    loop-holds
-    shared-slice-read-event
-    change-length-requires
-    add-total
-    add-i
-    loop-less
-    loop-again
-    time-length-requires
-    add-result
-    returns)
+    Inv-loop μ-loop (λ c. search needs) (λ c. search needs) (λ c. search needs) (λ c κs. search needs) (λ c. search needs) (λ c. search needs)
+    (λ c. search needs) loop-again (λ c κs. search needs) (λ c. search needs) returns)

@@ -18,24 +18,6 @@ Inv-loop signals shown total₀ shown-on₀ i₀ total shown-on i =
 abbrev μ-loop : tie.MeasureT-loop
 μ-loop signals shown total₀ shown-on₀ i₀ total shown-on i = length signals - i
 
-loop-holds : tie.Need-loop-holds Inv-loop μ-loop
-loop-holds c = search needs
-
-cast-total : tie.Need-cast-total Inv-loop μ-loop
-cast-total c = search needs
-
-mul-total : tie.Need-mul-total Inv-loop μ-loop
-mul-total c = search needs
-
-add-total : tie.Need-add-total Inv-loop μ-loop
-add-total c = search needs
-
-add-i : tie.Need-add-i Inv-loop μ-loop
-add-i c = search needs
-
-loop-less : tie.Need-loop-less Inv-loop μ-loop
-loop-less c = search needs
-
 loop-again : tie.Need-loop-again Inv-loop μ-loop
 loop-again c =
     let l = c .before .loop in
@@ -50,13 +32,5 @@ pub values-length-spec : {M : Type 1} → statement M
 values-length-spec =
     tie.close
     (tie.spec
-    Inv-loop
-    μ-loop
-    loop-holds
-    cast-total
-    mul-total
-    add-total
-    add-i
-    loop-less
-    loop-again
+    Inv-loop μ-loop (λ c. search needs) (λ c. search needs) (λ c. search needs) (λ c. search needs) (λ c. search needs) (λ c. search needs) loop-again
     returns)

@@ -18,9 +18,6 @@ put-values-requires-2 c κs =
     let a = c .before .before .before .before .before .before .before .before .args in
     omega (arith, event-length (now (a .inputs)) (now (a .outputs)) (a .shown) (a .event), p .put-values .ensures .next, p .put-values .kept .0)
 
-same-length : tie.Need-same-length
-same-length c = search needs
-
 returns : tie.Need-returns
 unfolding eventLines
 returns c =
@@ -29,4 +26,4 @@ returns c =
     wrote-then (omega arith) (c .before .before .before .before .before .before .put-values .ensures) (c .before .before .put-values2 .ensures)
 
 pub put-event-spec : {M : Type 1} → statement M
-put-event-spec = tie.close (tie.spec put-values-requires put-values-requires-2 same-length returns)
+put-event-spec = tie.close (tie.spec put-values-requires put-values-requires-2 (λ c. search needs) returns)

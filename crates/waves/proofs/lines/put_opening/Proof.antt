@@ -8,9 +8,6 @@ use borrow.Author.Needs.{needs}
 use Rattle.waves.proofs.lines.put_opening.Statement.{statement}
 use Rattle.waves.proofs.lines.put_opening.Tie as tie
 
-slice-aggregate-put-bytes : tie.Need-slice-aggregate-put-bytes
-slice-aggregate-put-bytes c = search needs
-
 put-bytes-requires : tie.Need-put-bytes-requires
 put-bytes-requires c κs = let a = c .before .before .before .before .before .args in omega (arith, opening-length (now (a .inputs)) (now (a .outputs)))
 
@@ -26,9 +23,6 @@ put-vars-requires-2 c κs =
     let p = q .before .before .before .before in
     let a = p .before .before .before .before .before .before .args in
     omega (arith, opening-length (now (a .inputs)) (now (a .outputs)), p .put-bytes .ensures .next, p .put-bytes .kept .0, q .put-vars .ensures .next, q .put-vars .kept .0)
-
-slice-aggregate-put-bytes-2 : tie.Need-slice-aggregate-put-bytes-2
-slice-aggregate-put-bytes-2 c = search needs
 
 put-bytes-requires-2 : tie.Need-put-bytes-requires-2
 put-bytes-requires-2 c κs =
@@ -67,9 +61,6 @@ put-time-requires c κs =
       e .put-bytes2 .kept .0,
     )
 
-same-length : tie.Need-same-length
-same-length c = search needs
-
 returns : tie.Need-returns
 unfolding header
 returns c =
@@ -87,12 +78,5 @@ pub put-opening-spec : {M : Type 1} → statement M
 put-opening-spec =
     tie.close
     (tie.spec
-    slice-aggregate-put-bytes
-    put-bytes-requires
-    put-vars-requires
-    put-vars-requires-2
-    slice-aggregate-put-bytes-2
-    put-bytes-requires-2
-    put-time-requires
-    same-length
-    returns)
+    (λ c. search needs) put-bytes-requires put-vars-requires put-vars-requires-2 (λ c. search needs) put-bytes-requires-2 put-time-requires
+    (λ c. search needs) returns)

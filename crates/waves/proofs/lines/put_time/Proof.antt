@@ -7,9 +7,6 @@ use borrow.Author.Needs.{needs}
 use Rattle.waves.proofs.lines.put_time.Statement.{statement}
 use Rattle.waves.proofs.lines.put_time.Tie as tie
 
-slice-aggregate-put-bytes : tie.Need-slice-aggregate-put-bytes
-slice-aggregate-put-bytes c = search needs
-
 put-bytes-requires : tie.Need-put-bytes-requires
 put-bytes-requires c κs = omega (arith, time-length (c .before .before .before .args .time))
 
@@ -18,17 +15,11 @@ put-decimal-requires c κs =
     let p = c .before .before .before in
     omega (arith, time-length (p .before .before .before .before .args .time), p .put-bytes .ensures .next, p .put-bytes .kept .0)
 
-slice-aggregate-put-bytes-2 : tie.Need-slice-aggregate-put-bytes-2
-slice-aggregate-put-bytes-2 c = search needs
-
 put-bytes-requires-2 : tie.Need-put-bytes-requires-2
 put-bytes-requires-2 c κs =
     let d = c .before .before .before .before in
     let p = d .before .before .before .before in
     omega (arith, time-length (p .before .before .before .before .args .time), p .put-bytes .ensures .next, p .put-bytes .kept .0, d .put-decimal .ensures .next, d .put-decimal .kept .0)
-
-same-length : tie.Need-same-length
-same-length c = search needs
 
 returns : tie.Need-returns
 unfolding timeLine
@@ -43,10 +34,4 @@ pub put-time-spec : {M : Type 1} → statement M
 put-time-spec =
     tie.close
     (tie.spec
-    slice-aggregate-put-bytes
-    put-bytes-requires
-    put-decimal-requires
-    slice-aggregate-put-bytes-2
-    put-bytes-requires-2
-    same-length
-    returns)
+    (λ c. search needs) put-bytes-requires put-decimal-requires (λ c. search needs) put-bytes-requires-2 (λ c. search needs) returns)

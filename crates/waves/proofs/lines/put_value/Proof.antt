@@ -6,20 +6,11 @@ use Rattle.waves.specs.Under.{shown-length}
 use Rattle.waves.proofs.lines.put_value.Statement.{statement}
 use Rattle.waves.proofs.lines.put_value.Tie as tie
 
-add-t10 : tie.Need-add-t10
-add-t10 c = search needs
-
-slice-aggregate-put-bytes : tie.Need-slice-aggregate-put-bytes
-slice-aggregate-put-bytes c = search needs
-
 put-bytes-requires : tie.Need-put-bytes-requires
 put-bytes-requires c κs =
     let i = c .before .before in
     let a = i .before .before .args in
     omega (arith, shown-length (a .tag) (a .shown) (a .values) (i .if1 .taken))
-
-same-length : tie.Need-same-length
-same-length c = search needs
 
 returns : tie.Need-returns
 returns c = let i = c .before .before .before .before .before in rw (eq-eqb _ 1 (i .if1 .taken)) (c .before .before .put-bytes .ensures)
@@ -28,6 +19,4 @@ returns-2 : tie.Need-returns-2
 returns-2 c = rw (ne-eqb _ 1 (c .if1 .left)) (wrote-none _ _)
 
 pub put-value-spec : {M : Type 1} → statement M
-put-value-spec =
-    tie.close
-    (tie.spec add-t10 slice-aggregate-put-bytes put-bytes-requires same-length returns returns-2)
+put-value-spec = tie.close (tie.spec (λ c. search needs) (λ c. search needs) put-bytes-requires (λ c. search needs) returns returns-2)

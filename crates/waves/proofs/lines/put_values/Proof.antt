@@ -20,9 +20,6 @@ abbrev μ-loop : tie.MeasureT-loop
 loop-holds : tie.Need-loop-holds Inv-loop μ-loop
 loop-holds c = (search needs, under-start _ _ _)
 
-shared-slice-read-put-value : tie.Need-shared-slice-read-put-value Inv-loop μ-loop
-shared-slice-read-put-value c = search needs
-
 put-value-requires : tie.Need-put-value-requires Inv-loop μ-loop
 put-value-requires c κs =
     let l = c .before .before .before in
@@ -33,12 +30,6 @@ put-value-requires c κs =
     let b = l .loop .values-on in
     under-room (s .pre) (l .loop .inv .1) (valueLine (getD t i 0) a b) (valueLines (drop (i + 1) t) (a / 2) (b / 2)) (values-turn t i a b (omega arith))
 
-add-i : tie.Need-add-i Inv-loop μ-loop
-add-i c = search needs
-
-loop-less : tie.Need-loop-less Inv-loop μ-loop
-loop-less c = search needs
-
 loop-again : tie.Need-loop-again Inv-loop μ-loop
 loop-again c =
     let l = c .before .before .before .before .before .before in
@@ -47,9 +38,6 @@ loop-again c =
       search needs,
       under-more (s .pre) (l .loop .inv .1) (values-turn (now (s .args .tags)) (l .loop .i) (l .loop .shown-on) (l .loop .values-on) (omega arith)) (p .ensures) (p .kept .0),
     )
-
-same-length : tie.Need-same-length Inv-loop μ-loop
-same-length c = search needs
 
 returns : tie.Need-returns Inv-loop μ-loop
 returns c =
@@ -60,13 +48,4 @@ pub put-values-spec : {M : Type 1} → statement M
 put-values-spec =
     tie.close
     (tie.spec
-    Inv-loop
-    μ-loop
-    loop-holds
-    shared-slice-read-put-value
-    put-value-requires
-    add-i
-    loop-less
-    loop-again
-    same-length
-    returns)
+    Inv-loop μ-loop loop-holds (λ c. search needs) put-value-requires (λ c. search needs) (λ c. search needs) loop-again (λ c. search needs) returns)

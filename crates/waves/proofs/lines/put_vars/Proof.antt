@@ -20,15 +20,6 @@ abbrev μ-loop : tie.MeasureT-loop
 loop-holds : tie.Need-loop-holds Inv-loop μ-loop
 loop-holds c = (search needs, under-start _ _ _)
 
-shared-slice-read-var-line : tie.Need-shared-slice-read-var-line Inv-loop μ-loop
-shared-slice-read-var-line c = search needs
-
-var-line-requires : tie.Need-var-line-requires Inv-loop μ-loop
-var-line-requires c κs = search needs
-
-slice-aggregate-put-bytes : tie.Need-slice-aggregate-put-bytes Inv-loop μ-loop
-slice-aggregate-put-bytes c = search needs
-
 put-bytes-requires : tie.Need-put-bytes-requires Inv-loop μ-loop
 put-bytes-requires c κs =
     let l = c .before .before .before .before .before in
@@ -36,12 +27,6 @@ put-bytes-requires c κs =
     let t = now (s .args .tags) in
     let i = l .loop .i in
     rw (c .before .before .var-line .ensures) (under-room (s .pre) (l .loop .inv .1) (varLine (getD t i 0)) (varLines (drop (i + 1) t)) (vars-turn t i (omega arith)))
-
-add-i : tie.Need-add-i Inv-loop μ-loop
-add-i c = search needs
-
-loop-less : tie.Need-loop-less Inv-loop μ-loop
-loop-less c = search needs
 
 loop-again : tie.Need-loop-again Inv-loop μ-loop
 loop-again c =
@@ -53,9 +38,6 @@ loop-again c =
       under-more (s .pre) (l .loop .inv .1) (rw (v .var-line .ensures) (vars-turn (now (s .args .tags)) (l .loop .i) (omega arith))) (p .ensures) (p .kept .0),
     )
 
-same-length : tie.Need-same-length Inv-loop μ-loop
-same-length c = search needs
-
 returns : tie.Need-returns Inv-loop μ-loop
 returns c =
     let l = c .before .loop in
@@ -65,15 +47,5 @@ pub put-vars-spec : {M : Type 1} → statement M
 put-vars-spec =
     tie.close
     (tie.spec
-    Inv-loop
-    μ-loop
-    loop-holds
-    shared-slice-read-var-line
-    var-line-requires
-    slice-aggregate-put-bytes
-    put-bytes-requires
-    add-i
-    loop-less
-    loop-again
-    same-length
-    returns)
+    Inv-loop μ-loop loop-holds (λ c. search needs) (λ c κs. search needs) (λ c. search needs) put-bytes-requires (λ c. search needs)
+    (λ c. search needs) loop-again (λ c. search needs) returns)

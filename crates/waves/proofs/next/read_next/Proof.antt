@@ -8,9 +8,6 @@ use borrow.Author.Needs.{needs}
 use Rattle.waves.proofs.next.read_next.Statement.{statement}
 use Rattle.waves.proofs.next.read_next.Tie as tie
 
-read-time-requires : tie.Need-read-time-requires
-read-time-requires c κs = search needs
-
 returns : tie.Need-returns
 returns c =
     let t = c .before .before in
@@ -71,14 +68,4 @@ returns-6 c =
     }
 
 pub read-next-spec : {M : Type 1} → statement M
-read-next-spec =
-    tie.close
-    (tie.spec
-    read-time-requires
-    returns
-    returns-2
-    returns-3
-    read-event-requires
-    returns-4
-    returns-5
-    returns-6)
+read-next-spec = tie.close (tie.spec (λ c κs. search needs) returns returns-2 returns-3 read-event-requires returns-4 returns-5 returns-6)

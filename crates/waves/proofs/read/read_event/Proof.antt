@@ -6,12 +6,6 @@ use borrow.Author.Needs.{needs}
 use Rattle.waves.proofs.read.read_event.Statement.{statement}
 use Rattle.waves.proofs.read.read_event.Tie as tie
 
-read-lines-requires : tie.Need-read-lines-requires
-read-lines-requires c κs = search needs
-
-read-lines-requires-2 : tie.Need-read-lines-requires-2
-read-lines-requires-2 c κs = search needs
-
 both-lines-requires : tie.Need-both-lines-requires
 both-lines-requires c κs =
     let s = c .before .before .before .before .before in
@@ -25,5 +19,4 @@ returns : tie.Need-returns
 returns c = read-both (c .before .before .read-lines .ensures) (c .before .read-lines2 .ensures) (c .both-lines .ensures)
 
 pub read-event-spec : {M : Type 1} → statement M
-read-event-spec =
-    tie.close (tie.spec read-lines-requires read-lines-requires-2 both-lines-requires returns)
+read-event-spec = tie.close (tie.spec (λ c κs. search needs) (λ c κs. search needs) both-lines-requires returns)

@@ -1,5 +1,4 @@
 -- `waves::reader::take` meets its contract: the policy is refused, or its tags are handed on.
-use mathlib.Core.Path.{sym}
 use native.Mathlib.Omega.{arith}
 use denote.Ref.{now}
 use Rattle.waves.specs.Tags.{Tagged}
@@ -7,9 +6,6 @@ use Rattle.waves.specs.BySignals.{take-refused, take-by}
 use borrow.Author.Needs.{needs}
 use Rattle.waves.proofs.reader.take.Statement.{statement}
 use Rattle.waves.proofs.reader.take.Tie as tie
-
-tags-of-requires : tie.Need-tags-of-requires
-tags-of-requires c κs = search needs
 
 returns : tie.Need-returns
 returns c = take-refused _ (c .before .before .tags-of .ensures .refused) (c .if1 .taken)
@@ -39,9 +35,6 @@ part-take-checked-end-2 c = let t = stand (c .before) in omega arith
 take-checked-requires : tie.Need-take-checked-requires
 take-checked-requires c κs = let t = stand (c .before .before .before) in rw (t .inputs, t .outputs) (t .good)
 
-same-length : tie.Need-same-length
-same-length c = search needs
-
 returns-2 : tie.Need-returns-2
 returns-2 c =
     let t = stand (c .before .before .before .before .before .before) in take-by (t .passes) (rw (t .inputs, t .outputs) at (c .before .before .take-checked .ensures))
@@ -50,14 +43,5 @@ pub take-spec : {M : Type 1} → statement M
 take-spec =
     tie.close
     (tie.spec
-    tags-of-requires
-    returns
-    sub-take-checked
-    part-take-checked-start
-    part-take-checked-end
-    sub-take-checked-2
-    part-take-checked-start-2
-    part-take-checked-end-2
-    take-checked-requires
-    same-length
-    returns-2)
+    (λ c κs. search needs) returns sub-take-checked part-take-checked-start part-take-checked-end sub-take-checked-2 part-take-checked-start-2
+    part-take-checked-end-2 take-checked-requires (λ c. search needs) returns-2)

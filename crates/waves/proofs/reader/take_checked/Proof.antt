@@ -10,18 +10,6 @@ use borrow.Author.Needs.{needs}
 use Rattle.waves.proofs.reader.take_checked.Statement.{statement}
 use Rattle.waves.proofs.reader.take_checked.Tie as tie
 
-slice-aggregate-read-stream : tie.Need-slice-aggregate-read-stream
-slice-aggregate-read-stream c = search needs
-
-read-stream-requires : tie.Need-read-stream-requires
-read-stream-requires c κs = search needs
-
-enum-told : tie.Need-enum-told
-enum-told c = search needs
-
-enum-known-found : tie.Need-enum-known-found
-enum-known-found c = search needs
-
 returns : tie.Need-returns
 returns c =
     let r = c .before .before .before .before .before in
@@ -34,9 +22,6 @@ returns c =
     let f = subst (λ (q : StreamRead). FoundStream x y t (0 ∷ []) q last) (c .before .before .found .given .1) (r .read-stream .ensures) in
     taken-short x y (s .pre) t z (0 ∷ []) last (c .before .before .found .given .0 .0) f (omega arith)
 
-read-stream-requires-2 : tie.Need-read-stream-requires-2
-read-stream-requires-2 c κs = search needs
-
 returns-2 : tie.Need-returns-2
 returns-2 c =
     let r = c .before .before .before in
@@ -48,9 +33,6 @@ returns-2 c =
     let last = r .read-stream .last .1 .1 .1 .0 in
     let f = subst (λ (q : StreamRead). FoundStream x y t (0 ∷ []) q last) (c .enum-told .given .1) (r .read-stream .ensures) in
     taken-none x y (s .pre) t z (0 ∷ []) last f
-
-same-length : tie.Need-same-length
-same-length c = search needs
 
 returns-3 : tie.Need-returns-3
 returns-3 c =
@@ -69,12 +51,5 @@ pub take-checked-spec : {M : Type 1} → statement M
 take-checked-spec =
     tie.close
     (tie.spec
-    slice-aggregate-read-stream
-    read-stream-requires
-    enum-told
-    enum-known-found
-    returns
-    read-stream-requires-2
-    returns-2
-    same-length
+    (λ c. search needs) (λ c κs. search needs) (λ c. search needs) (λ c. search needs) returns (λ c κs. search needs) returns-2 (λ c. search needs)
     returns-3)

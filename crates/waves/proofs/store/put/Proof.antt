@@ -5,17 +5,8 @@ use borrow.Author.Needs.{needs}
 use Rattle.waves.proofs.store.put.Statement.{statement}
 use Rattle.waves.proofs.store.put.Tie as tie
 
-slice-write-events : tie.Need-slice-write-events
-slice-write-events c = search needs
-
-same-length : tie.Need-same-length
-same-length c = search needs
-
-returns : tie.Need-returns
-returns c = search needs
-
 returns-2 : tie.Need-returns-2
 returns-2 c = sym (set-out _ _ _ (c .if1 .left))
 
 pub put-spec : {M : Type 1} → statement M
-put-spec = tie.close (tie.spec slice-write-events same-length returns returns-2)
+put-spec = tie.close (tie.spec (λ c. search needs) (λ c. search needs) (λ c. search needs) returns-2)

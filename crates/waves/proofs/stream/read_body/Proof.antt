@@ -11,21 +11,6 @@ use borrow.Author.Needs.{needs}
 use Rattle.waves.proofs.stream.read_body.Statement.{statement}
 use Rattle.waves.proofs.stream.read_body.Tie as tie
 
-read-event-requires : tie.Need-read-event-requires
-read-event-requires c κs = search needs
-
-ones-requires : tie.Need-ones-requires
-ones-requires c κs = search needs
-
-ones-requires-2 : tie.Need-ones-requires-2
-ones-requires-2 c κs = search needs
-
-mul-every : tie.Need-mul-every
-mul-every c = search needs
-
-add-every : tie.Need-add-every
-add-every c = search needs
-
 returns : tie.Need-returns
 returns c =
     let e = c .before .before .before .before in
@@ -37,9 +22,6 @@ returns c =
     let v = e .read-event .ensures in
     body-none x y g w [] [] (λ q. c .if1 .taken (omega (arith, v .shown, q, c .before .before .before .ones .ensures .0, c .before .before .ones2 .ensures .0)))
 
-put-requires : tie.Need-put-requires
-put-requires c κs = search needs
-
 read-later-requires : tie.Need-read-later-requires
 read-later-requires c κs =
     let e = c .before .before .before .before .before .before .before .before .before in
@@ -50,9 +32,6 @@ read-later-requires c κs =
     let g = s .pre .1 in
     let v = e .read-event .ensures in
     (v .between .within, (g, subst (EventFits x y) (sym (v .values)) (event-bound x y g w .1)))
-
-same-length : tie.Need-same-length
-same-length c = search needs
 
 returns-2 : tie.Need-returns-2
 returns-2 c =
@@ -78,13 +57,5 @@ pub read-body-spec : {M : Type 1} → statement M
 read-body-spec =
     tie.close
     (tie.spec
-    read-event-requires
-    ones-requires
-    ones-requires-2
-    mul-every
-    add-every
-    returns
-    put-requires
-    read-later-requires
-    same-length
-    returns-2)
+    (λ c κs. search needs) (λ c κs. search needs) (λ c κs. search needs) (λ c. search needs) (λ c. search needs) returns (λ c κs. search needs)
+    read-later-requires (λ c. search needs) returns-2)

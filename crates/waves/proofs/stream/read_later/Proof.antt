@@ -28,12 +28,6 @@ loop-holds c =
 read-next-requires : tie.Need-read-next-requires Inv-loop μ-loop
 read-next-requires c κs = let g = c .before .before .before .before .before .pre .1 .0 in (c .loop .inv .0, g .fewIn, g .fewOut)
 
-enum-told : tie.Need-enum-told Inv-loop μ-loop
-enum-told c = search needs
-
-same-length : tie.Need-same-length Inv-loop μ-loop
-same-length c = search needs
-
 returns : tie.Need-returns Inv-loop μ-loop
 returns c =
     let l = c .before .before .before in
@@ -45,9 +39,6 @@ returns c =
     let r = l .loop .inv .2 .1 in
     let n = subst (NextRead x y t (l .loop .next) (l .loop .count) (l .loop .event)) (c .enum-told .given .1) (c .before .before .read-next .ensures) in
     reached-bad x y g r (sym (n .said))
-
-enum-known-step : tie.Need-enum-known-step Inv-loop μ-loop
-enum-known-step c = search needs
 
 fill-requires : tie.Need-fill-requires Inv-loop μ-loop
 fill-requires c κs =
@@ -61,9 +52,6 @@ fill-requires c κs =
     let n = subst (NextRead x y t (l .loop .next) (l .loop .count) (l .loop .event)) (c .before .before .step .given .1) (c .before .before .before .before .read-next .ensures) in
     reached-closes x y g r (c .before .before .step .given .0 .0) (sym (n .said)) .from
 
-same-length-2 : tie.Need-same-length-2 Inv-loop μ-loop
-same-length-2 c = search needs
-
 returns-2 : tie.Need-returns-2 Inv-loop μ-loop
 returns-2 c =
     let l = c .before .before .before .before .before .before .before .before in
@@ -76,9 +64,6 @@ returns-2 c =
     let n = subst (NextRead x y t (l .loop .next) (l .loop .count) (l .loop .event)) (c .before .before .before .before .before .step .given .1) (c .before .before .before .before .before .before .before .read-next .ensures) in
     stored-closes x y g r (c .before .before .before .before .before .step .given .0 .0) (now (s .args .events)) (l .loop .events) (c .before .before .fill .last .0) (sym (n .said)) (l .loop .inv .2 .2) (c .before .before .fill .ensures)
 
-enum-known-step-2 : tie.Need-enum-known-step-2 Inv-loop μ-loop
-enum-known-step-2 c = search needs
-
 fill-requires-2 : tie.Need-fill-requires-2 Inv-loop μ-loop
 fill-requires-2 c κs =
     let l = c .before .before .before .before .before in
@@ -90,9 +75,6 @@ fill-requires-2 c κs =
     let r = l .loop .inv .2 .1 in
     let n = subst (NextRead x y t (l .loop .next) (l .loop .count) (l .loop .event)) (c .before .before .step2 .given .1) (c .before .before .before .before .read-next .ensures) in
     reached-changes x y g r (c .before .before .step2 .given .0 .0) _ _ (sym (n .said)) .1
-
-put-requires : tie.Need-put-requires Inv-loop μ-loop
-put-requires c κs = search needs
 
 add-count : tie.Need-add-count Inv-loop μ-loop
 add-count c =
@@ -144,20 +126,5 @@ pub read-later-spec : {M : Type 1} → statement M
 read-later-spec =
     tie.close
     (tie.spec
-    Inv-loop
-    μ-loop
-    loop-holds
-    read-next-requires
-    enum-told
-    same-length
-    returns
-    enum-known-step
-    fill-requires
-    same-length-2
-    returns-2
-    enum-known-step-2
-    fill-requires-2
-    put-requires
-    add-count
-    loop-less
-    loop-again)
+    Inv-loop μ-loop loop-holds read-next-requires (λ c. search needs) (λ c. search needs) returns (λ c. search needs) fill-requires
+    (λ c. search needs) returns-2 (λ c. search needs) fill-requires-2 (λ c κs. search needs) add-count loop-less loop-again)

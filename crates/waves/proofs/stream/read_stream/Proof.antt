@@ -68,9 +68,6 @@ read-body-requires c κs =
     let b = subst (λ (z : List ℕ). t ≡ z ++ drop (length z) t) w (c .before .before .before .begins .ensures .yes (not-false _ (c .before .before .if1 .left))) in
     (omega (arith, p .put-opening .ensures .next, ap length b, length-append (opening x y) (drop (length (opening x y)) t)), g)
 
-same-length : tie.Need-same-length
-same-length c = search needs
-
 returns-3 : tie.Need-returns-3
 returns-3 c =
     let p = c .before .before .before .before .before .before .before .before .before in
@@ -93,13 +90,5 @@ pub read-stream-spec : {M : Type 1} → statement M
 read-stream-spec =
     tie.close
     (tie.spec
-    slice-aggregate-put-opening
-    put-opening-requires
-    array-share-prefix-opening
-    slice-aggregate-begins
-    begins-requires
-    returns
-    returns-2
-    read-body-requires
-    same-length
-    returns-3)
+    slice-aggregate-put-opening put-opening-requires array-share-prefix-opening slice-aggregate-begins begins-requires returns returns-2
+    read-body-requires (λ c. search needs) returns-3)

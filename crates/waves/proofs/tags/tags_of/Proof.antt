@@ -6,9 +6,6 @@ use borrow.Author.Needs.{needs}
 use Rattle.waves.proofs.tags.tags_of.Statement.{statement}
 use Rattle.waves.proofs.tags.tags_of.Tie as tie
 
-check-requires : tie.Need-check-requires
-check-requires c κs = search needs
-
 returns : tie.Need-returns
 returns c = record { refused = refused-as (c .before .before .check .ensures); tagged = λ z. absurd (c .if1 .taken z) }
 
@@ -25,4 +22,4 @@ returns-2 : tie.Need-returns-2
 returns-2 c = tags-stand (c .before .before .before .before .before .check .ensures) (c .before .before .before .if1 .left) refl refl refl refl
 
 pub tags-of-spec : {M : Type 1} → statement M
-tags-of-spec = tie.close (tie.spec check-requires returns add-inputs-end add-outputs-start add-outputs-end returns-2)
+tags-of-spec = tie.close (tie.spec (λ c κs. search needs) returns add-inputs-end add-outputs-start add-outputs-end returns-2)

@@ -24,9 +24,6 @@ put-event-requires c κs =
     let a = i .before .before .before .before .args in
     omega (arith, change-long (now (a .inputs)) (now (a .outputs)) (a .time) (a .shown) (a .event) (i .if1 .left), p .put-time .ensures .next, p .put-time .kept .0)
 
-same-length : tie.Need-same-length
-same-length c = search needs
-
 returns-2 : tie.Need-returns-2
 returns-2 c =
     let p = c .before .before .before .before .before .before in
@@ -37,5 +34,4 @@ returns-2 c =
     rw (ne-eqb _ 0 (i .if1 .left)) (wrote-then (omega arith) (p .put-time .ensures) (c .before .before .put-event .ensures))
 
 pub put-change-spec : {M : Type 1} → statement M
-put-change-spec =
-    tie.close (tie.spec returns put-time-requires put-event-requires same-length returns-2)
+put-change-spec = tie.close (tie.spec returns put-time-requires put-event-requires (λ c. search needs) returns-2)

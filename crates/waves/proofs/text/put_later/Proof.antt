@@ -21,14 +21,8 @@ Inv-loop text₀ at inputs outputs events next₀ before₀ i₀ text next befor
 abbrev μ-loop : tie.MeasureT-loop
 μ-loop text₀ at inputs outputs events next₀ before₀ i₀ text next before i = length events - i
 
-shared-slice-read-before : tie.Need-shared-slice-read-before Inv-loop μ-loop
-shared-slice-read-before c = search needs
-
 loop-holds : tie.Need-loop-holds Inv-loop μ-loop
 loop-holds c = (search needs, under-start _ _ _)
-
-shared-slice-read-event : tie.Need-shared-slice-read-event Inv-loop μ-loop
-shared-slice-read-event c = search needs
 
 put-change-requires : tie.Need-put-change-requires Inv-loop μ-loop
 put-change-requires c κs =
@@ -41,12 +35,6 @@ put-change-requires c κs =
     let e = getD z i 0 in
     under-room (s .pre .0) (l .loop .inv .1) (changeLines x y i (bitXor (l .loop .before) e) e) (laterLines x y (i + 1) e (drop (i + 1) z))
     (later-turn x y z i (l .loop .before) (omega arith))
-
-add-i : tie.Need-add-i Inv-loop μ-loop
-add-i c = search needs
-
-loop-less : tie.Need-loop-less Inv-loop μ-loop
-loop-less c = search needs
 
 loop-again : tie.Need-loop-again Inv-loop μ-loop
 loop-again c =
@@ -69,9 +57,6 @@ put-time-requires c κs =
     let i = l .loop .i in
     under-room (s .pre .0) (l .loop .inv .1) (timeLine i) [] (later-end x y z i (l .loop .before) (omega arith) ∙ sym (append-nil (timeLine i)))
 
-same-length : tie.Need-same-length Inv-loop μ-loop
-same-length c = search needs
-
 returns : tie.Need-returns Inv-loop μ-loop
 returns c =
     let p = c .before .before .put-time in
@@ -87,15 +72,5 @@ pub put-later-spec : {M : Type 1} → statement M
 put-later-spec =
     tie.close
     (tie.spec
-    Inv-loop
-    μ-loop
-    shared-slice-read-before
-    loop-holds
-    shared-slice-read-event
-    put-change-requires
-    add-i
-    loop-less
-    loop-again
-    put-time-requires
-    same-length
-    returns)
+    Inv-loop μ-loop (λ c. search needs) loop-holds (λ c. search needs) put-change-requires (λ c. search needs) (λ c. search needs) loop-again
+    put-time-requires (λ c. search needs) returns)

@@ -11,17 +11,11 @@ use Rattle.waves.proofs.text.put_text.Tie as tie
 put-opening-requires : tie.Need-put-opening-requires
 put-opening-requires c κs = let s = c .before .before .before .before .before in omega (arith, text-least (now (s .args .inputs)) (now (s .args .outputs)) (now (s .args .events)))
 
-same-length : tie.Need-same-length
-same-length c = search needs
-
 returns : tie.Need-returns
 returns c =
     let p = c .before .before .before in
     let s = p .before .before .before .before .before .before in
     rw (text-empty (now (s .args .inputs)) (now (s .args .outputs)) (now (s .args .events)) (c .if1 .taken)) (p .put-opening .ensures)
-
-shared-slice-read-put-event : tie.Need-shared-slice-read-put-event
-shared-slice-read-put-event c = search needs
 
 put-event-requires : tie.Need-put-event-requires
 put-event-requires c κs =
@@ -48,9 +42,6 @@ put-later-requires c κs =
       omega (arith, i .if1 .left),
     )
 
-same-length-2 : tie.Need-same-length-2
-same-length-2 c = search needs
-
 returns-2 : tie.Need-returns-2
 returns-2 c =
     let q = c .before .before .before .before .before .before in
@@ -65,11 +56,4 @@ pub put-text-spec : {M : Type 1} → statement M
 put-text-spec =
     tie.close
     (tie.spec
-    put-opening-requires
-    same-length
-    returns
-    shared-slice-read-put-event
-    put-event-requires
-    put-later-requires
-    same-length-2
-    returns-2)
+    put-opening-requires (λ c. search needs) returns (λ c. search needs) put-event-requires put-later-requires (λ c. search needs) returns-2)

@@ -17,18 +17,6 @@ Inv-loop inputs outputs events x-last y-last i₀ i = (i ≤ length events) × (
 abbrev μ-loop : tie.MeasureT-loop
 μ-loop inputs outputs events x-last y-last i₀ i = length events - i
 
-ones-requires : tie.Need-ones-requires Inv-loop μ-loop
-ones-requires c κs = search needs
-
-ones-requires-2 : tie.Need-ones-requires-2 Inv-loop μ-loop
-ones-requires-2 c κs = search needs
-
-loop-holds : tie.Need-loop-holds Inv-loop μ-loop
-loop-holds c = search needs
-
-shared-slice-read-event : tie.Need-shared-slice-read-event Inv-loop μ-loop
-shared-slice-read-event c = search needs
-
 returns : tie.Need-returns Inv-loop μ-loop
 returns c =
     let l = c .before .before in
@@ -51,12 +39,6 @@ returns-2 c =
     let y = o .ones2 .ensures .0 in
     rw (t, lt-ltb (e % 16) (2 ^ a .inputs) (within-ones (a .inputs) (e % 16) _ x (c .before .if1 .left)), le-ltb (e / 16) (2 ^ a .outputs) (past-ones (a .outputs) (e / 16) _ y (c .if2 .taken)))
 
-add-i : tie.Need-add-i Inv-loop μ-loop
-add-i c = search needs
-
-loop-less : tie.Need-loop-less Inv-loop μ-loop
-loop-less c = search needs
-
 loop-again : tie.Need-loop-again Inv-loop μ-loop
 loop-again c =
     let l = c .before .before .before in
@@ -75,15 +57,5 @@ pub events-good-spec : {M : Type 1} → statement M
 events-good-spec =
     tie.close
     (tie.spec
-    Inv-loop
-    μ-loop
-    ones-requires
-    ones-requires-2
-    loop-holds
-    shared-slice-read-event
-    returns
-    returns-2
-    add-i
-    loop-less
-    loop-again
-    returns-3)
+    Inv-loop μ-loop (λ c κs. search needs) (λ c κs. search needs) (λ c. search needs) (λ c. search needs) returns returns-2 (λ c. search needs)
+    (λ c. search needs) loop-again returns-3)

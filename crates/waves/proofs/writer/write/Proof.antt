@@ -1,5 +1,4 @@
 -- `waves::writer::write` meets its contract: the policy is refused, or its tags are handed on.
-use mathlib.Core.Path.{sym}
 use native.Mathlib.Omega.{arith}
 use denote.Ref.{now}
 use Rattle.waves.specs.Tags.{Tagged}
@@ -7,9 +6,6 @@ use Rattle.waves.specs.BySignals.{write-refused, write-by}
 use borrow.Author.Needs.{needs}
 use Rattle.waves.proofs.writer.write.Statement.{statement}
 use Rattle.waves.proofs.writer.write.Tie as tie
-
-tags-of-requires : tie.Need-tags-of-requires
-tags-of-requires c κs = search needs
 
 returns : tie.Need-returns
 returns c = write-refused _ (c .before .before .tags-of .ensures .refused) (c .if1 .taken)
@@ -39,9 +35,6 @@ part-write-checked-end-2 c = let t = stand (c .before) in omega arith
 write-checked-requires : tie.Need-write-checked-requires
 write-checked-requires c κs = let t = stand (c .before .before .before) in rw (t .inputs, t .outputs) (t .good)
 
-same-length : tie.Need-same-length
-same-length c = search needs
-
 returns-2 : tie.Need-returns-2
 returns-2 c =
     let t = stand (c .before .before .before .before .before .before) in write-by (t .passes) (rw (t .inputs, t .outputs) at (c .before .before .write-checked .ensures))
@@ -50,14 +43,5 @@ pub write-spec : {M : Type 1} → statement M
 write-spec =
     tie.close
     (tie.spec
-    tags-of-requires
-    returns
-    sub-write-checked
-    part-write-checked-start
-    part-write-checked-end
-    sub-write-checked-2
-    part-write-checked-start-2
-    part-write-checked-end-2
-    write-checked-requires
-    same-length
-    returns-2)
+    (λ c κs. search needs) returns sub-write-checked part-write-checked-start part-write-checked-end sub-write-checked-2 part-write-checked-start-2
+    part-write-checked-end-2 write-checked-requires (λ c. search needs) returns-2)

@@ -11,26 +11,14 @@ use Rattle.waves.proofs.writer.write_checked.Tie as tie
 returns : tie.Need-returns
 returns c = let a = c .before .before .before .before .before .args in by-long (now (a .inputs)) (now (a .outputs)) (now (a .events)) (now (a .text)) (c .if1 .taken)
 
-events-good-requires : tie.Need-events-good-requires
-events-good-requires c κs = search needs
-
 returns-2 : tie.Need-returns-2
 returns-2 c = let a = c .before .before .before .before .before .before .before .args in by-bad (now (a .inputs)) (now (a .outputs)) (now (a .events)) (now (a .text)) (omega arith) (sym (c .before .events-good .ensures) ∙ not-true _ (c .if2 .taken))
-
-text-length-requires : tie.Need-text-length-requires
-text-length-requires c κs = search needs
 
 returns-3 : tie.Need-returns-3
 returns-3 c =
     let i = c .before .before in
     let a = i .before .before .before .before .before .before .before .args in
     by-short (now (a .inputs)) (now (a .outputs)) (now (a .events)) (now (a .text)) (omega arith) (sym (i .before .events-good .ensures) ∙ not-false _ (i .if2 .left)) (omega (arith, c .before .text-length .ensures))
-
-put-text-requires : tie.Need-put-text-requires
-put-text-requires c κs = search needs
-
-same-length : tie.Need-same-length
-same-length c = search needs
 
 returns-4 : tie.Need-returns-4
 returns-4 c =
@@ -43,11 +31,4 @@ pub write-checked-spec : {M : Type 1} → statement M
 write-checked-spec =
     tie.close
     (tie.spec
-    returns
-    events-good-requires
-    returns-2
-    text-length-requires
-    returns-3
-    put-text-requires
-    same-length
-    returns-4)
+    returns (λ c κs. search needs) returns-2 (λ c κs. search needs) returns-3 (λ c κs. search needs) (λ c. search needs) returns-4)

@@ -1,24 +1,14 @@
 -- `words::firsts::few_words` meets its contract, by how many words there are.
-use native.Mathlib.Omega.{arith}
 use borrow.Author.Needs.{needs}
 use Rattle.words.specs.Firsts.{few-none, few-one, few-two, few-more}
 use Rattle.words.proofs.firsts.few_words.Statement.{statement}
 use Rattle.words.proofs.firsts.few_words.Tie as tie
 
-word-in-requires : tie.Need-word-in-requires
-word-in-requires c κs = search needs
-
 returns : tie.Need-returns
 returns c = few-none (c .before .word-in .ensures) (c .if1 .taken)
 
-word-in-requires-2 : tie.Need-word-in-requires-2
-word-in-requires-2 c κs = search needs
-
 returns-2 : tie.Need-returns-2
 returns-2 c = few-one (c .before .before .before .word-in .ensures) (c .before .before .if1 .left) (c .before .word-in2 .ensures) (c .if2 .taken)
-
-word-in-requires-3 : tie.Need-word-in-requires-3
-word-in-requires-3 c κs = search needs
 
 returns-3 : tie.Need-returns-3
 returns-3 c = few-two (c .before .before .before .before .before .word-in .ensures) (c .before .before .before .before .if1 .left) (c .before .before .before .word-in2 .ensures) (c .before .before .if2 .left) (c .before .word-in3 .ensures) (c .if3 .taken)
@@ -27,13 +17,4 @@ returns-4 : tie.Need-returns-4
 returns-4 c = few-more (c .before .before .before .before .before .word-in .ensures) (c .before .before .before .before .if1 .left) (c .before .before .before .word-in2 .ensures) (c .before .before .if2 .left) (c .before .word-in3 .ensures) (c .if3 .left)
 
 pub few-words-spec : {M : Type 1} → statement M
-few-words-spec =
-    tie.close
-    (tie.spec
-    word-in-requires
-    returns
-    word-in-requires-2
-    returns-2
-    word-in-requires-3
-    returns-3
-    returns-4)
+few-words-spec = tie.close (tie.spec (λ c κs. search needs) returns (λ c κs. search needs) returns-2 (λ c κs. search needs) returns-3 returns-4)

@@ -4,7 +4,6 @@ use native.Mathlib.Omega.{arith}
 use lib.ListN.{length-take}
 use lib.Seq.{length-take-le}
 use denote.Ref.{now}
-use borrow.Author.Needs.{needs}
 use Rattle.words.specs.Firsts.{next-in}
 use Rattle.words.proofs.firsts.word_in.Statement.{statement}
 use Rattle.words.proofs.firsts.word_in.Tie as tie

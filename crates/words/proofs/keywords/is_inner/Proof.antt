@@ -6,9 +6,6 @@ use Rattle.words.specs.Keywords.{inner-lower, inner-line, inner-below, i
 use Rattle.words.proofs.keywords.is_inner.Statement.{statement}
 use Rattle.words.proofs.keywords.is_inner.Tie as tie
 
-is-lower-requires : tie.Need-is-lower-requires
-is-lower-requires c κs = search needs
-
 returns : tie.Need-returns
 returns c = inner-lower (c .before .before .args .c) (sym (c .before .is-lower .ensures) ∙ c .if1 .taken)
 
@@ -22,4 +19,4 @@ returns-4 : tie.Need-returns-4
 returns-4 c = inner-digit (c .before .before .before .before .args .c) (sym (c .before .before .before .is-lower .ensures) ∙ c .before .before .if1 .left) (c .before .if2 .left) (omega arith)
 
 pub is-inner-spec : {M : Type 1} → statement M
-is-inner-spec = tie.close (tie.spec is-lower-requires returns returns-2 returns-3 returns-4)
+is-inner-spec = tie.close (tie.spec (λ c κs. search needs) returns returns-2 returns-3 returns-4)

@@ -1,6 +1,5 @@
 -- `words::keywords::is_lower` meets its contract.
 use native.Mathlib.Omega.{arith}
-use borrow.Author.Needs.{needs}
 use Rattle.words.specs.Keywords.{lower-below, lower-from}
 use Rattle.words.proofs.keywords.is_lower.Statement.{statement}
 use Rattle.words.proofs.keywords.is_lower.Tie as tie

@@ -1,6 +1,6 @@
 -- `words::keywords::is_name` meets its contract. The invariant: the bytes that are left decide.
 use mathlib.Core.Path.{_≡_, refl, sym, _∙_}
-use Prim.Native.Nat.{_+_, _-_, _≤_}
+use Prim.Native.Nat.{_-_, _≤_}
 use native.Mathlib.Omega.{arith}
 use lib.ListN.{length, drop}
 use denote.Ref.{now}
@@ -23,23 +23,11 @@ returns c = name-none (now (c .before .before .args .word)) (omega arith)
 returns-2 : tie.Need-returns-2 Inv-loop μ-loop
 returns-2 c = name-long (now (c .before .before .before .args .word)) (omega arith)
 
-shared-slice-read-is-lower : tie.Need-shared-slice-read-is-lower Inv-loop μ-loop
-shared-slice-read-is-lower c = search needs
-
-is-lower-requires : tie.Need-is-lower-requires Inv-loop μ-loop
-is-lower-requires c κs = search needs
-
 returns-3 : tie.Need-returns-3 Inv-loop μ-loop
 returns-3 c = name-first (now (c .before .before .before .before .before .before .args .word)) (omega arith) (sym (not-true _ (c .if3 .taken)) ∙ c .before .is-lower .ensures)
 
 loop-holds : tie.Need-loop-holds Inv-loop μ-loop
 loop-holds c = (omega arith, omega arith, refl)
-
-shared-slice-read-is-inner : tie.Need-shared-slice-read-is-inner Inv-loop μ-loop
-shared-slice-read-is-inner c = search needs
-
-is-inner-requires : tie.Need-is-inner-requires Inv-loop μ-loop
-is-inner-requires c κs = search needs
 
 returns-4 : tie.Need-returns-4 Inv-loop μ-loop
 returns-4 c =
@@ -47,20 +35,11 @@ returns-4 c =
     let l = c .before .before .before .before .loop in
     name-inner w (sym (inner-off w (l .i) (omega arith) (sym (not-true _ (c .if4 .taken)) ∙ c .before .is-inner .ensures)) ∙ l .inv .2)
 
-add-i : tie.Need-add-i Inv-loop μ-loop
-add-i c = search needs
-
-loop-less : tie.Need-loop-less Inv-loop μ-loop
-loop-less c = search needs
-
 loop-again : tie.Need-loop-again Inv-loop μ-loop
 loop-again c =
     let w = now (c .before .before .before .before .before .before .before .before .before .before .before .args .word) in
     let l = c .before .before .before .before .loop in
     (omega arith, omega arith, sym (inner-on w (l .i) (omega arith) (sym (not-false _ (c .if4 .left)) ∙ c .before .is-inner .ensures)) ∙ l .inv .2)
-
-keyword-requires : tie.Need-keyword-requires Inv-loop μ-loop
-keyword-requires c κs = search needs
 
 returns-5 : tie.Need-returns-5 Inv-loop μ-loop
 returns-5 c =
@@ -76,20 +55,5 @@ pub is-name-spec : {M : Type 1} → statement M
 is-name-spec =
     tie.close
     (tie.spec
-    Inv-loop
-    μ-loop
-    returns
-    returns-2
-    shared-slice-read-is-lower
-    is-lower-requires
-    returns-3
-    loop-holds
-    shared-slice-read-is-inner
-    is-inner-requires
-    returns-4
-    add-i
-    loop-less
-    loop-again
-    keyword-requires
-    returns-5
-    returns-6)
+    Inv-loop μ-loop returns returns-2 (λ c. search needs) (λ c κs. search needs) returns-3 loop-holds (λ c. search needs) (λ c κs. search needs)
+    returns-4 (λ c. search needs) (λ c. search needs) loop-again (λ c κs. search needs) returns-5 returns-6)

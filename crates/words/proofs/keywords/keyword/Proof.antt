@@ -8,12 +8,6 @@ use Rattle.words.specs.Keywords.{table-words, table-within}
 use Rattle.words.proofs.keywords.keyword.Statement.{statement}
 use Rattle.words.proofs.keywords.keyword.Tie as tie
 
-slice-aggregate-find-name : tie.Need-slice-aggregate-find-name
-slice-aggregate-find-name c = search needs
-
-slice-aggregate-find-name-2 : tie.Need-slice-aggregate-find-name-2
-slice-aggregate-find-name-2 c = search needs
-
 find-name-requires : tie.Need-find-name-requires
 find-name-requires c κs = (omega arith, omega arith, table-within)
 
@@ -21,6 +15,4 @@ returns : tie.Need-returns
 returns c = ap (find 0 (now (c .before .before .before .before .before .before .args .word))) (sym table-words) ∙ c .find-name .ensures
 
 pub keyword-spec : {M : Type 1} → statement M
-keyword-spec =
-    tie.close
-    (tie.spec slice-aggregate-find-name slice-aggregate-find-name-2 find-name-requires returns)
+keyword-spec = tie.close (tie.spec (λ c. search needs) (λ c. search needs) find-name-requires returns)

@@ -1,6 +1,6 @@
 -- `words::names::find_letter` meets its contract. The invariant: the tags that are left decide.
 use mathlib.Core.Path.{_≡_, refl, _∙_}
-use Prim.Native.Nat.{_+_, _-_, _≤_}
+use Prim.Native.Nat.{_-_, _≤_}
 use native.Mathlib.Omega.{arith}
 use lib.ListN.{length, drop}
 use denote.Ref.{now}
@@ -19,23 +19,11 @@ abbrev μ-loop : tie.MeasureT-loop
 returns : tie.Need-returns Inv-loop μ-loop
 returns c = let a = c .before .args in letter-none 0 (now (a .word)) (now (a .tags)) (c .if1 .taken) ∙ nowhere (length (now (a .tags)))
 
-shared-slice-read-c : tie.Need-shared-slice-read-c Inv-loop μ-loop
-shared-slice-read-c c = search needs
-
 loop-holds : tie.Need-loop-holds Inv-loop μ-loop
 loop-holds c = (omega arith, refl)
 
-shared-slice-read-if2 : tie.Need-shared-slice-read-if2 Inv-loop μ-loop
-shared-slice-read-if2 c = search needs
-
 returns-2 : tie.Need-returns-2 Inv-loop μ-loop
 returns-2 c = let a = c .before .before .before .before .before .before .args in let l = c .before .before .before .loop in l .inv .1 ∙ letter-here (now (a .word)) (c .before .before .before .before .before .if1 .left) (now (a .tags)) (l .i) (omega arith) (c .if2 .taken)
-
-add-i : tie.Need-add-i Inv-loop μ-loop
-add-i c = search needs
-
-loop-less : tie.Need-loop-less Inv-loop μ-loop
-loop-less c = search needs
 
 loop-again : tie.Need-loop-again Inv-loop μ-loop
 loop-again c = let a = c .before .before .before .before .before .before .args in let l = c .before .before .before .loop in (omega arith, l .inv .1 ∙ letter-on (now (a .word)) (c .before .before .before .before .before .if1 .left) (now (a .tags)) (l .i) (omega arith) (c .if2 .left))
@@ -47,14 +35,4 @@ pub find-letter-spec : {M : Type 1} → statement M
 find-letter-spec =
     tie.close
     (tie.spec
-    Inv-loop
-    μ-loop
-    returns
-    shared-slice-read-c
-    loop-holds
-    shared-slice-read-if2
-    returns-2
-    add-i
-    loop-less
-    loop-again
-    returns-3)
+    Inv-loop μ-loop returns (λ c. search needs) loop-holds (λ c. search needs) returns-2 (λ c. search needs) (λ c. search needs) loop-again returns-3)

@@ -23,18 +23,6 @@ loop-holds c =
     let e : a .count ≡ a .count - 0 = omega arith in
     (search needs, ap (λ (n : ℕ). find 0 (now (a .word)) (spans (now (a .text)) (now (a .starts)) (now (a .ends)) 0 n)) e)
 
-mul-a : tie.Need-mul-a Inv-loop μ-loop
-mul-a c = search needs
-
-shared-slice-read-a : tie.Need-shared-slice-read-a Inv-loop μ-loop
-shared-slice-read-a c = search needs
-
-mul-b : tie.Need-mul-b Inv-loop μ-loop
-mul-b c = search needs
-
-shared-slice-read-b : tie.Need-shared-slice-read-b Inv-loop μ-loop
-shared-slice-read-b c = search needs
-
 -- The name is within the text.
 within : (c : tie.After-shared-slice-known6 Inv-loop μ-loop) →
     let l = c .before .before .before in
@@ -53,9 +41,6 @@ part-same-word-start c = omega (arith, within c)
 part-same-word-end : tie.Need-part-same-word-end Inv-loop μ-loop
 part-same-word-end c = omega (arith, within c)
 
-same-word-requires : tie.Need-same-word-requires Inv-loop μ-loop
-same-word-requires c κs = search needs
-
 returns : tie.Need-returns Inv-loop μ-loop
 returns c =
     let l = c .before .before .before .before .before .before in
@@ -63,12 +48,6 @@ returns c =
     l .loop .inv .1
     ∙ find-here (now (a .text)) (now (a .starts)) (now (a .ends)) (now (a .word)) (l .loop .i) (a .count) (omega arith)
     (sym (c .before .same-word .ensures) ∙ c .if1 .taken)
-
-add-i : tie.Need-add-i Inv-loop μ-loop
-add-i c = search needs
-
-loop-less : tie.Need-loop-less Inv-loop μ-loop
-loop-less c = search needs
 
 loop-again : tie.Need-loop-again Inv-loop μ-loop
 loop-again c =
@@ -90,19 +69,5 @@ pub find-name-spec : {M : Type 1} → statement M
 find-name-spec =
     tie.close
     (tie.spec
-    Inv-loop
-    μ-loop
-    loop-holds
-    mul-a
-    shared-slice-read-a
-    mul-b
-    shared-slice-read-b
-    sub-same-word
-    part-same-word-start
-    part-same-word-end
-    same-word-requires
-    returns
-    add-i
-    loop-less
-    loop-again
-    returns-2)
+    Inv-loop μ-loop loop-holds (λ c. search needs) (λ c. search needs) (λ c. search needs) (λ c. search needs) sub-same-word part-same-word-start
+    part-same-word-end (λ c κs. search needs) returns (λ c. search needs) (λ c. search needs) loop-again returns-2)

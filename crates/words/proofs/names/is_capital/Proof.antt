@@ -1,6 +1,5 @@
 -- `words::names::is_capital` meets its contract.
 use native.Mathlib.Omega.{arith}
-use borrow.Author.Needs.{needs}
 use Rattle.words.specs.Signals.{capital-below, capital-from}
 use Rattle.words.proofs.names.is_capital.Statement.{statement}
 use Rattle.words.proofs.names.is_capital.Tie as tie

@@ -21,9 +21,6 @@ returns c = number-none (now (c .before .before .args .word)) (omega arith)
 loop-holds : tie.Need-loop-holds Inv-loop μ-loop
 loop-holds c = (omega arith, omega arith, counted-none _)
 
-shared-slice-read-c : tie.Need-shared-slice-read-c Inv-loop μ-loop
-shared-slice-read-c c = search needs
-
 returns-2 : tie.Need-returns-2 Inv-loop μ-loop
 returns-2 c =
     let l = c .before .before .before in
@@ -33,24 +30,6 @@ returns-3 : tie.Need-returns-3 Inv-loop μ-loop
 returns-3 c =
     let l = c .before .before .before .before in
     number-not (now (l .before .before .before .args .word)) (l .loop .i) (omega arith) (λ k. omega (arith, k .1))
-
-mul-capped : tie.Need-mul-capped Inv-loop μ-loop
-mul-capped c = search needs
-
-cast-capped : tie.Need-cast-capped Inv-loop μ-loop
-cast-capped c = search needs
-
-add-capped : tie.Need-add-capped Inv-loop μ-loop
-add-capped c = search needs
-
-capped-requires : tie.Need-capped-requires Inv-loop μ-loop
-capped-requires c κs = search needs
-
-add-i : tie.Need-add-i Inv-loop μ-loop
-add-i c = search needs
-
-loop-less : tie.Need-loop-less Inv-loop μ-loop
-loop-less c = search needs
 
 loop-again : tie.Need-loop-again Inv-loop μ-loop
 loop-again c =
@@ -64,9 +43,6 @@ returns-4 c =
     let l = c .before .before in
     number-large (now (l .before .before .before .args .word)) (l .loop .i) (l .loop .v) (omega arith) (omega arith) (l .loop .inv .2) (omega arith)
 
-cast-t14 : tie.Need-cast-t14 Inv-loop μ-loop
-cast-t14 c = search needs
-
 returns-5 : tie.Need-returns-5 Inv-loop μ-loop
 returns-5 c =
     let l = c .before .before in
@@ -76,20 +52,5 @@ pub number-of-spec : {M : Type 1} → statement M
 number-of-spec =
     tie.close
     (tie.spec
-    Inv-loop
-    μ-loop
-    returns
-    loop-holds
-    shared-slice-read-c
-    returns-2
-    returns-3
-    mul-capped
-    cast-capped
-    add-capped
-    capped-requires
-    add-i
-    loop-less
-    loop-again
-    returns-4
-    cast-t14
-    returns-5)
+    Inv-loop μ-loop returns loop-holds (λ c. search needs) returns-2 returns-3 (λ c. search needs) (λ c. search needs) (λ c. search needs)
+    (λ c κs. search needs) (λ c. search needs) (λ c. search needs) loop-again returns-4 (λ c. search needs) returns-5)

@@ -1,5 +1,5 @@
 -- `words::words::kind` meets its contract: by the byte's range, or by which it is. Assumes nothing.
-use mathlib.Core.Path.{_≡_, ap, sym}
+use mathlib.Core.Path.{ap, sym}
 use native.Mathlib.Omega.{arith}
 use Rattle.wording.specs.Words.{kind, parts, isSign}
 use Rattle.words.specs.Lex.{kind-other, kind-above, kind-between, kind-sign}
@@ -46,6 +46,4 @@ returns-10 c =
     (λ e. omega arith) (λ e. omega arith) (λ e. omega arith)
 
 pub kind-spec : {M : Type 1} → statement M
-kind-spec =
-    tie.close
-    (tie.spec returns returns-2 returns-3 returns-4 returns-5 returns-6 returns-7 returns-8 returns-9 returns-10)
+kind-spec = tie.close (tie.spec returns returns-2 returns-3 returns-4 returns-5 returns-6 returns-7 returns-8 returns-9 returns-10)

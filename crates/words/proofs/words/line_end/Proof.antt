@@ -15,12 +15,6 @@ Inv-loop text at i₀ i = (i ≤ length text) × (i + lineLength (drop i text) �
 abbrev μ-loop : tie.MeasureT-loop
 μ-loop text at i₀ i = length text - i
 
-loop-holds : tie.Need-loop-holds Inv-loop μ-loop
-loop-holds c = search needs
-
-shared-slice-read-if1 : tie.Need-shared-slice-read-if1 Inv-loop μ-loop
-shared-slice-read-if1 c = search needs
-
 returns : tie.Need-returns Inv-loop μ-loop
 returns c =
     let l = c .before .before .before in
@@ -28,12 +22,6 @@ returns c =
     let a = s .args in
     next-line (now (a .text)) (a .at) (l .loop .i) (s .pre)
     (omega (arith, l .loop .inv, line-done (now (a .text)) (l .loop .i) (omega arith) (c .if1 .taken)))
-
-add-i : tie.Need-add-i Inv-loop μ-loop
-add-i c = search needs
-
-loop-less : tie.Need-loop-less Inv-loop μ-loop
-loop-less c = search needs
 
 loop-again : tie.Need-loop-again Inv-loop μ-loop
 loop-again c =
@@ -51,4 +39,6 @@ returns-2 c =
 
 pub line-end-spec : {M : Type 1} → statement M
 line-end-spec =
-    tie.close (tie.spec Inv-loop μ-loop loop-holds shared-slice-read-if1 returns add-i loop-less loop-again returns-2)
+    tie.close
+    (tie.spec
+    Inv-loop μ-loop (λ c. search needs) (λ c. search needs) returns (λ c. search needs) (λ c. search needs) loop-again returns-2)

@@ -6,32 +6,17 @@ use Rattle.words.specs.Lex.{next-end, next-comment, next-word}
 use Rattle.words.proofs.words.next_word.Statement.{statement}
 use Rattle.words.proofs.words.next_word.Tie as tie
 
-skip-requires : tie.Need-skip-requires
-skip-requires c κs = search needs
-
 returns : tie.Need-returns
 returns c =
     let s = c .before in
     let a = s .before .before .args in
     next-end (now (a .line)) (a .at) (s .before .before .pre) (s .skip .result) (s .skip .ensures) (omega arith)
 
-shared-slice-read-c : tie.Need-shared-slice-read-c
-shared-slice-read-c c = search needs
-
 returns-2 : tie.Need-returns-2
 returns-2 c =
     let s = c .before .before .before in
     let a = s .before .before .args in
     next-comment (now (a .line)) (a .at) (s .before .before .pre) (s .skip .result) (s .skip .ensures) (omega arith) (c .if2 .taken)
-
-kind-requires : tie.Need-kind-requires
-kind-requires c κs = search needs
-
-add-run-end : tie.Need-add-run-end
-add-run-end c = search needs
-
-run-end-requires : tie.Need-run-end-requires
-run-end-requires c κs = search needs
 
 returns-3 : tie.Need-returns-3
 returns-3 c =
@@ -44,4 +29,5 @@ returns-3 c =
 pub next-word-spec : {M : Type 1} → statement M
 next-word-spec =
     tie.close
-    (tie.spec skip-requires returns shared-slice-read-c returns-2 kind-requires add-run-end run-end-requires returns-3)
+    (tie.spec
+    (λ c κs. search needs) returns (λ c. search needs) returns-2 (λ c κs. search needs) (λ c. search needs) (λ c κs. search needs) returns-3)

@@ -23,23 +23,11 @@ returns c = let a = c .before .args in sym (same-longer (now (a .line)) (now (a 
 loop-holds : tie.Need-loop-holds Inv-loop μ-loop
 loop-holds c = let a = c .before .args in (search needs, same-end (now (a .line)) (now (a .word)) (length (now (a .line))) (omega arith) (omega arith))
 
-sub-i : tie.Need-sub-i Inv-loop μ-loop
-sub-i c = search needs
-
-shared-slice-read-if2 : tie.Need-shared-slice-read-if2 Inv-loop μ-loop
-shared-slice-read-if2 c = search needs
-
-shared-slice-read-if2-2 : tie.Need-shared-slice-read-if2-2 Inv-loop μ-loop
-shared-slice-read-if2-2 c = search needs
-
 returns-2 : tie.Need-returns-2 Inv-loop μ-loop
 returns-2 c =
     let l = c .before .before .before .before in
     let a = l .before .before .args in
     sym (same-not (now (a .line)) (now (a .word)) (l .loop .left - 1) (c .if2 .taken))
-
-loop-less : tie.Need-loop-less Inv-loop μ-loop
-loop-less c = search needs
 
 loop-again : tie.Need-loop-again Inv-loop μ-loop
 loop-again c =
@@ -60,4 +48,5 @@ returns-3 c =
 pub same-word-spec : {M : Type 1} → statement M
 same-word-spec =
     tie.close
-    (tie.spec Inv-loop μ-loop returns loop-holds sub-i shared-slice-read-if2 shared-slice-read-if2-2 returns-2 loop-less loop-again returns-3)
+    (tie.spec
+    Inv-loop μ-loop returns loop-holds (λ c. search needs) (λ c. search needs) (λ c. search needs) returns-2 (λ c. search needs) loop-again returns-3)

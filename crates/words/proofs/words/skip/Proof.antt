@@ -15,32 +15,17 @@ Inv-loop line at i₀ i = (i ≤ length line) × (i + blanks (drop i line) ≡ a
 abbrev μ-loop : tie.MeasureT-loop
 μ-loop line at i₀ i = length line - i
 
-loop-holds : tie.Need-loop-holds Inv-loop μ-loop
-loop-holds c = search needs
-
-shared-slice-read-c : tie.Need-shared-slice-read-c Inv-loop μ-loop
-shared-slice-read-c c = search needs
-
 returns : tie.Need-returns Inv-loop μ-loop
 returns c =
     let l = c .before .before .before in
     let a = l .before .before .args in
     omega (arith, l .loop .inv, blanks-comment (now (a .line)) (l .loop .i) (omega arith) (c .if1 .taken))
 
-kind-requires : tie.Need-kind-requires Inv-loop μ-loop
-kind-requires c κs = search needs
-
 returns-2 : tie.Need-returns-2 Inv-loop μ-loop
 returns-2 c =
     let l = c .before .before .before .before .before in
     let a = l .before .before .args in
     omega (arith, l .loop .inv, blanks-word (now (a .line)) (l .loop .i) (omega arith) (λ e. c .if2 .taken (c .before .kind .ensures ∙ e)))
-
-add-i : tie.Need-add-i Inv-loop μ-loop
-add-i c = search needs
-
-loop-less : tie.Need-loop-less Inv-loop μ-loop
-loop-less c = search needs
 
 loop-again : tie.Need-loop-again Inv-loop μ-loop
 loop-again c =
@@ -56,4 +41,6 @@ returns-3 c =
 pub skip-spec : {M : Type 1} → statement M
 skip-spec =
     tie.close
-    (tie.spec Inv-loop μ-loop loop-holds shared-slice-read-c returns kind-requires returns-2 add-i loop-less loop-again returns-3)
+    (tie.spec
+    Inv-loop μ-loop (λ c. search needs) (λ c. search needs) returns (λ c κs. search needs) returns-2 (λ c. search needs) (λ c. search needs)
+    loop-again returns-3)

@@ -26,12 +26,6 @@ stands c = let s = c .before .before .before .before in s .pre .1 _ (c .before .
 lengths : (s : tie.Start) → (length (s .args .layout .ceilings) ≡ 4) × (length (s .args .self .clocks) ≡ 4)
 lengths s = search needs
 
-enum-told : tie.Need-enum-told
-enum-told c = search needs
-
-enum-known-rule : tie.Need-enum-known-rule
-enum-known-rule c = search needs
-
 add-byte-within : tie.Need-add-byte-within
 add-byte-within c = omega (arith, stands c .ends, stands c .short)
 
@@ -45,17 +39,11 @@ returns c =
     let s = b .before .before .before .before .before in
     rw (b .before .before .rule .given .1) (sym (ap (stepFrom (s .args .self)) (taken-violation _ _ _ (sym (b .byte-within .ensures .0) ∙ c .if1 .taken))))
 
-cast-t12 : tie.Need-cast-t12
-cast-t12 c = search needs
-
 add-byte-within-2 : tie.Need-add-byte-within-2
 add-byte-within-2 c = let d = c .before .before .before .before in omega (arith, stands d .ends, stands d .short)
 
 byte-within-requires-2 : tie.Need-byte-within-requires-2
 byte-within-requires-2 c κs = let d = c .before .before .before .before in omega (arith, stands d .ends)
-
-advanced-requires : tie.Need-advanced-requires
-advanced-requires c κs = search needs
 
 returns-2 : tie.Need-returns-2
 unfolding bind
@@ -82,14 +70,5 @@ pub by-spec : {M : Type 1} → statement M
 by-spec =
     tie.close
     (tie.spec
-    enum-told
-    enum-known-rule
-    add-byte-within
-    byte-within-requires
-    returns
-    cast-t12
-    add-byte-within-2
-    byte-within-requires-2
-    advanced-requires
-    returns-2
-    returns-3)
+    (λ c. search needs) (λ c. search needs) add-byte-within byte-within-requires returns (λ c. search needs) add-byte-within-2 byte-within-requires-2
+    (λ c κs. search needs) returns-2 returns-3)

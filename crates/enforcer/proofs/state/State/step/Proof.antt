@@ -4,9 +4,6 @@ use Rattle.enforcer.proofs.DecidedLaws.{decided-step}
 use Rattle.enforcer.proofs.state.State.step.Statement.{statement}
 use Rattle.enforcer.proofs.state.State.step.Tie as tie
 
-rule-of-requires : tie.Need-rule-of-requires
-rule-of-requires c κs = search needs
-
 by-requires : tie.Need-by-requires
 by-requires c κs = (c .before .before .pre .0, c .rule-of .ensures .stands)
 
@@ -14,4 +11,4 @@ returns : tie.Need-returns
 returns c = decided-step (c .before .rule-of .ensures) (c .by .ensures)
 
 pub step-spec : {M : Type 1} → statement M
-step-spec = tie.close (tie.spec rule-of-requires by-requires returns)
+step-spec = tie.close (tie.spec (λ c κs. search needs) by-requires returns)

@@ -5,15 +5,6 @@ use Rattle.vectors.specs.Numbers.{byteFrom}
 use Rattle.vectors.proofs.numbers.Cursor.byte.Statement.{statement}
 use Rattle.vectors.proofs.numbers.Cursor.byte.Tie as tie
 
-shared-slice-read-t8 : tie.Need-shared-slice-read-t8
-shared-slice-read-t8 c = search needs
-
-add-t9 : tie.Need-add-t9
-add-t9 c = search needs
-
-lose-requires : tie.Need-lose-requires
-lose-requires c κs = search needs
-
 returns : tie.Need-returns
 unfolding byteFrom
 returns c = simp (lt-ltb _ _ (c .before .if1 .taken))
@@ -23,4 +14,4 @@ unfolding byteFrom
 returns-2 c = simp (le-ltb _ _ (c .before .if1 .left), c .lose .ensures)
 
 pub byte-spec : {M : Type 1} → statement M
-byte-spec = tie.close (tie.spec shared-slice-read-t8 add-t9 lose-requires returns returns-2)
+byte-spec = tie.close (tie.spec (λ c. search needs) (λ c. search needs) (λ c κs. search needs) returns returns-2)

@@ -13,45 +13,6 @@ Inv-loop cases into₀ count pieces₀ i₀ into pieces i = length into ≡ leng
 abbrev μ-loop : tie.MeasureT-loop
 μ-loop cases into₀ count pieces₀ i₀ into pieces i = count - i
 
-word-requires : tie.Need-word-requires Inv-loop μ-loop
-word-requires c κs = search needs
-
-cast-count : tie.Need-cast-count Inv-loop μ-loop
-cast-count c = search needs
-
-lose-requires : tie.Need-lose-requires Inv-loop μ-loop
-lose-requires c κs = search needs
-
-returns : tie.Need-returns Inv-loop μ-loop
-returns c = search needs
-
-new-requires : tie.Need-new-requires Inv-loop μ-loop
-new-requires c κs = search needs
-
-loop-holds : tie.Need-loop-holds Inv-loop μ-loop
-loop-holds c = search needs
-
-step-requires : tie.Need-step-requires Inv-loop μ-loop
-step-requires c κs = search needs
-
-slice-write-into : tie.Need-slice-write-into Inv-loop μ-loop
-slice-write-into c = search needs
-
-add-i : tie.Need-add-i Inv-loop μ-loop
-add-i c = search needs
-
-loop-less : tie.Need-loop-less Inv-loop μ-loop
-loop-less c = search needs
-
-loop-again : tie.Need-loop-again Inv-loop μ-loop
-loop-again c = search needs
-
-end-requires : tie.Need-end-requires Inv-loop μ-loop
-end-requires c κs = search needs
-
-same-length : tie.Need-same-length Inv-loop μ-loop
-same-length c = search needs
-
 returns-2 : tie.Need-returns-2 Inv-loop μ-loop
 returns-2 c = counts _ _ (search needs)
 
@@ -59,19 +20,6 @@ pub string-spec : {M : Type 1} → statement M
 string-spec =
     tie.close
     (tie.spec
-    Inv-loop
-    μ-loop
-    word-requires
-    cast-count
-    lose-requires
-    returns
-    new-requires
-    loop-holds
-    step-requires
-    slice-write-into
-    add-i
-    loop-less
-    loop-again
-    end-requires
-    same-length
+    Inv-loop μ-loop (λ c κs. search needs) (λ c. search needs) (λ c κs. search needs) (λ c. search needs) (λ c κs. search needs) (λ c. search needs)
+    (λ c κs. search needs) (λ c. search needs) (λ c. search needs) (λ c. search needs) (λ c. search needs) (λ c κs. search needs) (λ c. search needs)
     returns-2)
