@@ -13,7 +13,7 @@ use Rattle.bays.specs.Bays.{baysIn, bayCount, numbersOf, bayState}
 use Rattle.bays.specs.Entries.{BayAnswer, noBay}
 use Rattle.bays.specs.Parts.{fits, is-bay, numbers-five, same-list}
 use Rattle.bays.specs.Halves.{Half, oneHalf, bayHalf, half-none, half-answer, half-state, others-stay, length-stays, depends-alone}
-use Rattle.enforcer.specs.declared.state.State.{State}
+use Rattle.stepping.specs.declared.state.State.{State}
 
 -- "A tick names its bay": a half of one, with the bay.
 pub record Call : Type 0 where

@@ -5,7 +5,7 @@ use Prim.Native.Nat.{ℕ, zero, suc}
 use lib.Dec.{ltb}
 use Rattle.streams.specs.Answer.{Answer, refused, _orElse_, unless}
 use Rattle.enforcer.specs.Entries.{OutputAnswer, marksRefusal, inputOf, outputOf}
-use Rattle.enforcer.specs.Code.{startState}
+use Rattle.stepping.specs.Code.{startState}
 use Rattle.bays.specs.Five.{stateWords}
 use Rattle.bays.specs.Bays.{bayCount, bayState, withState}
 

@@ -7,7 +7,7 @@ use lib.ListN.{length, getD, set, drop}
 use lib.Seq.{ext-getD}
 use Rattle.resting.specs.Table.{tab}
 use Rattle.resting.specs.Marks.{length-tab, getD-tab}
-use Rattle.enforcer.specs.declared.state.State.{State}
+use Rattle.stepping.specs.declared.state.State.{State}
 
 -- "A state is a location and four clock values": five numbers, in this order.
 abbrev pub stateWords : State → List ℕ

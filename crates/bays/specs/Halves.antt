@@ -17,17 +17,17 @@ use Rattle.policy.specs.CheckLaws.{under-none}
 use Rattle.policy.specs.Sound.{Inside}
 use Rattle.policy.specs.Checked.{checked-file, well-sound}
 use Rattle.policy.specs.Stays.{of-some, step-inside}
-use Rattle.enforcer.specs.State.{placeIn}
+use Rattle.stepping.specs.State.{placeIn}
 use Rattle.enforcer.specs.States.{good-inside, marks-granted, state-granted}
-use Rattle.enforcer.specs.Tick.{ReleasedTick, outputChoice, outputTick, moved}
+use Rattle.stepping.specs.Tick.{ReleasedTick, outputChoice, outputTick, moved}
 use Rattle.enforcer.specs.Entries.{OutputAnswer, chosen, outputFrom, marksRefusal, stateRefusal, inputOf, outputRefusal, outputOf}
-use Rattle.enforcer.specs.Code.{startState}
+use Rattle.stepping.specs.Code.{startState}
 use Rattle.bays.specs.Bays.{baysIn, bayCount, numbersOf, bayState, withState}
 use Rattle.bays.specs.Entries.{BayAnswer, newRefusal, started, newStates, noBay, bayInputOf, bayOutputOf}
 use Rattle.bays.specs.Promises.{NewPromise}
 use Rattle.bays.specs.Parts.{fits, with-same, with-length, with-state, with-other, started-length, started-bay, five-each}
 use Rattle.bays.specs.There.{input-there, output-there, input-none, output-none}
-use Rattle.enforcer.specs.declared.state.State.{State}
+use Rattle.stepping.specs.declared.state.State.{State}
 
 -- Four clock values, and none more, where there are no more than four.
 pub four-long : (vs : List ℕ) → length vs ≤ 4 → length (four vs) ≡ 4

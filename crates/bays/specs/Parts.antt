@@ -8,11 +8,11 @@ use lib.Dec.{leb, ltb, eqb}
 use lib.ListN.{length, getD, take, drop, length-append, length-drop, take-append-drop}
 use lib.Seq.{length-take-le, take-at, drop-at, take-append-le, drop-append-le, drop-append-add, drop-drop, getD-take, getD-drop, ext-getD}
 use borrow.Author.Tests.{ltb-true, ltb-false, leb-true, eqb-true}
-use Rattle.enforcer.specs.Code.{startState}
+use Rattle.stepping.specs.Code.{startState}
 use Rattle.bays.specs.Five.{stateWords, words-back, words-in}
 use Rattle.bays.specs.Bays.{baysIn, numbersOf, bayState, withState}
 use Rattle.bays.specs.Entries.{started}
-use Rattle.enforcer.specs.declared.state.State.{State}
+use Rattle.stepping.specs.declared.state.State.{State}
 
 -- A bay below the count has its five numbers, and the list is five for each bay.
 pub fits : (n bay : ℕ) → bay < baysIn n → (bay * 5 + 5 ≤ n) × (n ≤ 40) × (n % 5 ≡ 0)

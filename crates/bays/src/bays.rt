@@ -3,9 +3,10 @@ use crate::five::STATE_NUMBERS;
 use crate::five::put_state;
 use crate::five::state_of;
 use enforcer::HalfAnswer;
-use enforcer::State;
 use enforcer::input_half;
 use enforcer::marks_refusal;
+use enforcer::output_of;
+use stepping::State;
 ghost use mathlib.Core.Path.{_≡_};
 ghost use Prim.Native.Nat.{_<_};
 ghost use Rattle.bays.specs.Bays.{baysIn, bayCount, bayState, withState};
@@ -113,7 +114,7 @@ pub fn bay_output(
         return HalfAnswer::Refused(no_bay(reading, file, marks));
     }
     let given = bay_state(states, bay);
-    let output = given.output(reading, file, marks, x, y);
+    let output = output_of(given, reading, file, marks, x, y);
     let next = output.state;
     put_bay(states, bay, next);
     output.answer

@@ -1,6 +1,6 @@
 // A state as five numbers: the location and then the four clock values.
-use enforcer::State;
 use enforcer::marks_refusal;
+use stepping::State;
 ghost use mathlib.Core.Path.{_≡_};
 ghost use lib.ListN.{length};
 ghost use Rattle.bays.specs.Five.{stateIn, stateWords};

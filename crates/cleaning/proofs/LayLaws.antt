@@ -20,15 +20,15 @@ use Rattle.policy.specs.Checked.{well-ruled}
 use Rattle.policy.specs.Parts.{rules-part}
 use Rattle.policy.specs.ReadBack.{rule-length}
 use Rattle.policy.specs.declared.Layout.{Layout}
-use Rattle.enforcer.specs.Ready.{Laid}
-use Rattle.enforcer.specs.Laid.{laid-well, laid-rules, laid-section, laid-limits}
-use Rattle.join.specs.Lay.{bytesFrom}
-use Rattle.join.specs.Laying.{pairs-copied, bounds-copied, bytes-add, bytes-part, signals-laid, next-rule, no-rule}
-use Rattle.cleaning.specs.Sift.{sift, rank, kept}
+use Rattle.stepping.specs.Ready.{Laid}
+use Rattle.stepping.specs.Laid.{laid-well, laid-rules, laid-section, laid-limits}
+use Rattle.laying.specs.Lay.{bytesFrom}
+use Rattle.laying.specs.Laying.{pairs-copied, bounds-copied, bytes-add, bytes-part, signals-laid, next-rule, no-rule}
+use Rattle.usage.specs.Sift.{sift, rank, kept}
 use Rattle.cleaning.specs.SiftLaws.{length-sift, rank-full}
-use Rattle.cleaning.specs.Clean.{Struck, renamed, renumbered, unlessKept, locationsStruck, rulesStruck, struckBytes}
-use Rattle.cleaning.specs.Code.{flagsOf, EndsAt, Flagged, cleanedRule, cleanedRules, cleanedBy, struckBy}
-use Rattle.cleaning.proofs.FlagLaws.{flags-long, flags-byte}
+use Rattle.usage.specs.Clean.{Struck, renamed, renumbered, unlessKept, locationsStruck, rulesStruck, struckBytes}
+use Rattle.usage.specs.Code.{flagsOf, EndsAt, Flagged, cleanedRule, cleanedRules, cleanedBy, struckBy}
+use Rattle.usage.proofs.FlagLaws.{flags-long, flags-byte}
 
 -- ---- A checked file: its rules where they stand, and their locations.
 pub record Ended (n : ℕ) (r : Rule) : Type 0 where

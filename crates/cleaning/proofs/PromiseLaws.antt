@@ -9,11 +9,11 @@ use borrow.Author.Tests.{le-leb, lt-leb}
 use Rattle.policy.specs.File.{policyOf}
 use Rattle.policy.specs.Check.{refusalUnder}
 use Rattle.policy.specs.declared.Layout.{Layout}
-use Rattle.join.specs.Lay.{LaidAt}
-use Rattle.cleaning.specs.Flags.{enteredFlags, usedFlags}
+use Rattle.laying.specs.Lay.{LaidAt}
+use Rattle.usage.specs.Flags.{enteredFlags, usedFlags}
 use Rattle.cleaning.specs.Entry.{shortRefusal, cleanedOf, struckOf, cleanedFile, struckList, cleanRefusal, cleanOf, cleanedOut, struckOut}
 use Rattle.cleaning.specs.Promise.{CleanPromise, WritesPromise}
-use Rattle.cleaning.specs.Code.{flagsOf, cleanedBy, struckBy}
+use Rattle.usage.specs.Code.{flagsOf, cleanedBy, struckBy}
 use Rattle.cleaning.specs.declared.Cleaned.{Cleaned}
 use Rattle.cleaning.specs.declared.Cleaned.the-variants as Cleaned
 

@@ -10,9 +10,9 @@ use lib.Dec.{eqb}
 use lib.ListN.{length, length-map}
 use borrow.Author.Tests.{eqb-true, eqb-false}
 use Rattle.policy.specs.Rules.{Rule, Policy}
-use Rattle.cleaning.specs.Sift.{flag, nth, sift, rank, kept, All}
+use Rattle.usage.specs.Sift.{flag, nth, sift, rank, kept, All}
 use Rattle.cleaning.specs.SiftLaws.{rank-from, length-sift, sift-all, kept-all, rank-all}
-use Rattle.cleaning.specs.Clean.{Used, Entered, Meant, renumbered, renamed, cleaned, moved, locationsStruck, rulesStruck, struck}
+use Rattle.usage.specs.Clean.{Used, Entered, Meant, renumbered, renamed, cleaned, moved, locationsStruck, rulesStruck, struck}
 use Rattle.cleaning.specs.Same.{flag-below, used-rule, used-source, decider-cleaned, reached-cleaned}
 
 -- All flags set: the list of what was struck is empty.

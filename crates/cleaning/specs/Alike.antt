@@ -11,8 +11,8 @@ use Rattle.streams.specs.Languages.{_narrows_, _≋_}
 use Rattle.policy.specs.Rules.{Policy, Place, start, unlimited, steps, rests, Runs, Rests, Permits}
 use Rattle.policy.specs.Sound.{WellFormed}
 use Rattle.policy.specs.Reached.{Reached}
-use Rattle.cleaning.specs.Sift.{flag, sift, rank}
-use Rattle.cleaning.specs.Clean.{Meant, cleaned, moved}
+use Rattle.usage.specs.Sift.{flag, sift, rank}
+use Rattle.usage.specs.Clean.{Meant, cleaned, moved}
 use Rattle.cleaning.specs.Same.{entered-here, from-start, after-cleaned, cleaned-after}
 use Rattle.cleaning.specs.Signals.{within, fits-within, steps-within}
 use Rattle.cleaning.specs.Lawful.{cleaned-well}

@@ -9,8 +9,8 @@ use Rattle.policy.specs.Rules.{Policy}
 use Rattle.policy.specs.File.{policyOf}
 use Rattle.policy.specs.Check.{refusalUnder}
 use Rattle.policy.specs.Bytes.{bytesOf}
-use Rattle.cleaning.specs.Clean.{Struck, cleaned, struck, struckBytes}
-use Rattle.cleaning.specs.Flags.{enteredFlags, usedFlags}
+use Rattle.usage.specs.Clean.{Struck, cleaned, struck, struckBytes}
+use Rattle.usage.specs.Flags.{enteredFlags, usedFlags}
 use Rattle.cleaning.specs.declared.Lengths.{Lengths}
 
 -- The cleaned policy, and what was struck from it.

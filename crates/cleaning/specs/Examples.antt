@@ -3,8 +3,8 @@ use mathlib.Core.Path.{_≡_, refl}
 use mathlib.Core.List.{List, [], _∷_}
 use Prim.Native.Nat.{ℕ}
 use Rattle.policy.specs.Number.{statesOf}
-use Rattle.enforcer.specs.Code.{decider}
-use Rattle.cleaning.specs.Flags.{flags, decidesSome, somewhere, entered, used, enteredFlags, usedFlags}
+use Rattle.stepping.specs.Code.{decider}
+use Rattle.usage.specs.Flags.{flags, decidesSome, somewhere, entered, used, enteredFlags, usedFlags}
 use Rattle.cleaning.specs.Entry.{cleanedOf, struckOf, cleanedFile, struckList}
 use Rattle.prepare.specs.Computing.{the-file, a-step, the-marks, the-bytes}
 

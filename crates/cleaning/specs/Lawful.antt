@@ -18,9 +18,9 @@ use Rattle.policy.specs.Sound.{WellFormed, Each, each-none, each-more}
 use Rattle.policy.specs.Checked.{Rising, rising-none, rising-more, Ruled, well-rising, well-ruled}
 use Rattle.policy.specs.Reached.{reached-start}
 use Rattle.join.specs.Again.{rules-pass}
-use Rattle.cleaning.specs.Sift.{flag, nth, sift, rank, kept}
+use Rattle.usage.specs.Sift.{flag, nth, sift, rank, kept}
 use Rattle.cleaning.specs.SiftLaws.{rank-kept, length-sift}
-use Rattle.cleaning.specs.Clean.{Entered, Meant, renumbered, renamed, cleaned}
+use Rattle.usage.specs.Clean.{Entered, Meant, renumbered, renamed, cleaned}
 use Rattle.cleaning.specs.Same.{entered-here, used-rule, used-source}
 
 -- Nothing becomes more, and what never falls does not fall then.

@@ -16,8 +16,8 @@ use Rattle.policy.specs.Number.{states}
 use Rattle.policy.specs.File.{byteAt, pairAt, policyOf}
 use Rattle.policy.specs.Check.{refusalOf, refusalUnder}
 use Rattle.prepare.specs.Enforcing.{EnforcedBy}
-use Rattle.cleaning.specs.Sift.{nth}
-use Rattle.cleaning.specs.Clean.{Entered, Used, Struck}
+use Rattle.usage.specs.Sift.{nth}
+use Rattle.usage.specs.Clean.{Entered, Used, Struck}
 use Rattle.cleaning.specs.Entry.{cleanedOf, struckOf, cleanedFile, struckList, cleanOf, cleanedOut, struckOut}
 
 -- ---- what is struck

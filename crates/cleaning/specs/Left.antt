@@ -12,11 +12,11 @@ use borrow.Author.Tests.{eq-eqb, ne-eqb}
 use Rattle.policy.specs.Rules.{Rule, Policy}
 use Rattle.policy.specs.File.{byteAt, pairAt}
 use Rattle.policy.specs.Sound.{WellFormed}
-use Rattle.cleaning.specs.Sift.{flag, nth, sift, rank, kept}
+use Rattle.usage.specs.Sift.{flag, nth, sift, rank, kept}
 use Rattle.cleaning.specs.SiftLaws.{rank-kept, rank-less, rank-from, nth-sift, nth-map, length-sift}
-use Rattle.cleaning.specs.Clean.{Entered, Used, Struck, renumbered, renamed, struckBytes}
-use Rattle.cleaning.specs.Flags.{enteredFlags, usedFlags}
-use Rattle.cleaning.specs.Flagged.{meant}
+use Rattle.usage.specs.Clean.{Entered, Used, Struck, renumbered, renamed, struckBytes}
+use Rattle.usage.specs.Flags.{enteredFlags, usedFlags}
+use Rattle.usage.specs.Flagged.{meant}
 use Rattle.cleaning.specs.Entry.{cleanedOf}
 use Rattle.cleaning.specs.Laws.{ThreeBytes, Renumbers, StaysAs, Leaves}
 use Rattle.cleaning.specs.Same.{flag-below, used-rule}

@@ -1,11 +1,6 @@
-pub mod Sift
 pub mod SiftLaws
-pub mod Clean
-pub mod Flags
 pub mod Entry
 pub mod Promise
-pub mod Flagged
-pub mod Code
 pub mod Laws
 pub mod Same
 pub mod Signals

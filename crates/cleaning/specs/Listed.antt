@@ -9,8 +9,8 @@ use native.Mathlib.Nat.{zero-add}
 use native.Mathlib.Omega.{arith}
 use lib.ListN.{length}
 use Rattle.policy.specs.Rules.{Rule, Policy}
-use Rattle.cleaning.specs.Sift.{flag, nth}
-use Rattle.cleaning.specs.Clean.{Used, Entered, Meant, Struck, locationsStruck, rulesStruck, struck}
+use Rattle.usage.specs.Sift.{flag, nth}
+use Rattle.usage.specs.Clean.{Used, Entered, Meant, Struck, locationsStruck, rulesStruck, struck}
 use Rattle.cleaning.specs.Laws.{section, Earlier, InOrder, in-order-none, in-order-more, Lists}
 use Rattle.cleaning.specs.Same.{used-rule}
 use Rattle.cleaning.specs.Again.{nth-below}

@@ -12,9 +12,9 @@ use Rattle.policy.specs.Rules.{Rule, Policy, unlimited, looked}
 use Rattle.policy.specs.Sound.{WellFormed}
 use Rattle.policy.specs.Checked.{well-sound}
 use Rattle.policy.specs.Reached.{reached-in}
-use Rattle.cleaning.specs.Sift.{nth}
-use Rattle.cleaning.specs.Clean.{Entered}
-use Rattle.cleaning.specs.Flagged.{decider-below}
+use Rattle.usage.specs.Sift.{nth}
+use Rattle.usage.specs.Clean.{Entered}
+use Rattle.usage.specs.Flagged.{decider-below}
 use Rattle.cleaning.specs.Laws.{Renumbers, StaysAs, Leaves}
 
 -- ---- numbers

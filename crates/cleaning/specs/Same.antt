@@ -14,11 +14,11 @@ use borrow.Author.Tests.{eqb-true, eqb-false, eq-eqb, ne-eqb}
 use Rattle.streams.specs.Stream.{Event, Stream}
 use Rattle.policy.specs.Rules.{Rule, Policy, Place, start, hold, fires, decides, unlimited, advance, tested, looked, taken, step, steps, FitsOne, Fits, fits-none, fits-more}
 use Rattle.policy.specs.Reached.{After, Reached, reached-start, reached-more}
-use Rattle.enforcer.specs.Code.{decider}
-use Rattle.prepare.specs.Deciding.{first-decides, later-decides}
-use Rattle.cleaning.specs.Sift.{flag, nth, sift, rank}
+use Rattle.stepping.specs.Code.{decider}
+use Rattle.planning.specs.Deciding.{first-decides, later-decides}
+use Rattle.usage.specs.Sift.{flag, nth, sift, rank}
 use Rattle.cleaning.specs.SiftLaws.{rank-le, rank-same, nth-sift, nth-map}
-use Rattle.cleaning.specs.Clean.{Used, Entered, Meant, renamed, cleaned, moved}
+use Rattle.usage.specs.Clean.{Used, Entered, Meant, renamed, cleaned, moved}
 
 pub flag-below : (L : List Bool) (i : ℕ) → flag L i ≡ true → i < length L
 flag-below L i h = by-cases (decLt i (length L)) (λ l. l) (λ g. absurd (false≢true (sym (List·getD-eq-default L false {n = i} (omega arith)) ∙ h)))

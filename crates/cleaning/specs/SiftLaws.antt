@@ -9,7 +9,7 @@ use native.Mathlib.Nat.{le-refl}
 use native.Mathlib.Decide.{decLt}
 use native.Mathlib.Omega.{arith}
 use lib.ListN.{length}
-use Rattle.cleaning.specs.Sift.{All, count, flag, kept, nth, rank, sift}
+use Rattle.usage.specs.Sift.{All, count, flag, kept, nth, rank, sift}
 
 pub rank-le : (L : List Bool) (i : ℕ) → rank L i ≤ i
 rank-le L zero = le-refl 0

@@ -15,11 +15,11 @@ use Rattle.policy.specs.Frame.{frame, inputs-length, outputs-length, pairs-leng
 use Rattle.policy.specs.Checked.{checked-file}
 use Rattle.policy.specs.Bytes.{bytesOf}
 use Rattle.policy.specs.ReadBack.{bytes-length}
-use Rattle.cleaning.specs.Sift.{sift, kept}
+use Rattle.usage.specs.Sift.{sift, kept}
 use Rattle.cleaning.specs.SiftLaws.{length-sift}
-use Rattle.cleaning.specs.Clean.{Meant, renamed, cleaned, locationsStruck, rulesStruck, struck}
-use Rattle.cleaning.specs.Flags.{enteredFlags, usedFlags}
-use Rattle.cleaning.specs.Flagged.{meant}
+use Rattle.usage.specs.Clean.{Meant, renamed, cleaned, locationsStruck, rulesStruck, struck}
+use Rattle.usage.specs.Flags.{enteredFlags, usedFlags}
+use Rattle.usage.specs.Flagged.{meant}
 use Rattle.cleaning.specs.Entry.{cleanedOf, struckOf, cleanedFile, struckList}
 use Rattle.cleaning.specs.Laws.{Room}
 use Rattle.cleaning.specs.Lawful.{kept-le, states-cleaned}

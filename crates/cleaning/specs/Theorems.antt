@@ -18,8 +18,8 @@ use Rattle.policy.specs.WrittenPasses.{written-passes}
 use Rattle.prepare.specs.Enforcing.{EnforcedBy}
 use Rattle.join.specs.Entry.{joinedFile, joinRefusal}
 use Rattle.join.specs.Written.{joined-passes, joined-both}
-use Rattle.cleaning.specs.Clean.{struckBytes}
-use Rattle.cleaning.specs.Flagged.{meant}
+use Rattle.usage.specs.Clean.{struckBytes}
+use Rattle.usage.specs.Flagged.{meant}
 use Rattle.cleaning.specs.Entry.{cleanedOf, struckOf, cleanedFile, struckList}
 use Rattle.cleaning.specs.Laws.{Lists, Cleans}
 use Rattle.cleaning.specs.Again.{strikes-none, clean-again}

@@ -1,30 +1,26 @@
 // A policy without what is of no use. Locations that no permitted stream from the start leads to go, and so do rules that decide no event there. What clean answers stands in specs/.
-mod asked;
-mod enter;
-mod flags;
 mod list;
 mod rules;
-mod uses;
 
-use crate::enter::enter;
-use crate::list::lay_list;
-use crate::rules::lay_policy;
-use crate::uses::use_rules;
-use enforcer::State;
+use list::lay_list;
+use planning::plan;
 use policy::Layout;
 use policy::check_under;
 use policy::limits::RULES;
-use prepare::plan;
 use prepare::reached;
+use rules::lay_policy;
+use stepping::State;
+use usage::enter::enter;
+use usage::use_rules;
 ghost use mathlib.Core.Path.{_≡_};
 ghost use Prim.Native.Nat.{ℕ, _<_};
 ghost use lib.ListN.{length, getD};
 ghost use Rattle.policy.specs.File.{policyOf};
 ghost use Rattle.policy.specs.Number.{states};
-ghost use Rattle.enforcer.specs.Ready.{Laid};
+ghost use Rattle.stepping.specs.Ready.{Laid};
 ghost use Rattle.resting.specs.Table.{bit};
-ghost use Rattle.cleaning.specs.Flags.{entered, used};
-ghost use Rattle.cleaning.specs.Code.{Flagged, cleanedBy, struckBy};
+ghost use Rattle.usage.specs.Flags.{entered, used};
+ghost use Rattle.usage.specs.Code.{Flagged, cleanedBy, struckBy};
 ghost use Rattle.cleaning.specs.Entry.{cleanedFile, struckList};
 ghost use Rattle.cleaning.specs.Promise.{CleanPromise, WritesPromise};
 

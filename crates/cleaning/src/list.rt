@@ -1,6 +1,6 @@
 // The list of what was struck, laid into a slice from its start on, as far as the slice reaches. Each function hands back the position after what it lays.
-use join::lay::put;
-use join::lay::put_pair;
+use laying::lay::put;
+use laying::lay::put_pair;
 use policy::Layout;
 use policy::bytes::byte_within;
 use policy::limits::BOUND_SIZE;
@@ -13,9 +13,9 @@ ghost use lib.Dec.{eqb};
 ghost use lib.ListN.{length, getD};
 ghost use Rattle.policy.specs.File.{rulesOf};
 ghost use Rattle.policy.specs.Bytes.{pairBytes};
-ghost use Rattle.join.specs.Lay.{LaidAt};
-ghost use Rattle.cleaning.specs.Clean.{struckBytes, locationsStruck, rulesStruck};
-ghost use Rattle.cleaning.specs.Code.{flagsOf, Flagged, struckBy};
+ghost use Rattle.laying.specs.Lay.{LaidAt};
+ghost use Rattle.usage.specs.Clean.{struckBytes, locationsStruck, rulesStruck};
+ghost use Rattle.usage.specs.Code.{flagsOf, Flagged, struckBy};
 
 // One entry: the kind, then the old number in two bytes. Where it is kept there is none.
 fn lay_unless(kept: bool, kind: usize, number: usize, out: &mut [u8], at: usize) -> usize

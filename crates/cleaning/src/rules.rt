@@ -1,21 +1,21 @@
 // The cleaned policy, laid into a slice from its start on, as far as the slice reaches. Each function hands back the position after what it lays.
-use crate::flags::rank;
-use crate::flags::renumber;
-use join::lay::copy;
-use join::lay::put;
-use join::lay::put_pair;
+use laying::lay::copy;
+use laying::lay::put;
+use laying::lay::put_pair;
 use policy::Layout;
 use policy::bytes::byte_within;
 use policy::limits::BOUND_SIZE;
 use policy::limits::RULE_HEAD;
+use usage::rank;
+use usage::renumber;
 ghost use mathlib.Core.Bool.{cond};
 ghost use mathlib.Core.List.{[]};
 ghost use Prim.Native.Nat.{_+_, _≤_, _<_, _^_};
 ghost use lib.ListN.{length};
 ghost use Rattle.policy.specs.File.{ruleSize, ruleFrom, rulesOf};
-ghost use Rattle.join.specs.Lay.{LaidAt, bytesFrom};
-ghost use Rattle.cleaning.specs.Sift.{sift};
-ghost use Rattle.cleaning.specs.Code.{flagsOf, EndsAt, Flagged, cleanedRule, cleanedRules, cleanedBy};
+ghost use Rattle.laying.specs.Lay.{LaidAt, bytesFrom};
+ghost use Rattle.usage.specs.Sift.{sift};
+ghost use Rattle.usage.specs.Code.{flagsOf, EndsAt, Flagged, cleanedRule, cleanedRules, cleanedBy};
 
 // The rule at p, with the new numbers of its locations.
 fn lay_rule(

@@ -5,9 +5,9 @@ use lib.ListN.{length, replicate}
 use Rattle.streams.specs.Answer.{Answer, refused, gives, answer, _orElse_}
 use Rattle.policy.specs.Rules.{start}
 use Rattle.policy.specs.File.{policyOf}
-use Rattle.enforcer.specs.State.{stateOf}
+use Rattle.stepping.specs.State.{stateOf}
 use Rattle.enforcer.specs.Entries.{RunAnswer, runOf}
-use Rattle.prepare.specs.Table.{marksOf}
+use Rattle.trimming.specs.Table.{marksOf}
 use Rattle.prepare.specs.Entry.{prepareOf}
 use Rattle.prepare.specs.declared.Summary.{Summary}
 use Rattle.console.specs.Frame.{inputRefusal, policyPart, eventsFrameRefusal, eventsPart}

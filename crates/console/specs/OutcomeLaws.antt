@@ -15,14 +15,14 @@ use Rattle.policy.specs.CheckLaws.{under-none}
 use Rattle.policy.specs.Checked.{checked-file}
 use Rattle.enforcer.specs.States.{marks-granted}
 use Rattle.enforcer.specs.Entries.{RunAnswer}
-use Rattle.enforcer.specs.Code.{startState}
+use Rattle.stepping.specs.Code.{startState}
 use Rattle.enforcer.specs.Promises.{RunPromise, ranSaid}
 use Rattle.enforcer.specs.declared.runs.Ran.{Ran}
-use Rattle.prepare.specs.Table.{marksOf}
+use Rattle.trimming.specs.Table.{marksOf}
 use Rattle.prepare.specs.Entry.{prepareOf}
 use Rattle.prepare.specs.Promise.{preparedSaid, PreparePromise}
 use Rattle.prepare.specs.PromiseLaws.{gives-past, marks-past}
-use Rattle.prepare.specs.Live.{marks-length}
+use Rattle.trimming.specs.Live.{marks-length}
 use Rattle.prepare.specs.declared.Summary.{Summary}
 use Rattle.prepare.specs.declared.Prepared.{Prepared}
 use Rattle.prepare.specs.declared.Prepared.the-variants as Prepared

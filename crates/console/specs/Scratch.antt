@@ -13,13 +13,13 @@ use Rattle.streams.specs.Stream.{Stream}
 use Rattle.policy.specs.Rules.{Policy, Place, start}
 use Rattle.policy.specs.File.{policyOf}
 use Rattle.policy.specs.Check.{allPass}
-use Rattle.enforcer.specs.State.{placeIn, stateOf}
-use Rattle.enforcer.specs.Tick.{ReleasedTick, Progress, tick, ran}
-use Rattle.enforcer.specs.Ticks.{ran-on, ran-none}
+use Rattle.stepping.specs.State.{placeIn, stateOf}
+use Rattle.stepping.specs.Tick.{ReleasedTick, Progress, tick, ran}
+use Rattle.stepping.specs.Ticks.{ran-on, ran-none}
 use Rattle.enforcer.specs.Entries.{eventOf, byteOf, runFrom, eventGood, marksRefusal, stateRefusal, runRefusal, runOf}
-use Rattle.enforcer.specs.Code.{startState}
+use Rattle.stepping.specs.Code.{startState}
 use Rattle.prepare.specs.Entry.{prepareOf}
-use Rattle.enforcer.specs.declared.state.State.{State}
+use Rattle.stepping.specs.declared.state.State.{State}
 
 -- Of the marks that are lent, prepare's answer depends on their number alone.
 pub prepare-alike : (reading : ℕ) (file marks others : List ℕ) → length marks ≡ length others → prepareOf reading file marks ≡ prepareOf reading file others

@@ -1,5 +1,1 @@
-pub mod Laws
-pub mod DecidedLaws
-pub mod RuleLaws
 pub mod RunLaws
-pub mod WayLaws

@@ -17,17 +17,17 @@ use Rattle.policy.specs.Check.{allPass}
 use Rattle.policy.specs.Stays.{of-some}
 use Rattle.policy.specs.Sound.{Inside}
 use Rattle.policy.specs.declared.Layout.{Layout}
-use Rattle.enforcer.specs.State.{stateOf, stateGood, place}
-use Rattle.enforcer.specs.Tick as Spec
-use Rattle.enforcer.specs.Ticks.{ticked, ticked-fits, ran-on, ran-none}
+use Rattle.stepping.specs.State.{stateOf, stateGood, place}
+use Rattle.stepping.specs.Tick as Spec
+use Rattle.stepping.specs.Ticks.{ticked, ticked-fits, ran-on, ran-none}
 use Rattle.enforcer.specs.Entries.{eventOf, byteOf, eventGood, RunAnswer, marksRefusal, stateRefusal, runFrom, runRefusal, runOf}
-use Rattle.enforcer.specs.Ready.{Laid, Standing}
-use Rattle.enforcer.specs.Laid.{laid-clocks, laid-inputs, laid-outputs, place-back, next-inside}
+use Rattle.stepping.specs.Ready.{Laid, Standing}
+use Rattle.stepping.specs.Laid.{laid-clocks, laid-inputs, laid-outputs, place-back, next-inside}
 use Rattle.enforcer.specs.States.{good-inside, clocks-back}
-use Rattle.enforcer.specs.Chosen.{tickFrom, tick-none, tick-some}
+use Rattle.correcting.specs.Chosen.{tickFrom, tick-none, tick-some}
 use Rattle.enforcer.specs.Promises.{RunPromise, ranSaid}
-use Rattle.enforcer.specs.declared.state.State.{State}
-use Rattle.enforcer.specs.declared.tick.Ticked.{Ticked}
+use Rattle.stepping.specs.declared.state.State.{State}
+use Rattle.correcting.specs.declared.tick.Ticked.{Ticked}
 use Rattle.enforcer.specs.declared.runs.Ran.{Ran}
 
 -- What a run answers that has written i events to `out` and goes on as r.

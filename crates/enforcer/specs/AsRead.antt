@@ -9,12 +9,12 @@ use Rattle.streams.specs.Answer.{refused, gives}
 use Rattle.streams.specs.ChooseLaws.{some-has, nearest-kept}
 use Rattle.policy.specs.Rules.{Place, inputValues, outputValues}
 use Rattle.policy.specs.File.{policyOf}
-use Rattle.enforcer.specs.Tick.{reaches, mayStand, inputChoice}
-use Rattle.enforcer.specs.Code.{stepFrom}
-use Rattle.enforcer.specs.Arrived.{arrival, arrival-says, arrival-some, output-kept}
+use Rattle.stepping.specs.Tick.{reaches, mayStand, inputChoice}
+use Rattle.stepping.specs.Code.{stepFrom}
+use Rattle.correcting.specs.Arrived.{arrival, arrival-says, arrival-some, output-kept}
 use Rattle.enforcer.specs.Entries.{inputPast, outputPast}
-use Rattle.enforcer.specs.declared.state.State.{State}
-use Rattle.enforcer.specs.declared.next.Step.{Step}
+use Rattle.stepping.specs.declared.state.State.{State}
+use Rattle.stepping.specs.declared.next.Step.{Step}
 
 module _ (reading : ℕ) (file marks : List ℕ) (t : Place) (x : ℕ) where
   pub input-past-15 : inputValues (policyOf reading file) ≤ x → inputPast reading file marks t x ≡ refused 15

@@ -12,9 +12,9 @@ use Rattle.policy.specs.Rules.{Place, inputValues, outputValues}
 use Rattle.policy.specs.File.{policyOf}
 use Rattle.policy.specs.Check.{refusalUnder, allPass}
 use Rattle.policy.specs.Number.{states, numberOf}
-use Rattle.enforcer.specs.State.{placeIn, stateOf, stateGood, isMarked}
-use Rattle.enforcer.specs.Tick.{ReleasedTick, Progress, inputChoice, outputTick, ran}
-use Rattle.enforcer.specs.declared.state.State.{State}
+use Rattle.stepping.specs.State.{placeIn, stateOf, stateGood, isMarked}
+use Rattle.stepping.specs.Tick.{ReleasedTick, Progress, inputChoice, outputTick, ran}
+use Rattle.stepping.specs.declared.state.State.{State}
 
 -- "An event is one byte: input x in the low four bits, output y in the high four."
 abbrev pub eventOf : ℕ → Event

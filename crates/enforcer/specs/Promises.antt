@@ -5,7 +5,7 @@ use Prim.Native.Nat.{ℕ}
 use Rattle.streams.specs.Answer.{refused, gives}
 use Rattle.streams.specs.Answer as Said
 use Rattle.enforcer.specs.Entries.{OutputAnswer, RunAnswer, inputOf, outputOf, runOf}
-use Rattle.enforcer.specs.declared.state.State.{State}
+use Rattle.stepping.specs.declared.state.State.{State}
 use Rattle.enforcer.specs.declared.halves.HalfAnswer.{HalfAnswer}
 use Rattle.enforcer.specs.declared.halves.HalfAnswer.the-variants as HalfAnswer
 use Rattle.enforcer.specs.declared.halves.Output.{Output}

@@ -19,11 +19,11 @@ use Rattle.policy.specs.Check.{readingRefusal, refusalUnder, allPass}
 use Rattle.policy.specs.CheckLaws.{refusal-le}
 use Rattle.policy.specs.Number.{states}
 use Rattle.policy.specs.Sound.{WellFormed}
-use Rattle.enforcer.specs.State.{placeIn}
-use Rattle.enforcer.specs.Tick.{ReleasedTick, Progress, inputChoice, ran}
-use Rattle.enforcer.specs.Ticks.{ran-few}
+use Rattle.stepping.specs.State.{placeIn}
+use Rattle.stepping.specs.Tick.{ReleasedTick, Progress, inputChoice, ran}
+use Rattle.stepping.specs.Ticks.{ran-few}
 use Rattle.enforcer.specs.Entries.{eventOf, byteOf, chosen, outputFrom, runFrom, marksRefusal, xGood, yGood, eventGood, stateRefusal, inputRefusal, inputOf, outputRefusal, outputOf, runRefusal, runOf}
-use Rattle.enforcer.specs.declared.state.State.{State}
+use Rattle.stepping.specs.declared.state.State.{State}
 
 -- An event within the signals is one byte, and comes back from it.
 module _ (p : Policy) (ok : WellFormed p) where

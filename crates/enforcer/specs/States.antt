@@ -21,11 +21,11 @@ use Rattle.policy.specs.Layout.{checkedUnder}
 use Rattle.policy.specs.LayoutLaws.{under-says}
 use Rattle.policy.specs.declared.Layout.{Layout}
 use Rattle.policy.specs.declared.Checked.{Checked}
-use Rattle.enforcer.specs.State.{placeIn, place, stateOf, clocksGood, inRange, stateGood, isMarked}
+use Rattle.stepping.specs.State.{placeIn, place, stateOf, clocksGood, inRange, stateGood, isMarked}
 use Rattle.enforcer.specs.Entries.{chosen, marksRefusal, stateRefusal, inputRefusal, inputOf, inputPast, outputFrom, outputRefusal, outputOf, outputPast}
-use Rattle.enforcer.specs.Ready.{Laid, Standing}
-use Rattle.enforcer.specs.Laid.{Numbered, stateNumber, laid-of, laid-well, laid-locations, laid-most, laid-place, laid-number}
-use Rattle.enforcer.specs.declared.state.State.{State}
+use Rattle.stepping.specs.Ready.{Laid, Standing}
+use Rattle.stepping.specs.Laid.{Numbered, stateNumber, laid-of, laid-well, laid-locations, laid-most, laid-place, laid-number}
+use Rattle.stepping.specs.declared.state.State.{State}
 
 -- Of refusals in their order the answer is the first that is given.
 pub chosen-first : {A : Type 0} (a b : ℕ) (o : Option A) {r : ℕ} → r ≡ a → (r ≡ 0 → ⊥) → chosen (a orElse b) o ≡ refused r

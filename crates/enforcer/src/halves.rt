@@ -1,16 +1,16 @@
 // The input half, and the output half by value. Past the refusals a half asks whether the event stands as it was read: mostly it does. Only if not does it choose.
-use crate::choose::choose_input;
-use crate::reach::here_by;
-use crate::reach::input_reaches;
-use crate::reach::output_arrival;
-use crate::reach::own_of;
-use crate::reach::values;
-use crate::state::State;
-use crate::tick::output_tick;
 use choice::Choice;
+use correcting::choose_input;
+use correcting::output_arrival;
+use correcting::output_tick;
+use leading::input_reaches;
+use leading::values;
 use policy::Checked;
 use policy::Layout;
 use policy::Own;
+use stepping::State;
+use stepping::here_by;
+use stepping::own_of;
 ghost use mathlib.Core.Path.{_≡_};
 ghost use Prim.Native.Nat.{_≤_};
 ghost use lib.Dec.{leb};
@@ -19,9 +19,9 @@ ghost use Rattle.streams.specs.Answer.{_orElse_, unless};
 ghost use Rattle.policy.specs.Number.{states};
 ghost use Rattle.policy.specs.File.{policyOf, rulesOf};
 ghost use Rattle.policy.specs.Own.{ownOf};
-ghost use Rattle.enforcer.specs.State.{stateGood, place};
+ghost use Rattle.stepping.specs.State.{stateGood, place};
 ghost use Rattle.enforcer.specs.Entries.{stateRefusal, inputPast, outputPast};
-ghost use Rattle.enforcer.specs.Ready.{Laid, Standing};
+ghost use Rattle.stepping.specs.Ready.{Laid, Standing};
 ghost use Rattle.enforcer.specs.Promises.{InputPromise, OutputPromise, answerSaid, outputSaid};
 
 pub enum HalfAnswer {
@@ -154,39 +154,37 @@ pub fn output_by(
     }
 }
 
-impl State {
-    // The state takes the x that was passed to the controller and its answer y, and hands back the next state. 22, 1 to 10, 16, 15, 17.
-    pub fn output(self, reading: u8, file: &[u8], marks: &[u8], x: u8, y: u8) -> Output
-        ensures { λ r. ⌜ OutputPromise reading (now (file .entry)) (now (marks .entry)) self x y r ⌝ }
-    {
-        let checked = policy::check_under(reading, &file[..]);
-        let r = marks_refusal(checked, marks);
-        if r != 0 {
-            return refused(self, r);
-        }
-        let layout = checked.layout;
-        let r = state_refusal(file, layout, marks, self);
-        if r != 0 {
-            return refused(self, r);
-        }
-        if values(layout.inputs) <= x as usize {
-            return refused(self, 15);
-        }
-        if values(layout.outputs) <= y as usize {
-            return refused(self, 15);
-        }
-        let own = own_of(file, layout, self);
-        let here = here_by(file, layout, own, self);
-        let read = output_arrival(file, layout, here, marks, self, x, y);
-        if read.permitted {
-            let next = read.state;
-            return Output {
-                answer: HalfAnswer::Value(y),
-                state: next,
-            };
-        }
-        output_by(&file[..], layout, own, &marks[..], self, x, y)
+// The state takes the x that was passed to the controller and its answer y, and hands back the next state. 22, 1 to 10, 16, 15, 17.
+pub fn output_of(state: State, reading: u8, file: &[u8], marks: &[u8], x: u8, y: u8) -> Output
+    ensures { λ r. ⌜ OutputPromise reading (now (file .entry)) (now (marks .entry)) state x y r ⌝ }
+{
+    let checked = policy::check_under(reading, &file[..]);
+    let r = marks_refusal(checked, marks);
+    if r != 0 {
+        return refused(state, r);
     }
+    let layout = checked.layout;
+    let r = state_refusal(file, layout, marks, state);
+    if r != 0 {
+        return refused(state, r);
+    }
+    if values(layout.inputs) <= x as usize {
+        return refused(state, 15);
+    }
+    if values(layout.outputs) <= y as usize {
+        return refused(state, 15);
+    }
+    let own = own_of(file, layout, state);
+    let here = here_by(file, layout, own, state);
+    let read = output_arrival(file, layout, here, marks, state, x, y);
+    if read.permitted {
+        let next = read.state;
+        return Output {
+            answer: HalfAnswer::Value(y),
+            state: next,
+        };
+    }
+    output_by(&file[..], layout, own, &marks[..], state, x, y)
 }
 
 fn refused(state: State, refusal: u8) -> Output

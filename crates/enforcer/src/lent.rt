@@ -1,6 +1,7 @@
 // The output half over a lent state.
 use crate::halves::HalfAnswer;
-use crate::state::State;
+use crate::halves::output_of;
+use stepping::State;
 ghost use Rattle.enforcer.specs.Promises.{OutputPromise};
 
 // The same in place: the lent state becomes the next one, and only the answer is handed back. 22, 1 to 10, 16, 15, 17; with a refusal the state stays.
@@ -14,7 +15,7 @@ pub fn output_half(
 ) -> HalfAnswer
     ensures { λ r. ⌜ OutputPromise reading (now (file .entry)) (now (marks .entry)) (now (state .entry)) x y (record { answer = r; state = now (state .exit) }) ⌝ }
 {
-    let next = (*state).output(reading, file, marks, x, y);
+    let next = output_of(*state, reading, file, marks, x, y);
     *state = next.state;
     next.answer
 }

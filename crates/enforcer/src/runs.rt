@@ -1,13 +1,13 @@
 // A run: many ticks.
 use crate::halves::marks_refusal;
 use crate::halves::state_refusal;
-use crate::reach::values;
-use crate::state::State;
-use crate::tick::tick;
+use correcting::tick::tick;
 use index::NUMBERS;
 use index::fill;
 use index::own_at;
+use leading::values;
 use policy::Layout;
+use stepping::State;
 ghost use mathlib.Core.Path.{_≡_};
 ghost use mathlib.Core.Bool.{true};
 ghost use mathlib.Core.List.{map};
@@ -16,10 +16,10 @@ ghost use lib.ListN.{length};
 ghost use Rattle.policy.specs.File.{policyOf};
 ghost use Rattle.policy.specs.Check.{allPass};
 ghost use Rattle.index.specs.Index.{indexOf};
-ghost use Rattle.enforcer.specs.Tick.{ran};
+ghost use Rattle.stepping.specs.Tick.{ran};
 ghost use Rattle.enforcer.specs.Entries.{eventOf, eventGood, runFrom};
-ghost use Rattle.enforcer.specs.State.{place, stateOf};
-ghost use Rattle.enforcer.specs.Ready.{Laid, Standing};
+ghost use Rattle.stepping.specs.State.{place, stateOf};
+ghost use Rattle.stepping.specs.Ready.{Laid, Standing};
 ghost use Rattle.enforcer.specs.Promises.{RunPromise, ranSaid};
 
 // How many events were released and the state after them, with the refusal's number or 0.

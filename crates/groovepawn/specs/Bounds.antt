@@ -15,10 +15,10 @@ use Rattle.policy.specs.Frame.{frame, longest}
 use Rattle.policy.specs.Checked.{checked-file}
 use Rattle.enforcer.specs.Entries.{marksRefusal}
 use Rattle.enforcer.specs.States.{marks-granted}
-use Rattle.prepare.specs.Table.{machineOf, marksOf}
+use Rattle.trimming.specs.Table.{machineOf, marksOf}
 use Rattle.resting.specs.Marks.{total-le}
 use Rattle.resting.specs.Reached.{strayOf}
-use Rattle.prepare.specs.Live.{marks-length, marks-bits}
+use Rattle.trimming.specs.Live.{marks-length, marks-bits}
 use Rattle.prepare.specs.Entry.{prepareOf}
 use Rattle.prepare.specs.declared.Summary.{Summary}
 use Rattle.join.specs.Entry.{joinRefusal, joinedFile, joinOf}

@@ -15,7 +15,7 @@ use Rattle.policy.specs.Checked.{checked-file}
 use Rattle.policy.specs.Layout.{checkedOf}
 use Rattle.policy.specs.LayoutLaws.{checked-passed, checked-refused}
 use Rattle.enforcer.specs.Entries.{marksRefusal}
-use Rattle.enforcer.specs.Laid.{laid-out}
+use Rattle.stepping.specs.Laid.{laid-out}
 use Rattle.groovepawn.specs.Words.{answerWord}
 use Rattle.groovepawn.specs.Fields.{answerIn, answer-back}
 

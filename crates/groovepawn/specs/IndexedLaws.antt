@@ -9,8 +9,8 @@ use Rattle.streams.specs.Answer.{Answer, refused, gives, _orElse_, UpTo}
 use Rattle.policy.specs.File.{policyOf}
 use Rattle.index.specs.Index.{indexOf}
 use Rattle.index.specs.Entry.{buildRefusal, build-le}
-use Rattle.enforcer.specs.State.{placeIn}
-use Rattle.enforcer.specs.Tick.{ReleasedTick, outputTick}
+use Rattle.stepping.specs.State.{placeIn}
+use Rattle.stepping.specs.Tick.{ReleasedTick, outputTick}
 use Rattle.enforcer.specs.Entries.{OutputAnswer, chosen, outputFrom, outputRefusal, outputOf}
 use Rattle.indexed.specs.Entries.{refusedOr, indexRefusal, earlyRefusal, inputIndexedOf, outputIndexedOf}
 use Rattle.indexed.specs.Same.{input-same, output-same, early-same, early-le, input-up-to-28, output-up-to-28}

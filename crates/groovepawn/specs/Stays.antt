@@ -9,8 +9,8 @@ use lib.ListN.{length}
 use borrow.Author.Tests.{eqb-true}
 use Rattle.streams.specs.Answer.{Answer, refused, gives}
 use Rattle.policy.specs.File.{policyOf}
-use Rattle.enforcer.specs.State.{placeIn}
-use Rattle.enforcer.specs.Tick.{ReleasedTick, Progress, outputTick, ran}
+use Rattle.stepping.specs.State.{placeIn}
+use Rattle.stepping.specs.Tick.{ReleasedTick, Progress, outputTick, ran}
 use Rattle.enforcer.specs.Entries.{eventOf, chosen, outputFrom, outputRefusal, outputOf, runFrom, runRefusal, runOf}
 use Rattle.groovepawn.specs.Words.{answerWord, ranWord, isState, outputWord, outputState, runWord, runState, runOut}
 use Rattle.bays.specs.Five.{stateWords, stateIn, words-back}

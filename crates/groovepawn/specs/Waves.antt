@@ -4,7 +4,7 @@ use mathlib.Core.List.{List}
 use Prim.Native.Nat.{ℕ}
 use native.Mathlib.Omega.{arith}
 use Rattle.streams.specs.Answer.{Answer}
-use Rattle.waves.specs.Entry.{writeOf, writtenOut, Reads}
+use Rattle.drawing.specs.Entry.{writeOf, writtenOut, Reads}
 use Rattle.waves.specs.Laws.{write-up-to, reads-up-to, reads-one}
 use Rattle.groovepawn.specs.Words.{answerWord}
 use Rattle.groovepawn.specs.Fields.{answerIn, answer-back}

@@ -10,7 +10,8 @@ use Rattle.streams.specs.Answer.{Answer, _orElse_}
 use Rattle.enforcer.specs.Entries.{RunAnswer}
 use Rattle.bays.specs.Five.{stateWords, stateIn, words-back}
 use Rattle.bays.specs.Odd.{oddRefusal}
-use Rattle.reasons.specs.Entry.{Reasons, WhyAnswers, answers-one}
+use Rattle.explaining.specs.EachHalf.{Reasons}
+use Rattle.reasons.specs.Entry.{WhyAnswers, answers-one}
 use Rattle.reasons.specs.Promise.{SmallReasons}
 use Rattle.reasons.specs.Word.{whyWord}
 use Rattle.reasons.specs.Runs.{Room, shortestOf, roomRefusal, earlyRefusal, WhyRunAnswers, refuses, explains, run-answers-one}

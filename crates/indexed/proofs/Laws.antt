@@ -14,12 +14,12 @@ use Rattle.policy.specs.Number.{states}
 use Rattle.policy.specs.declared.Checked.{Checked}
 use Rattle.index.specs.Index.{indexOf, isIndex}
 use Rattle.index.specs.Sections.{Sections}
-use Rattle.enforcer.specs.Ready.{Standing}
+use Rattle.stepping.specs.Ready.{Standing}
 use Rattle.enforcer.specs.Entries.{marksRefusal, stateRefusal, inputPast, outputPast}
-use Rattle.enforcer.specs.State.{place}
-use Rattle.enforcer.specs.Laid.{laid-of, laid-sections}
+use Rattle.stepping.specs.State.{place}
+use Rattle.stepping.specs.Laid.{laid-of, laid-sections}
 use Rattle.enforcer.specs.States.{Granted, marks-by, granted-laid, input-16, output-16, half-standing, input-left, output-left}
-use Rattle.enforcer.specs.declared.state.State.{State}
+use Rattle.stepping.specs.declared.state.State.{State}
 use Rattle.indexed.specs.Entries.{indexRefusal, earlyRefusal, inputIndexedOf, outputIndexedOf}
 use Rattle.indexed.specs.Same.{input-same, output-same, early-granted}
 

@@ -5,7 +5,7 @@ use Rattle.streams.specs.Answer.{Answer, refused, _orElse_, unless}
 use Rattle.policy.specs.Check.{refusalUnder}
 use Rattle.index.specs.Index.{isIndex}
 use Rattle.enforcer.specs.Entries.{OutputAnswer, marksRefusal, inputOf, outputOf}
-use Rattle.enforcer.specs.declared.state.State.{State}
+use Rattle.stepping.specs.declared.state.State.{State}
 
 -- What a refusal gives, or without one the answer.
 abbrev pub refusedOr : {A : Type 0} → ℕ → (ℕ → A) → A → A

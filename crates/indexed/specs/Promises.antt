@@ -5,7 +5,7 @@ use mathlib.Core.Logic.{_↔_}
 use Prim.Native.Nat.{ℕ}
 use Rattle.index.specs.Index.{indexOf}
 use Rattle.enforcer.specs.Promises.{answerSaid, outputSaid, answer-one, both-one, InputPromise, OutputPromise}
-use Rattle.enforcer.specs.declared.state.State.{State}
+use Rattle.stepping.specs.declared.state.State.{State}
 use Rattle.enforcer.specs.declared.halves.HalfAnswer.{HalfAnswer}
 use Rattle.enforcer.specs.declared.halves.Output.{Output}
 use Rattle.indexed.specs.Entries.{inputIndexedOf, outputIndexedOf}

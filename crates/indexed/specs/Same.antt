@@ -11,12 +11,12 @@ use Rattle.streams.specs.AnswerLaws.{none-refused, none-unless, unless-le, else
 use Rattle.policy.specs.Check.{refusalUnder}
 use Rattle.policy.specs.CheckLaws.{under-le}
 use Rattle.index.specs.Index.{indexOf, same, same-exactly}
-use Rattle.enforcer.specs.Tick.{ReleasedTick}
+use Rattle.stepping.specs.Tick.{ReleasedTick}
 use Rattle.enforcer.specs.Entries.{OutputAnswer, chosen, outputFrom, marksRefusal, inputOf, inputRefusal, outputOf, outputRefusal}
 use Rattle.enforcer.specs.States.{chosen-first}
 use Rattle.enforcer.specs.Refusals.{marks-le, input-up-to, output-up-to}
 use Rattle.indexed.specs.Entries.{refusedOr, indexRefusal, earlyRefusal, inputIndexedOf, outputIndexedOf}
-use Rattle.enforcer.specs.declared.state.State.{State}
+use Rattle.stepping.specs.declared.state.State.{State}
 
 -- Where 28 is not given, what the check refuses is what the half refuses first.
 input-first : {A : Type 0} (n m t : ℕ) (o : Option A) → refusedOr (n orElse 0) refused (chosen ((n orElse m) orElse t) o) ≡ chosen ((n orElse m) orElse t) o

@@ -1,7 +1,6 @@
 // The halves that use an index. For every input they answer what the present halves do; any other index is refused by 28. What they answer stands in specs/.
 use enforcer::HalfAnswer;
 use enforcer::Output;
-use enforcer::State;
 use enforcer::input_by;
 use enforcer::marks_refusal;
 use enforcer::output_by;
@@ -10,6 +9,7 @@ use index::is_index;
 use index::own_at;
 use policy::Checked;
 use policy::check_under;
+use stepping::State;
 ghost use mathlib.Core.Path.{_≡_};
 ghost use Rattle.policy.specs.Layout.{checkedUnder};
 ghost use Rattle.indexed.specs.Entries.{earlyRefusal};

@@ -16,14 +16,15 @@ use Rattle.policy.specs.Frame.{frame, inputs-length, outputs-length, pairs-leng
 use Rattle.policy.specs.Checked.{checked-file, well-sound, well-rising}
 use Rattle.policy.specs.ReadBack.{rules-length}
 use Rattle.join.specs.Left.{left-length}
-use Rattle.join.specs.Joins.{join-sound, join-clocks}
+use Rattle.pairing.specs.Joins.{join-sound, join-clocks}
 use Rattle.policy.specs.Number.{states}
 use Rattle.policy.specs.Layout.{layoutOf}
 use Rattle.policy.specs.declared.Layout.{Layout}
-use Rattle.join.specs.Join.{leftAt, join}
+use Rattle.pairing.specs.Join.{leftAt, join}
 use Rattle.join.specs.Entry.{said}
-use Rattle.join.specs.Lay.{Joinable, Section, rulesIn, rowsBytes, LayoutOf, limits, PartsReady, joinedCount, joinedRules, countsFrom, countsLength}
-use Rattle.join.specs.Laying.{bytes-length, pairs-copied, signals-laid}
+use Rattle.pairing.specs.RuleBytes.{Joinable, Section, rulesIn, rowsBytes}
+use Rattle.join.specs.JoinBytes.{LayoutOf, limits, PartsReady, joinedCount, joinedRules, countsFrom, countsLength}
+use Rattle.laying.specs.Laying.{bytes-length, pairs-copied, signals-laid}
 use Rattle.join.proofs.SizeLaws.{sizes}
 
 -- What the join counts, by the two files.

@@ -14,13 +14,14 @@ use Rattle.policy.specs.Check.{refusalOf}
 use Rattle.policy.specs.Bytes.{countsBytes, bytesOf}
 use Rattle.policy.specs.Layout.{layoutOf}
 use Rattle.policy.specs.declared.Layout.{Layout}
-use Rattle.join.specs.Join.{join}
+use Rattle.pairing.specs.Join.{join}
 use Rattle.join.specs.Entry.{sameSignals, joinFits, said, joinedFile, writtenOver, joinRefusal, joinOf, joinedOut}
 use Rattle.join.specs.declared.Joined.the-variants.{Length, Refused}
 use Rattle.join.specs.Promise.{JoinPromise}
 use Rattle.join.specs.Limits.{states-join}
-use Rattle.join.specs.Lay.{LaidAt, LayoutOf, limits, PartsReady, joinedCount, joinedRules, countsFrom, countsLength}
-use Rattle.join.specs.Laying.{laid-parts}
+use Rattle.join.specs.JoinBytes.{LayoutOf, limits, PartsReady, joinedCount, joinedRules, countsFrom, countsLength}
+use Rattle.laying.specs.Lay.{LaidAt}
+use Rattle.laying.specs.Laying.{laid-parts}
 use Rattle.join.proofs.FileLaws.{clocks-joined, places-joined, states-read, joined-length, counts-joined, counts-long}
 
 -- 13, by the layouts.

@@ -1,5 +1,3 @@
-pub mod Laws
-pub mod RuleLaws
 pub mod SizeLaws
 pub mod FileLaws
 pub mod JoinLaws

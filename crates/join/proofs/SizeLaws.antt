@@ -17,7 +17,7 @@ use Rattle.policy.specs.declared.Checked.{Checked}
 use Rattle.policy.specs.declared.Layout.{Layout}
 use Rattle.join.specs.Entry.{sameTags}
 use Rattle.join.specs.Again.{sameTags-is}
-use Rattle.join.specs.Lay.{LayoutOf, clocksFor}
+use Rattle.join.specs.JoinBytes.{LayoutOf, clocksFor}
 
 -- The tags from i on: the first, and the rest.
 pub same-turn : (xs ys : List ℕ) (i : ℕ) → i < length xs → i < length ys →

@@ -16,10 +16,10 @@ use Rattle.policy.specs.Check.{ceilingGood, maskGood, headGood, boundGood, boun
 use Rattle.policy.specs.Sound.{WellFormed, Each, each-none, each-more}
 use Rattle.policy.specs.Stopped.{AllLawful, lawful-none, lawful-more}
 use Rattle.policy.specs.Checked.{all-append, Ordered, ordered-none, ordered-more, Rising, rising-none, rising-more, Ruled, well-ruled}
-use Rattle.join.specs.Join.{of, both, rows, join}
+use Rattle.pairing.specs.Join.{of, both, rows, join}
 use Rattle.join.specs.Entry.{sameTags, sameSignals, joinFits}
 use Rattle.join.specs.Left.{left-length, left-good}
-use Rattle.join.specs.Joins.{Joins, each-any, each-rows, both-formed}
+use Rattle.pairing.specs.Joins.{Joins, each-any, each-rows, both-formed}
 use Rattle.join.specs.Decide.{cell-at}
 
 same-itself : (xs : List ℕ) → sameTags xs xs ≡ true

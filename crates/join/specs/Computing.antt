@@ -1,5 +1,5 @@
 -- What samples of a join are computed by: to unfold this name is to unfold all that its line names.
-use Rattle.join.specs.Join.{of, alike, agree, target, both, pair, each, cell, rows, leftAt, leftBelow, join}
+use Rattle.pairing.specs.Join.{of, alike, agree, target, both, pair, each, cell, rows, leftAt, leftBelow, join}
 use Rattle.join.specs.Entry.{sameTags, sameSignals, joinFits, joinedFile, joinRefusal, joinOf, joinedOut}
 
 unfoldable pub the-join : Unit {0}

@@ -10,7 +10,7 @@ use Rattle.policy.specs.Number.{states}
 use Rattle.policy.specs.File.{policyOf}
 use Rattle.policy.specs.Check.{refusalOf}
 use Rattle.policy.specs.Bytes.{bytesOf}
-use Rattle.join.specs.Join.{join}
+use Rattle.pairing.specs.Join.{join}
 
 -- The same tags in the same order.
 unfoldable pub sameTags : List ℕ → List ℕ → Bool

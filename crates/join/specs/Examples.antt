@@ -10,7 +10,7 @@ use Rattle.policy.specs.Number.{statesOf}
 use Rattle.policy.specs.Check.{allPass, among, tagsGood, ceilingGood, locationGood, maskGood, headGood, boundGood, boundsGood, ruleRefusal, rulesRefusal}
 use Rattle.policy.specs.Sound.{WellFormed}
 use Rattle.policy.specs.Checked.{well-sound}
-use Rattle.join.specs.Join.{target, join}
+use Rattle.pairing.specs.Join.{target, join}
 use Rattle.join.specs.Entry.{joinFits}
 use Rattle.join.specs.Laws.{Equal, associates}
 use Rattle.join.specs.Again.{fitting, joins-of, join-well}

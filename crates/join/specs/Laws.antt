@@ -12,8 +12,8 @@ use Rattle.streams.specs.Laws.{narrows-refl, narrows-trans, alongside-first, al
 use Rattle.streams.specs.Languages.{_narrows_}
 use Rattle.policy.specs.Rules.{Policy, Runs, Permits}
 use Rattle.policy.specs.Sound.{Sound}
-use Rattle.join.specs.Join.{join}
-use Rattle.join.specs.Joins.{Joins, join-sound}
+use Rattle.pairing.specs.Join.{join}
+use Rattle.pairing.specs.Joins.{Joins, join-sound}
 use Rattle.join.specs.Steps.{fits-same, within-both, both-within}
 use Rattle.join.specs.Free.{free}
 use Rattle.join.specs.FreeLaws.{free-sound, free-permits, free-rests}

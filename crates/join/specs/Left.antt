@@ -13,7 +13,7 @@ use Rattle.policy.specs.Rules.{Policy, Place, rests}
 use Rattle.policy.specs.Check.{allPass, locationGood}
 use Rattle.policy.specs.Sound.{In}
 use Rattle.policy.specs.Checked.{all-append}
-use Rattle.join.specs.Join.{leftAt, leftBelow, join, beside}
+use Rattle.pairing.specs.Join.{leftAt, leftBelow, join, beside}
 
 -- A byte of the join is 0 or 1, and 0 at rest.
 bit-good : (t : Bool) → locationGood (cond t 0 1) ≡ true

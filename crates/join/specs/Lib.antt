@@ -1,7 +1,4 @@
-pub mod Join
-pub mod Masks
 pub mod Left
-pub mod Joins
 pub mod Decide
 pub mod Steps
 pub mod Free
@@ -13,6 +10,5 @@ pub mod Again
 pub mod Limits
 pub mod Written
 pub mod Examples
-pub mod Lay
-pub mod Laying
+pub mod JoinBytes
 pub mod Promise

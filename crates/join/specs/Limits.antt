@@ -12,7 +12,7 @@ use lib.Seq.{getD-append-add}
 use borrow.Author.Tests.{leb-true, leb-false, lt-leb}
 use Rattle.policy.specs.Rules.{Policy}
 use Rattle.policy.specs.Number.{values, statesOf, states}
-use Rattle.join.specs.Join.{join}
+use Rattle.pairing.specs.Join.{join}
 use Rattle.join.specs.Entry.{joinFits}
 
 -- The join has as many states as A has, times as many as B has.

@@ -18,8 +18,8 @@ use Rattle.policy.specs.Checked.{checked-file, well-sound}
 use Rattle.policy.specs.Bytes.{countsBytes, bytesOf}
 use Rattle.policy.specs.ReadBack.{read-back}
 use Rattle.policy.specs.WrittenPasses.{written-passes}
-use Rattle.join.specs.Join.{leftAt, leftBelow, join}
-use Rattle.join.specs.Joins.{Joins}
+use Rattle.pairing.specs.Join.{leftAt, leftBelow, join}
+use Rattle.pairing.specs.Joins.{Joins}
 use Rattle.join.specs.Steps.{within-both, both-within}
 use Rattle.join.specs.Entry.{sameSignals, joinFits, said, joinedFile, joinRefusal, joinedOut}
 use Rattle.join.specs.Again.{joins-of, join-well}

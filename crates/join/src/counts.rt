@@ -1,7 +1,7 @@
 // What stands before the rules: signals, clocks, locations and counts.
-use crate::lay::copy;
-use crate::lay::put;
-use crate::lay::put_pair;
+use laying::lay::copy;
+use laying::lay::put;
+use laying::lay::put_pair;
 use policy::Layout;
 use policy::limits::CLOCKS;
 use policy::limits::LOCATIONS;
@@ -11,8 +11,9 @@ ghost use mathlib.Core.Path.{_≡_};
 ghost use Prim.Native.Nat.{_+_, _*_, _≤_, _<_, _^_};
 ghost use lib.ListN.{length};
 ghost use Rattle.join.specs.Entry.{sameTags, sameSignals, said};
-ghost use Rattle.join.specs.Join.{leftAt};
-ghost use Rattle.join.specs.Lay.{LaidAt, LayoutOf, PartsReady, limits, clocksPart, leftPart, placesPart, countsFrom, countsLength};
+ghost use Rattle.pairing.specs.Join.{leftAt};
+ghost use Rattle.join.specs.JoinBytes.{LayoutOf, PartsReady, limits, clocksPart, leftPart, placesPart, countsFrom, countsLength};
+ghost use Rattle.laying.specs.Lay.{LaidAt};
 
 // The same tags in the same order.
 fn same_tags(a: &[u8], b: &[u8]) -> bool

@@ -1,13 +1,11 @@
 // Two policies are joined into one. What the join answers stands in specs/.
 mod counts;
-pub mod lay;
-mod rules;
 
-use crate::counts::counts_length;
-use crate::counts::lay_counts;
-use crate::counts::same_signals;
-use crate::counts::within_limits;
-use crate::rules::lay_rules;
+use counts::counts_length;
+use counts::lay_counts;
+use counts::same_signals;
+use counts::within_limits;
+use pairing::lay_rules;
 use policy::Layout;
 use policy::check;
 use policy::limits::RULES;
@@ -15,7 +13,8 @@ ghost use mathlib.Core.Path.{_≡_};
 ghost use Prim.Native.Nat.{_+_, _≤_, _<_, _^_};
 ghost use lib.ListN.{length};
 ghost use Rattle.join.specs.Entry.{joinedFile, writtenOver};
-ghost use Rattle.join.specs.Lay.{LaidAt, LayoutOf, PartsReady, joinedCount, joinedRules, countsLength};
+ghost use Rattle.join.specs.JoinBytes.{LayoutOf, PartsReady, joinedCount, joinedRules, countsLength};
+ghost use Rattle.laying.specs.Lay.{LaidAt};
 ghost use Rattle.join.specs.Promise.{JoinPromise};
 
 // The length written, or the refusal's number.

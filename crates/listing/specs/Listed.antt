@@ -7,7 +7,7 @@ use lib.ListN.{length}
 use Rattle.policy.specs.File.{policyOf}
 use Rattle.policy.specs.Check.{refusalUnder}
 use Rattle.texts.specs.Text.{ascii, decimal}
-use Rattle.cleaning.specs.Clean.{Struck}
+use Rattle.usage.specs.Clean.{Struck}
 use Rattle.cleaning.specs.Entry.{struckOf, cleanedFile}
 use Rattle.console.specs.Printed.{unlessRefused}
 -- "The caller names the reading": by a word.

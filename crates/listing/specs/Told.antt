@@ -8,7 +8,7 @@ use Rattle.policy.specs.File.{policyOf}
 use Rattle.policy.specs.Check.{refusalUnder}
 use Rattle.policy.specs.CheckLaws.{under-none}
 use Rattle.policy.specs.Bytes.{bytesOf}
-use Rattle.cleaning.specs.Clean.{Struck}
+use Rattle.usage.specs.Clean.{Struck}
 use Rattle.cleaning.specs.Entry.{cleanedOf, struckOf, cleanedFile}
 use Rattle.cleaning.specs.Laws.{Lists, Leaves}
 use Rattle.cleaning.specs.Theorems.{cleans}

@@ -18,7 +18,7 @@ use Rattle.policy.specs.Frame.{frame, longest}
 use Rattle.texts.specs.Text.{ascii, decimal}
 use Rattle.texts.specs.Decimal.{decimal-short}
 use Rattle.texts.specs.Wrote.{Wrote}
-use Rattle.cleaning.specs.Clean.{Struck, struckBytes}
+use Rattle.usage.specs.Clean.{Struck, struckBytes}
 use Rattle.cleaning.specs.Entry.{struckOf, cleanedFile, struckList, shortRefusal, cleanRefusal, cleanOf, cleanedOut, struckOut, writtenIn}
 use Rattle.cleaning.specs.Promise.{CleanPromise}
 use Rattle.cleaning.specs.Sizes.{room}

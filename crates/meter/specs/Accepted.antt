@@ -14,7 +14,7 @@ use Rattle.bays.specs.Halves.{output-four}
 use Rattle.bays.specs.Odd.{oddRefusal}
 use Rattle.meter.specs.Meter.{isStation, areTotals, stationState, lastReading, withStation, pulsesOf, withPulse, isOn, risen, fits}
 use Rattle.meter.specs.Entries.{MeterAnswer, kept, settled, metered, past, meterRefusal, weightP, weightD, meterInputOf, meterOutputOf}
-use Rattle.enforcer.specs.declared.state.State.{State}
+use Rattle.stepping.specs.declared.state.State.{State}
 
 -- The state in a station's numbers is the one that was put there.
 pub station-back : (station : List ℕ) (s : State) (register : ℕ) → length (s .clocks) ≡ 4 → stationState (withStation station s register) ≡ s

@@ -9,10 +9,10 @@ use Rattle.policy.specs.File.{policyOf}
 use Rattle.policy.specs.Check.{refusalUnder, among}
 use Rattle.policy.specs.Signals.{weightOf}
 use Rattle.enforcer.specs.Entries.{inputOf, outputOf}
-use Rattle.enforcer.specs.Code.{startState}
+use Rattle.stepping.specs.Code.{startState}
 use Rattle.bays.specs.Odd.{oddRefusal}
 use Rattle.meter.specs.Meter.{isStation, areTotals, stationState, lastReading, withStation, pulsesOf, withPulse, isOn, risen, fits}
-use Rattle.enforcer.specs.declared.state.State.{State}
+use Rattle.stepping.specs.declared.state.State.{State}
 
 -- "The first reading is given when the totals are set up, both at 0." 14: "the slice to be written is too short", and nothing is written.
 unfoldable pub newRefusal : List ℕ → List ℕ → ℕ

@@ -7,7 +7,7 @@ use lib.Dec.{leb, eqb}
 use lib.Bits.{bitAnd, bitOr}
 use lib.ListN.{length, getD, take, drop}
 use Rattle.bays.specs.Five.{stateWords, stateIn}
-use Rattle.enforcer.specs.declared.state.State.{State}
+use Rattle.stepping.specs.declared.state.State.{State}
 
 abbrev pub isStation : List ℕ → Bool
 isStation station = leb 6 (length station)

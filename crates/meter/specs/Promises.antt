@@ -5,7 +5,7 @@ use mathlib.Core.List.{List}
 use Prim.Native.Nat.{ℕ}
 use Rattle.enforcer.specs.Entries.{outputOf}
 use Rattle.enforcer.specs.Promises.{answerSaid, answer-one}
-use Rattle.enforcer.specs.declared.state.State.{State}
+use Rattle.stepping.specs.declared.state.State.{State}
 use Rattle.enforcer.specs.declared.halves.HalfAnswer.{HalfAnswer}
 use Rattle.meter.specs.Entries.{MeterAnswer, newRefusal, newStation, newTotals, settled, metered, meterInputOf, meterOutputOf}
 use Rattle.meter.specs.Meter.{stationState}

@@ -9,12 +9,12 @@ use lib.ListN.{length, getD, drop}
 use lib.Seq.{getD-at}
 use Rattle.streams.specs.Answer.{Answer, refused, gives, unless}
 use Rattle.enforcer.specs.Entries.{OutputAnswer, outputOf}
-use Rattle.enforcer.specs.Code.{startState}
+use Rattle.stepping.specs.Code.{startState}
 use Rattle.bays.specs.Halves.{output-four}
 use Rattle.bays.specs.Odd.{oddRefusal}
 use Rattle.meter.specs.Meter.{isStation, areTotals, stationState, lastReading, withStation, billed, unbilled, pulsesOf, isOn, risen, fits}
 use Rattle.meter.specs.Entries.{MeterAnswer, kept, settled, metered, past, meterRefusal, weightD, newRefusal, newStation, newTotals, meterOutputOf}
-use Rattle.enforcer.specs.declared.state.State.{State}
+use Rattle.stepping.specs.declared.state.State.{State}
 
 -- "so 65,530 followed by 4 is 10 pulses"
 pub over-the-top : pulsesOf 4 65530 ≡ 10

@@ -13,8 +13,9 @@ use crate::station::put_station;
 use crate::station::station_state;
 use bays::five::odd_refusal;
 use enforcer::HalfAnswer;
-use enforcer::State;
 use enforcer::input_half;
+use enforcer::output_of;
+use stepping::State;
 ghost use Prim.Native.Nat.{_≤_};
 ghost use lib.ListN.{length};
 ghost use Rattle.meter.specs.Promises.{MeterNewPromise, MeterInputPromise, MeterOutputPromise, SettledPromise, ReleasePromise};
@@ -97,7 +98,7 @@ fn release(
     ensures { λ r. ⌜ ReleasePromise reading (now (file .entry)) (now (marks .entry)) (now (station .entry)) (now (totals .entry)) register x y weight r (now (station .exit)) (now (totals .exit)) ⌝ }
 {
     let given = station_state(station);
-    let output = given.output(reading, file, marks, x, y);
+    let output = output_of(given, reading, file, marks, x, y);
     let next = output.state;
     let answer = output.answer;
     match answer {

@@ -2,7 +2,7 @@
 use bays::five::STATE_NUMBERS;
 use bays::five::put_state;
 use bays::five::state_of;
-use enforcer::State;
+use stepping::State;
 ghost use mathlib.Core.Path.{_≡_};
 ghost use mathlib.Core.Bool.{true};
 ghost use mathlib.Core.List.{_∷_};

@@ -8,8 +8,8 @@ use Rattle.policy.specs.Number.{numberFrom, statesOf, locationFrom, clocksFrom}
 use Rattle.policy.specs.File.{policyOf, outputsAt, clocksAt, locationsAt, rulesAt, rulesStart, rulesEnd, pairsFrom, rulesFrom, ruleFrom, boundsFrom}
 use Rattle.policy.specs.Check.{readingRefusal, refusalUnder, refusalOf, inputsRefusal, outputsRefusal, clocksRefusal, locationsRefusal, rulesSectionRefusal, sectionRefusal, tagsGood, among, allPass, rulesRefusal, ruleRefusal, headGood, maskGood, boundsGood, boundGood}
 use Rattle.policy.specs.Bytes.{bytesOf, countsBytes, pairsBytes, rulesBytes, ruleBytes, boundsBytes}
-use Rattle.enforcer.specs.State.{clocksGood, stateGood}
-use Rattle.enforcer.specs.Tick.{reaches, mayStand, inputChoice, outputChoice, moved, outputTick, tick, ran}
+use Rattle.stepping.specs.State.{clocksGood, stateGood}
+use Rattle.stepping.specs.Tick.{reaches, mayStand, inputChoice, outputChoice, moved, outputTick, tick, ran}
 use Rattle.enforcer.specs.Entries.{marksRefusal, stateRefusal, runRefusal, runOf}
 use Rattle.resting.specs.Table.{roundsBy, roundBy, tab}
 use Rattle.resting.specs.Keeps.{keeps, leadsTo, stays, someEvent}

@@ -24,11 +24,11 @@ use Rattle.policy.specs.Sound.{WellFormed, Sound, Inside}
 use Rattle.policy.specs.Numbered.{numberOf-below}
 use Rattle.policy.specs.Stays.{of-some, step-inside, steps-append, stop-inside, fits-append, runs-append, closed}
 use Rattle.policy.specs.Checked.{well-sound, well-checked}
-use Rattle.enforcer.specs.State.{isMarked}
-use Rattle.enforcer.specs.Tick.{ReleasedTick, Progress, arrives, reaches, mayStand, inputChoice, outputChoice, moved, outputTick, tick, ran}
-pub use Rattle.enforcer.specs.Ticks.{TickedBy, ticked, input-stands, output-stands, ran-on}
-use Rattle.prepare.specs.Table.{marksOf}
-use Rattle.prepare.specs.Live.{arrived, onward, markOf, marks-length, marks-onward, runs-more, unlimited-step, after-in, goes-on-marked}
+use Rattle.stepping.specs.State.{isMarked}
+use Rattle.stepping.specs.Tick.{ReleasedTick, Progress, arrives, reaches, mayStand, inputChoice, outputChoice, moved, outputTick, tick, ran}
+pub use Rattle.stepping.specs.Ticks.{TickedBy, ticked, input-stands, output-stands, ran-on}
+use Rattle.trimming.specs.Table.{marksOf}
+use Rattle.trimming.specs.Live.{arrived, onward, markOf, marks-length, marks-onward, runs-more, unlimited-step, after-in, goes-on-marked}
 use Rattle.prepare.specs.Enforcing.{Enforces, Leads, AsPrepared, MarkedPlace, ins, outs}
 
 pub prepared-front : (p : Policy) (rest : List ℕ) → AsPrepared p (marksOf p ++ rest)

@@ -13,9 +13,9 @@ use Rattle.policy.specs.Rules.{Policy, Place, start, unlimited, steps, Fits, Pe
 use Rattle.policy.specs.Stop.{stop}
 use Rattle.policy.specs.Number.{states, numberOf}
 use Rattle.policy.specs.Sound.{Inside}
-use Rattle.enforcer.specs.State.{isMarked}
-use Rattle.enforcer.specs.Tick.{Progress}
-use Rattle.prepare.specs.Table.{marksOf}
+use Rattle.stepping.specs.State.{isMarked}
+use Rattle.stepping.specs.Tick.{Progress}
+use Rattle.trimming.specs.Table.{marksOf}
 
 -- How many signals there are.
 abbrev pub ins : Policy → ℕ

@@ -11,11 +11,11 @@ use Rattle.streams.specs.Stream.{Event, Stream, Rested}
 use Rattle.streams.specs.Laws.{rested-same}
 use Rattle.policy.specs.Rules.{Bound, Policy, Place, fires, decides, unlimited, step, steps, FitsOne, fits-none, Runs, Rests, rests as atRest}
 use Rattle.policy.specs.Number.{statesOf}
-use Rattle.enforcer.specs.Code.{eventXY, decider}
-use Rattle.prepare.specs.Table.{marksOf}
-use Rattle.prepare.specs.Live.{runs-more}
-use Rattle.reasons.specs.Reasons.{Reason, kept, rule, unmatched, ticks, TicksLeft, Lasting, RestsLeft, SaysWhy, by-rule, by-none, by-ticks, SaysIn, Given, forwarded, edited, Explained}
-use Rattle.reasons.specs.Better.{better, best-first, best-more}
+use Rattle.stepping.specs.Code.{eventXY, decider}
+use Rattle.trimming.specs.Table.{marksOf}
+use Rattle.trimming.specs.Live.{runs-more}
+use Rattle.explaining.specs.Reasons.{Reason, kept, rule, unmatched, ticks, TicksLeft, Lasting, RestsLeft, SaysWhy, by-rule, by-none, by-ticks, SaysIn, Given, forwarded, edited, Explained}
+use Rattle.explaining.specs.Better.{better, best-first, best-more}
 use Rattle.prepare.specs.Computing.{a-step, the-marks, the-run}
 
 abbrev pub free : Bound

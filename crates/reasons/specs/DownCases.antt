@@ -8,8 +8,8 @@ use lib.Bits.{and-zero-r}
 use Rattle.streams.specs.Stream.{Event}
 use Rattle.policy.specs.Rules.{Policy, Place, unlimited, step, FitsOne, rests as atRest}
 use Rattle.policy.specs.Number.{statesOf}
-use Rattle.enforcer.specs.Code.{eventXY}
-use Rattle.reasons.specs.Reasons.{kept, ticks, TicksLeft, by-ticks, forwarded}
+use Rattle.stepping.specs.Code.{eventXY}
+use Rattle.explaining.specs.Reasons.{kept, ticks, TicksLeft, by-ticks, forwarded}
 use Rattle.prepare.specs.Computing.{a-step, the-marks, the-run}
 use Rattle.reasons.specs.Cases.{free, Tells, judged, waits, ended, one-more}
 

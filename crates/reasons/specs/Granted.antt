@@ -4,33 +4,28 @@ use mathlib.Core.Bool.{true, false, not, and-eq-true-iff}
 use mathlib.Core.List.{List}
 use Prim.Native.Nat.{ℕ, zero, suc, _≤_, _<_}
 use native.Mathlib.Omega.{arith}
-use lib.ListN.{getD, take}
-use lib.Seq.{getD-take}
+use lib.ListN.{take}
 use borrow.Author.Tests.{lt-ltb, le-ltb, ltb-true, not-true}
 use Rattle.streams.specs.Answer.{refused, gives, unless}
 use Rattle.streams.specs.AnswerLaws.{none-refused, none-unless}
 use Rattle.policy.specs.Rules.{Policy, Place, inputValues, outputValues}
 use Rattle.policy.specs.File.{policyOf}
 use Rattle.policy.specs.Number.{states, numberOf}
-use Rattle.enforcer.specs.State.{placeIn, isMarked, place}
+use Rattle.stepping.specs.State.{placeIn, isMarked, place}
 use Rattle.enforcer.specs.Entries.{xGood, yGood, marksRefusal, stateRefusal}
 use Rattle.policy.specs.declared.Layout.{Layout}
-use Rattle.enforcer.specs.Ready.{Standing}
-use Rattle.enforcer.specs.Laid.{laid-place}
+use Rattle.stepping.specs.Ready.{Standing}
+use Rattle.stepping.specs.Laid.{laid-place}
 use Rattle.enforcer.specs.States.{Granted, state-granted, granted-standing}
-use Rattle.enforcer.specs.declared.state.State.{State}
-use Rattle.prepare.specs.Table.{marksOf}
+use Rattle.stepping.specs.declared.state.State.{State}
 use Rattle.prepare.specs.Enforcing.{AsPrepared}
-use Rattle.reasons.specs.Reasons.{Explained}
-use Rattle.reasons.specs.Entry.{Reasons, differ, differ-front, otherMarks, whyRefusal, WhyAnswers, refuses, explains}
-use Rattle.reasons.specs.Edited.{marks-prepared}
-use Rattle.reasons.specs.Halves.{BothTold}
-use Rattle.reasons.specs.Said.{CountsOf}
-
--- Marks in a slice that is long enough: the comparison sees them alone.
-pub front-differ : (p : Policy) (marks after : List ℕ) → take (states p) after ≡ marksOf p → differ marks after (states p) ≡ otherMarks p marks
-front-differ p marks after e =
-    differ-front marks after (marksOf p) (states p) (λ i l. sym (getD-take (states p) after i 0 l) ∙ ap (λ (A : List ℕ). getD A i 0) e)
+use Rattle.explaining.specs.Reasons.{Explained}
+use Rattle.counting.specs.OtherMarks.{otherMarks}
+use Rattle.explaining.specs.EachHalf.{Reasons}
+use Rattle.reasons.specs.Entry.{whyRefusal, WhyAnswers, refuses, explains}
+use Rattle.explaining.specs.Edited.{marks-prepared}
+use Rattle.explaining.specs.Halves.{BothTold}
+use Rattle.counting.specs.Counted.{CountsOf}
 
 -- The tables begin with the counts.
 abbrev pub CountsFront : Policy → (T R : List ℕ) → Type 0

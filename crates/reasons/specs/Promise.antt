@@ -4,29 +4,18 @@ use mathlib.Core.List.{List}
 use Prim.Native.Nat.{ℕ, _<_}
 use Rattle.streams.specs.Answer.{refused, gives}
 use Rattle.streams.specs.Answer as Said
-use Rattle.enforcer.specs.declared.state.State.{State}
-use Rattle.reasons.specs.Reasons.{kept, rule, unmatched, ticks, rests, countOf}
-use Rattle.reasons.specs.Reasons as Reasons
+use Rattle.stepping.specs.declared.state.State.{State}
+use Rattle.explaining.specs.Reasons.{kept, rule, unmatched, ticks, rests, countOf}
+use Rattle.explaining.specs.Reasons as Reasons
 use Rattle.reasons.specs.Entry.{WhyAnswers, answers-one}
-use Rattle.reasons.specs.Entry as Entry
-use Rattle.reasons.specs.declared.reason.Reason.{Reason}
-use Rattle.reasons.specs.declared.reason.Reason.the-variants as Reason
-use Rattle.reasons.specs.declared.reason.Reasons.{Reasons as Both}
+use Rattle.explaining.specs.EachHalf as EachHalf
+use Rattle.explaining.specs.declared.reason.Reason.{Reason}
+use Rattle.explaining.specs.declared.reason.Reason.the-variants as Reason
 use Rattle.reasons.specs.declared.entry.WhyAnswer.{WhyAnswer}
 use Rattle.reasons.specs.declared.entry.WhyAnswer.the-variants as WhyAnswer
+use Rattle.explaining.specs.CodeReasons.{bothSaid, reasonSaid}
 
--- What the answers say, in 02's words.
-abbrev pub reasonSaid : Reason → Reasons.Reason
-reasonSaid Reason.Kept = kept
-reasonSaid (Reason.Rule i) = rule i
-reasonSaid Reason.Unmatched = unmatched
-reasonSaid (Reason.Ticks k) = ticks k
-reasonSaid (Reason.Rests k) = rests k
-
-abbrev pub bothSaid : Both → Entry.Reasons
-bothSaid r = record { input = reasonSaid (r .input); output = reasonSaid (r .output) }
-
-abbrev pub answerSaid : WhyAnswer → Said.Answer Entry.Reasons
+abbrev pub answerSaid : WhyAnswer → Said.Answer EachHalf.Reasons
 answerSaid (WhyAnswer.Gives r) = gives (bothSaid r)
 answerSaid (WhyAnswer.Refused n) = refused n
 
@@ -48,7 +37,7 @@ reason-back Reason.Unmatched = refl
 reason-back (Reason.Ticks k) = refl
 reason-back (Reason.Rests k) = refl
 
-abbrev answerAs : Said.Answer Entry.Reasons → WhyAnswer
+abbrev answerAs : Said.Answer EachHalf.Reasons → WhyAnswer
 answerAs (gives r) = WhyAnswer.Gives (record { input = reasonAs (r .input); output = reasonAs (r .output) })
 answerAs (refused n) = WhyAnswer.Refused n
 
@@ -61,6 +50,6 @@ why-one {reading} {file} {marks} {s} {x} {y} {r} {q} h g =
     sym (answer-back r) ∙ ap answerAs (answers-one reading file marks s x y (h .answers) (g .answers)) ∙ answer-back q
 
 -- Each number is below that of the states that a policy can have.
-abbrev pub SmallReasons : Said.Answer Entry.Reasons → Type 0
+abbrev pub SmallReasons : Said.Answer EachHalf.Reasons → Type 0
 SmallReasons (gives r) = (countOf (r .input) < 65536) × (countOf (r .output) < 65536)
 SmallReasons (refused n) = Unit {0}

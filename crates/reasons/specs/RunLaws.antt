@@ -22,21 +22,23 @@ use Rattle.policy.specs.Number.{states, numberOf}
 use Rattle.policy.specs.Sound.{WellFormed, Inside}
 use Rattle.policy.specs.Checked.{well-sound, all-at}
 use Rattle.policy.specs.declared.Layout.{Layout}
-use Rattle.enforcer.specs.State.{isMarked, place, stateOf}
-use Rattle.enforcer.specs.Tick.{ReleasedTick, Progress, tick, ran}
-use Rattle.enforcer.specs.Ticks.{ticked, ran-on}
+use Rattle.stepping.specs.State.{isMarked, place, stateOf}
+use Rattle.stepping.specs.Tick.{ReleasedTick, Progress, tick, ran}
+use Rattle.stepping.specs.Ticks.{ticked, ran-on}
 use Rattle.enforcer.specs.Entries.{eventOf, xGood, yGood, eventGood, marksRefusal, stateRefusal, runRefusal, runOf}
-use Rattle.enforcer.specs.Ready.{Laid, Standing}
-use Rattle.enforcer.specs.Laid.{laid-well, laid-place, place-back, placeIn-stateOf}
+use Rattle.stepping.specs.Ready.{Laid, Standing}
+use Rattle.stepping.specs.Laid.{laid-well, laid-place, place-back, placeIn-stateOf}
 use Rattle.enforcer.specs.States.{inside-good, state-granted}
-use Rattle.enforcer.specs.declared.state.State.{State}
+use Rattle.stepping.specs.declared.state.State.{State}
 use Rattle.prepare.specs.Enforcing.{AsPrepared, MarkedPlace}
 use Rattle.prepare.specs.Enforces.{tick-ready, ticked-ready}
 use Rattle.fast.specs.Entry.{lentRefusal}
-use Rattle.reasons.specs.Reasons.{Explained}
-use Rattle.reasons.specs.Entry.{Reasons, otherMarks, whyRefusal, WhyAnswers, explains as given}
-use Rattle.reasons.specs.Edited.{marks-prepared}
-use Rattle.reasons.specs.Halves.{BothTold, Moves}
+use Rattle.explaining.specs.Reasons.{Explained}
+use Rattle.counting.specs.OtherMarks.{otherMarks}
+use Rattle.explaining.specs.EachHalf.{Reasons}
+use Rattle.reasons.specs.Entry.{whyRefusal, WhyAnswers, explains as given}
+use Rattle.explaining.specs.Edited.{marks-prepared}
+use Rattle.explaining.specs.Halves.{BothTold, Moves}
 use Rattle.reasons.specs.Word.{reasonsWord}
 use Rattle.reasons.specs.Runs.{Room, shortestOf, roomRefusal, earlyRefusal, whyRunRefusal, WhyThere, WhyRunAnswers, refuses, explains}
 

@@ -12,10 +12,12 @@ use Rattle.policy.specs.File.{policyOf}
 use Rattle.policy.specs.Check.{allPass}
 use Rattle.enforcer.specs.Entries.{RunAnswer, eventGood, stateRefusal, runOf}
 use Rattle.enforcer.specs.Promises.{ranSaid}
-use Rattle.enforcer.specs.declared.state.State.{State}
+use Rattle.stepping.specs.declared.state.State.{State}
 use Rattle.enforcer.specs.declared.runs.Ran.{Ran}
 use Rattle.fast.specs.Entry.{Work, shortest, lentRefusal}
-use Rattle.reasons.specs.Entry.{Reasons, otherMarks, WhyAnswers, answers-one}
+use Rattle.counting.specs.OtherMarks.{otherMarks}
+use Rattle.explaining.specs.EachHalf.{Reasons}
+use Rattle.reasons.specs.Entry.{WhyAnswers, answers-one}
 use Rattle.reasons.specs.Promise.{SmallReasons}
 use Rattle.reasons.specs.Word.{whyWord}
 

@@ -3,8 +3,8 @@ use mathlib.Core.Path.{_≡_}
 use Prim.Native.Nat.{ℕ, _+_, _*_, _/_, _%_, _<_}
 use native.Mathlib.Omega.{arith}
 use Rattle.streams.specs.Answer.{Answer, refused, gives}
-use Rattle.reasons.specs.Reasons.{Reason, kept, rule, unmatched, ticks, rests, kindOf, countOf}
-use Rattle.reasons.specs.Entry.{Reasons}
+use Rattle.explaining.specs.Reasons.{Reason, kept, rule, unmatched, ticks, rests, kindOf, countOf}
+use Rattle.explaining.specs.EachHalf.{Reasons}
 use Rattle.reasons.specs.Promise.{SmallReasons}
 
 -- The input's kind from bit 8 on and its number from bit 16 on, the output's kind from bit 32 on and its number from bit 40 on.

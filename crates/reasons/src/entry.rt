@@ -1,8 +1,8 @@
 // The entry, and the tables that it keeps.
-use crate::halves::reasons;
-use crate::reason::Reasons;
 use crate::refusals::refusal;
-use enforcer::State;
+use explaining::Reasons;
+use explaining::reasons;
+use stepping::State;
 ghost use mathlib.Core.Path.{_≡_};
 ghost use lib.ListN.{length};
 ghost use Rattle.reasons.specs.Promise.{WhyPromise, SmallReasons, answerSaid};

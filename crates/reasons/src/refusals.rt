@@ -1,10 +1,10 @@
 // What is refused: 22, 1 to 10, 16, 20, 15.
-use crate::counts::count;
-use enforcer::State;
+use counting::count;
 use enforcer::marks_refusal;
 use enforcer::state_refusal;
-use enforcer::values;
+use leading::values;
 use policy::Checked;
+use stepping::State;
 ghost use mathlib.Core.Path.{_≡_};
 ghost use lib.ListN.{length};
 ghost use Rattle.policy.specs.Layout.{checkedUnder};

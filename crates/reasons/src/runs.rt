@@ -1,17 +1,17 @@
 // The reasons for a run of events. The tables are made once; then each event is explained in the state that the run has there.
-use crate::counts::count_in;
-use crate::halves::tell;
 use crate::words::both;
+use counting::count_in;
 use enforcer::Ran;
-use enforcer::State;
 use enforcer::events_good;
 use enforcer::marks_refusal;
 use enforcer::state_refusal;
+use explaining::halves::tell;
 use index::NUMBERS;
 use index::own_at;
 use policy::Checked;
 use policy::Layout;
-use prepare::least;
+use stepping::State;
+use trimming::least;
 ghost use mathlib.Core.Path.{_≡_};
 ghost use mathlib.Core.Bool.{true};
 ghost use Prim.Native.Nat.{ℕ, _≤_, min};
@@ -22,11 +22,11 @@ ghost use Rattle.policy.specs.Check.{allPass};
 ghost use Rattle.policy.specs.Layout.{checkedUnder};
 ghost use Rattle.index.specs.Index.{indexOf};
 ghost use Rattle.enforcer.specs.Entries.{eventGood, stateRefusal};
-ghost use Rattle.enforcer.specs.Ready.{Laid};
+ghost use Rattle.stepping.specs.Ready.{Laid};
 ghost use Rattle.enforcer.specs.Promises.{ranSaid};
 ghost use Rattle.prepare.specs.Enforcing.{AsPrepared};
-ghost use Rattle.reasons.specs.Said.{CountsOf};
-ghost use Rattle.reasons.specs.Entry.{otherMarks};
+ghost use Rattle.counting.specs.Counted.{CountsOf};
+ghost use Rattle.counting.specs.OtherMarks.{otherMarks};
 ghost use Rattle.reasons.specs.Runs.{roomRefusal, earlyRefusal, WhyRunAnswers, WhyRunPromise};
 ghost use Rattle.reasons.specs.RunLaws.{Walking};
 

@@ -1,13 +1,14 @@
 // An answer as one number, for the C interface.
 use crate::entry::WhyAnswer;
-use crate::reason::Reason;
-use crate::reason::Reasons;
-use crate::reason::kind;
-use crate::reason::number;
+use explaining::Reason;
+use explaining::Reasons;
+use explaining::kind;
+use explaining::number;
 ghost use mathlib.Core.Path.{_≡_};
 ghost use Prim.Native.Nat.{_+_, _*_, _<_};
-ghost use Rattle.reasons.specs.Reasons.{kindOf, countOf};
-ghost use Rattle.reasons.specs.Promise.{reasonSaid, answerSaid, SmallReasons};
+ghost use Rattle.explaining.specs.Reasons.{kindOf, countOf};
+ghost use Rattle.explaining.specs.CodeReasons.{reasonSaid};
+ghost use Rattle.reasons.specs.Promise.{answerSaid, SmallReasons};
 ghost use Rattle.reasons.specs.Word.{whyWord};
 
 // A reason's number above its kind.

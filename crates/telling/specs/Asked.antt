@@ -13,22 +13,22 @@ use Rattle.policy.specs.Number.{numberOf}
 use Rattle.policy.specs.Sound.{Inside}
 use Rattle.policy.specs.Checked.{well-sound}
 use Rattle.policy.specs.declared.Layout.{Layout}
-use Rattle.enforcer.specs.State.{isMarked, place, stateOf}
-use Rattle.enforcer.specs.Tick.{ReleasedTick, tick}
-use Rattle.enforcer.specs.Tick as Spec
-use Rattle.enforcer.specs.Ticks.{TickedBy, ticked, ticked-fits}
+use Rattle.stepping.specs.State.{isMarked, place, stateOf}
+use Rattle.stepping.specs.Tick.{ReleasedTick, tick}
+use Rattle.stepping.specs.Tick as Spec
+use Rattle.stepping.specs.Ticks.{TickedBy, ticked, ticked-fits}
 use Rattle.enforcer.specs.Entries.{OutputAnswer, inputPast, outputPast}
-use Rattle.enforcer.specs.Code.{eventXY}
-use Rattle.enforcer.specs.Ready.{Standing}
-use Rattle.enforcer.specs.Laid.{laid-well, laid-inputs, laid-outputs, place-back}
+use Rattle.stepping.specs.Code.{eventXY}
+use Rattle.stepping.specs.Ready.{Standing}
+use Rattle.stepping.specs.Laid.{laid-well, laid-inputs, laid-outputs, place-back}
 use Rattle.enforcer.specs.Promises.{answerSaid, outputSaid}
-use Rattle.enforcer.specs.declared.state.State.{State}
+use Rattle.stepping.specs.declared.state.State.{State}
 use Rattle.enforcer.specs.declared.halves.HalfAnswer.{HalfAnswer as Given}
 use Rattle.enforcer.specs.declared.halves.Output.{Output}
 use Rattle.prepare.specs.Enforces.{tick-ready, ticked-ready, output-ticked}
 use Rattle.prepare.specs.Enforcing.{AsPrepared, MarkedPlace}
-use Rattle.reasons.specs.Edited.{input-answer}
-use Rattle.reasons.specs.Halves.{valueOr}
+use Rattle.explaining.specs.Edited.{input-answer}
+use Rattle.explaining.specs.Halves.{valueOr}
 
 -- In range and live, by the marks of prepare.
 pub record Asked (f : List ℕ) (l : Layout) (marks : List ℕ) (s : State) : Type 0 where

@@ -3,12 +3,12 @@ use mathlib.Core.Path.{_≡_, refl, sym, ap, _∙_}
 use mathlib.Core.List.{List, [], _∷_, _++_, map}
 use Prim.Native.Nat.{ℕ, _+_}
 use Rattle.policy.specs.Rules.{Policy, Place}
-use Rattle.enforcer.specs.Tick.{Progress, ran}
-use Rattle.enforcer.specs.Ticks.{ran-on}
+use Rattle.stepping.specs.Tick.{Progress, ran}
+use Rattle.stepping.specs.Ticks.{ran-on}
 use Rattle.enforcer.specs.Entries.{eventOf, byteOf}
 use Rattle.console.specs.Text.{eventLine}
-use Rattle.reasons.specs.Entry.{Reasons}
-use Rattle.telling.specs.Text.{reasonLines, tickText}
+use Rattle.explaining.specs.EachHalf.{Reasons}
+use Rattle.sentences.specs.Text.{reasonLines, tickText}
 use Rattle.telling.specs.Told.{Told, nothing, one}
 
 -- As console's `tickLines`, and after each line the lines of its reasons.

@@ -17,13 +17,13 @@ use Rattle.policy.specs.CheckLaws.{under-none}
 use Rattle.policy.specs.Checked.{checked-file, well-sound}
 use Rattle.policy.specs.Stays.{start-inside}
 use Rattle.policy.specs.declared.Layout.{Layout}
-use Rattle.enforcer.specs.State.{placeIn, stateOf, isMarked, place}
-use Rattle.enforcer.specs.Tick.{Progress, ran}
+use Rattle.stepping.specs.State.{placeIn, stateOf, isMarked, place}
+use Rattle.stepping.specs.Tick.{Progress, ran}
 use Rattle.enforcer.specs.Entries.{eventGood, runFrom, marksRefusal, stateRefusal, runRefusal, runOf}
-use Rattle.enforcer.specs.Code.{startState}
-use Rattle.enforcer.specs.Laid.{laid-well, laid-place, placeIn-stateOf}
+use Rattle.stepping.specs.Code.{startState}
+use Rattle.stepping.specs.Laid.{laid-well, laid-place, placeIn-stateOf}
 use Rattle.enforcer.specs.States.{Granted, marks-granted, state-granted}
-use Rattle.prepare.specs.Table.{marksOf}
+use Rattle.trimming.specs.Table.{marksOf}
 use Rattle.prepare.specs.declared.Summary.{Summary}
 use Rattle.console.specs.Text.{verdictLine, refusedLine}
 use Rattle.console.specs.Frame.{policyPart, eventsPart}
@@ -33,7 +33,7 @@ use Rattle.console.specs.Reply.{Replied, replied-one}
 use Rattle.console.specs.Scratch.{start-is}
 use Rattle.telling.specs.Asked.{Asked}
 use Rattle.telling.specs.Told.{Told, told-one, ToldFrom}
-use Rattle.enforcer.specs.declared.state.State.{State}
+use Rattle.stepping.specs.declared.state.State.{State}
 
 module _ (reading : ℕ) (input : List ℕ) where
   -- The policy of the input, under the reading.

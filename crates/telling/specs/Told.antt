@@ -10,17 +10,17 @@ use lib.Seq.{drop-cons}
 use Rattle.policy.specs.Rules.{Policy, Place}
 use Rattle.policy.specs.File.{policyOf}
 use Rattle.policy.specs.declared.Layout.{Layout}
-use Rattle.enforcer.specs.Tick.{ReleasedTick}
-use Rattle.enforcer.specs.Tick as Spec
+use Rattle.stepping.specs.Tick.{ReleasedTick}
+use Rattle.stepping.specs.Tick as Spec
 use Rattle.enforcer.specs.Entries.{eventOf}
-use Rattle.enforcer.specs.State.{place}
-use Rattle.enforcer.specs.declared.state.State.{State}
+use Rattle.stepping.specs.State.{place}
+use Rattle.stepping.specs.declared.state.State.{State}
 use Rattle.console.specs.Text.{eventLine}
 use Rattle.texts.specs.Wrote.{Wrote}
 use Rattle.texts.specs.WroteLaws.{wrote-none, wrote-then}
-use Rattle.reasons.specs.Reasons.{Explained, explained-one}
-use Rattle.reasons.specs.Entry.{Reasons}
-use Rattle.telling.specs.Text.{reasonLines, tickText, tickRoom}
+use Rattle.explaining.specs.Reasons.{Explained, explained-one}
+use Rattle.explaining.specs.EachHalf.{Reasons}
+use Rattle.sentences.specs.Text.{reasonLines, tickText, tickRoom}
 use Rattle.telling.specs.Asked.{Asked, ReleasedBy, released-moves, released-asked}
 
 -- The lines of a stream from the place s, its first tick with the number `from`: of each tick what is released and why, then those of the rest from the place

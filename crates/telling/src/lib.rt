@@ -1,6 +1,4 @@
 // What `why` decides on slices: the input of `enforce`, and its lines with a reason after each edited half.
-mod asked;
-mod lines;
 mod release;
 mod reply;
 mod tell;

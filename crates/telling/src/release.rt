@@ -1,10 +1,10 @@
 // What a tick releases, by its two halves.
-use enforcer::State;
 use enforcer::input_by;
 use enforcer::output_by;
-use enforcer::own_of;
+use explaining::value_or;
 use policy::Layout;
-use reasons::value_or;
+use stepping::State;
+use stepping::own_of;
 ghost use Prim.Native.Nat.{_<_};
 ghost use Rattle.policy.specs.Rules.{inputValues, outputValues};
 ghost use Rattle.policy.specs.File.{policyOf};

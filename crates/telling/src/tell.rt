@@ -1,10 +1,10 @@
 // A line for each tick, and its reasons.
-use crate::lines::put_reasons;
 use crate::release::release;
 use console::put_tick;
-use enforcer::State;
+use explaining::reasons;
 use policy::Layout;
-use reasons::reasons;
+use sentences::put_reasons;
+use stepping::State;
 ghost use mathlib.Core.Path.{_≡_};
 ghost use mathlib.Core.Bool.{true};
 ghost use Prim.Native.Nat.{_+_, _*_, _/_, _%_, _^_, _≤_, _<_};
@@ -12,10 +12,10 @@ ghost use lib.ListN.{length};
 ghost use Rattle.policy.specs.Rules.{inputValues, outputValues};
 ghost use Rattle.policy.specs.File.{policyOf};
 ghost use Rattle.policy.specs.Check.{allPass};
-ghost use Rattle.enforcer.specs.State.{place};
+ghost use Rattle.stepping.specs.State.{place};
 ghost use Rattle.enforcer.specs.Entries.{eventGood};
-ghost use Rattle.reasons.specs.Said.{CountsOf};
-ghost use Rattle.telling.specs.Text.{tickRoom};
+ghost use Rattle.counting.specs.Counted.{CountsOf};
+ghost use Rattle.sentences.specs.Text.{tickRoom};
 ghost use Rattle.telling.specs.Asked.{Asked};
 ghost use Rattle.telling.specs.Told.{ToldTick, ToldFrom};
 

@@ -26,9 +26,9 @@ use Rattle.policy.specs.Numbered.{states-positive}
 use Rattle.policy.specs.Checked.{checked-file}
 use Rattle.enforcer.specs.Entries.{eventOf, byteOf, eventGood, RunAnswer}
 use Rattle.enforcer.specs.Refusals.{events-back, fits-good}
-use Rattle.enforcer.specs.Code.{startState}
+use Rattle.stepping.specs.Code.{startState}
 use Rattle.enforcer.specs.Promises.{RunPromise, ranSaid}
-use Rattle.enforcer.specs.declared.state.State.{State}
+use Rattle.stepping.specs.declared.state.State.{State}
 use Rattle.enforcer.specs.declared.runs.Ran.{Ran}
 use Rattle.prepare.specs.Entry.{summaryOf, prepareOf}
 use Rattle.prepare.specs.Promise.{PreparePromise, prepared-one}

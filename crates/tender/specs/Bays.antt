@@ -14,9 +14,9 @@ use Rattle.streams.specs.Stream.{Event, Stream}
 use Rattle.policy.specs.Rules.{inputValues, outputValues}
 use Rattle.policy.specs.File.{policyOf}
 use Rattle.enforcer.specs.Entries.{inputOf, outputOf}
-use Rattle.enforcer.specs.Code.{startState}
+use Rattle.stepping.specs.Code.{startState}
 use Rattle.enforcer.specs.Promises.{answerSaid}
-use Rattle.enforcer.specs.declared.state.State.{State}
+use Rattle.stepping.specs.declared.state.State.{State}
 use Rattle.enforcer.specs.declared.halves.HalfAnswer.{HalfAnswer}
 use Rattle.enforcer.specs.declared.halves.HalfAnswer.the-variants as Code
 use Rattle.prepare.specs.Promise.{PreparePromise}

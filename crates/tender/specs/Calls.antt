@@ -13,7 +13,7 @@ use Rattle.streams.specs.Answer as Said
 use Rattle.streams.specs.AnswerLaws.{given-only}
 use Rattle.enforcer.specs.Entries.{OutputAnswer, inputOf, outputOf}
 use Rattle.enforcer.specs.Promises.{answerSaid, InputPromise, OutputPromise}
-use Rattle.enforcer.specs.declared.state.State.{State}
+use Rattle.stepping.specs.declared.state.State.{State}
 use Rattle.enforcer.specs.declared.halves.HalfAnswer.{HalfAnswer}
 use Rattle.enforcer.specs.declared.halves.HalfAnswer.the-variants as Half
 use Rattle.prepare.specs.Promise.{preparedSaid, PreparePromise, prepared-one}
@@ -38,7 +38,7 @@ use Rattle.compiling.specs.Promise.{ReadTextPromise}
 use Rattle.showing.specs.Promise.{WriteTextPromise}
 use Rattle.pointing.specs.RuleAt.{RuleAtPromise}
 use Rattle.pointing.specs.NameAt.{NameAtPromise}
-use Rattle.waves.specs.Entry.{Reads}
+use Rattle.drawing.specs.Entry.{Reads}
 use Rattle.waves.specs.Promise.{writtenSaid, takenSaid, WritePromise, TakePromise}
 use Rattle.waves.specs.declared.writer.Written.{Written}
 use Rattle.waves.specs.declared.writer.Written.the-variants as Written

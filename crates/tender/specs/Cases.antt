@@ -9,7 +9,7 @@ use Rattle.streams.specs.Answer.{Answer, refused, gives}
 use Rattle.policy.specs.Rules.{start}
 use Rattle.policy.specs.Number.{states}
 use Rattle.policy.specs.File.{policyOf}
-use Rattle.enforcer.specs.State.{stateOf}
+use Rattle.stepping.specs.State.{stateOf}
 use Rattle.enforcer.specs.Entries.{RunAnswer, runOf}
 use Rattle.prepare.specs.Entry.{prepareOf, preparedMarks}
 use Rattle.prepare.specs.declared.Summary.{Summary}

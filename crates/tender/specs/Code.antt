@@ -18,9 +18,9 @@ use Rattle.policy.specs.Number.{states}
 use Rattle.policy.specs.File.{policyOf}
 use Rattle.policy.specs.Check.{readingRefusal, refusalUnder, allPass}
 use Rattle.enforcer.specs.Entries.{RunAnswer, byteOf, eventGood, marksRefusal, inputOf, outputOf, runOf}
-use Rattle.enforcer.specs.Code.{startState}
+use Rattle.stepping.specs.Code.{startState}
 use Rattle.enforcer.specs.Promises.{answerSaid, InputPromise, OutputPromise, RunPromise, ranSaid}
-use Rattle.enforcer.specs.declared.state.State.{State}
+use Rattle.stepping.specs.declared.state.State.{State}
 use Rattle.enforcer.specs.declared.halves.HalfAnswer.{HalfAnswer}
 use Rattle.enforcer.specs.declared.halves.HalfAnswer.the-variants as Half
 use Rattle.enforcer.specs.declared.runs.Ran.{Ran}

@@ -4,7 +4,7 @@
 -- The check of a file, and under a reading: `policy::check_under` gives `checkedUnder`.
 pub use Rattle.policy.specs.Layout.{CheckPromise, check-one, checkedUnder}
 -- The limits and the start of the state's own type: `State::limits` gives `limitsSaid`, and `State::start` gives `startState`.
-pub use Rattle.enforcer.specs.Code.{limitsSaid, startState}
+pub use Rattle.stepping.specs.Code.{limitsSaid, startState}
 -- Prepare.
 pub use Rattle.prepare.specs.Promise.{PreparePromise, prepare-one}
 pub use Rattle.prepare.specs.PromiseLaws.{prepare-live, prepare-dead}

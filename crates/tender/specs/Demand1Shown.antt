@@ -12,10 +12,10 @@ use Rattle.policy.specs.File.{policyOf}
 use Rattle.policy.specs.Check.{readingRefusal, refusalUnder}
 use Rattle.policy.specs.CheckLaws.{under-none}
 use Rattle.policy.specs.Layout.{checkedUnder, noLayout}
-use Rattle.enforcer.specs.State.{isMarked}
+use Rattle.stepping.specs.State.{isMarked}
 use Rattle.enforcer.specs.Entries.{OutputAnswer, marksRefusal, inputRefusal, inputOf, outputRefusal, outputOf, runRefusal, runOf}
 use Rattle.enforcer.specs.States.{marks-granted}
-use Rattle.prepare.specs.Table.{marksOf}
+use Rattle.trimming.specs.Table.{marksOf}
 use Rattle.prepare.specs.Entry.{summaryOf, prepareOf, preparedMarks}
 use Rattle.prepare.specs.Promise.{prepared-one}
 use Rattle.prepare.specs.PromiseLaws.{said-past}
@@ -35,7 +35,7 @@ use Rattle.prepare.specs.declared.Prepared.{Prepared}
 use Rattle.prepare.specs.declared.Prepared.the-variants as Prepared
 use Rattle.tender.specs.Samples.{S, T}
 use Rattle.tender.specs.Granted.{each-reading}
-use Rattle.enforcer.specs.declared.state.State.{State}
+use Rattle.stepping.specs.declared.state.State.{State}
 use Rattle.prepare.specs.Computing.{the-file, the-check, a-step, the-marks}
 
 -- "Callers name reading 1 or 2." "22 for any other number, before all else": whatever else they are given, the check, prepare, the halves, why, the run and

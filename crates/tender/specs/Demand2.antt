@@ -13,12 +13,12 @@ use Rattle.policy.specs.Rules.{Policy, Place, start, Permits}
 use Rattle.policy.specs.Number.{states}
 use Rattle.policy.specs.File.{policyOf}
 use Rattle.policy.specs.Check.{refusalUnder, allPass}
-use Rattle.enforcer.specs.State.{stateOf}
+use Rattle.stepping.specs.State.{stateOf}
 use Rattle.enforcer.specs.Entries.{eventOf, byteOf, RunAnswer, eventGood, inputOf, outputOf, runOf}
 use Rattle.prepare.specs.Entry.{summaryOf, prepareOf, preparedMarks}
 use Rattle.prepare.specs.declared.Summary.{Summary}
 use Rattle.prepare.specs.Enforcing.{EnforcedBy, Leads}
-use Rattle.enforcer.specs.declared.state.State.{State}
+use Rattle.stepping.specs.declared.state.State.{State}
 
 -- What is to be released for the bytes `events`, read from the start on.
 abbrev pub ReleasedFor : Policy → List ℕ → Stream → Type 0

@@ -20,8 +20,8 @@ use Rattle.policy.specs.Number.{states}
 use Rattle.policy.specs.File.{policyOf}
 use Rattle.policy.specs.Check.{refusalUnder, allPass}
 use Rattle.policy.specs.Checked.{well-sound}
-use Rattle.enforcer.specs.State.{placeIn, stateOf}
-use Rattle.enforcer.specs.Tick.{inputChoice, ran}
+use Rattle.stepping.specs.State.{placeIn, stateOf}
+use Rattle.stepping.specs.Tick.{inputChoice, ran}
 use Rattle.enforcer.specs.Entries.{eventOf, byteOf, chosen, outputFrom, RunAnswer, runFrom, marksRefusal, xGood, yGood, eventGood, inputOf, outputOf, runOf}
 use Rattle.enforcer.specs.States.{marks-granted}
 use Rattle.enforcer.specs.Refusals.{events-back, fits-good, input-17, run-17}
@@ -31,7 +31,7 @@ use Rattle.prepare.specs.Enforces.{leads-start, leads-one, leads-ready, ticked,
 use Rattle.prepare.specs.Enforcing.{Leads}
 use Rattle.tender.specs.Demand2.{ReleasedFor, Released, Right, fromStart, Agree, Refuse, Demand2}
 use Rattle.tender.specs.Granted.{well-formed, prepared-marks, prepared-granted, judged, given-passed, given-long, given-goes-on, state-ready, entryRefusal, input-answer, output-answer, run-answer, run-ready}
-use Rattle.enforcer.specs.declared.state.State.{State}
+use Rattle.stepping.specs.declared.state.State.{State}
 
 -- For a reading, a file that passes under it and a slice for the marks that is long enough.
 module _ (reading : ℕ) (file marks : List ℕ) (passed : refusalUnder reading file ≡ 0) (long : states (policyOf reading file) ≤ length marks) where

@@ -15,7 +15,7 @@ use Rattle.policy.specs.File.{inputTags, outputTags, policyOf}
 use Rattle.policy.specs.Check.{readingRefusal, refusalUnder, refusalOf, allPass}
 use Rattle.enforcer.specs.Entries.{eventGood, RunAnswer}
 use Rattle.prepare.specs.Entry.{summaryOf, prepareOf}
-use Rattle.join.specs.Join.{join}
+use Rattle.pairing.specs.Join.{join}
 use Rattle.join.specs.Free.{freeFile}
 use Rattle.join.specs.Entry.{joinOf, joinedOut}
 use Rattle.tender.specs.Demand2.{Released, fromStart, ComesBack}

@@ -23,7 +23,7 @@ use Rattle.policy.specs.CheckLaws.{under-none}
 use Rattle.policy.specs.Checked.{checked-file}
 use Rattle.enforcer.specs.Entries.{eventOf, byteOf, eventGood}
 use Rattle.prepare.specs.Entry.{summaryOf, prepareOf}
-use Rattle.join.specs.Join.{join}
+use Rattle.pairing.specs.Join.{join}
 use Rattle.join.specs.Steps.{fits-same}
 use Rattle.cleaning.specs.Signals.{within, fits-within, steps-within}
 use Rattle.join.specs.FreeLaws.{free-read, free-permits, free-rests}
@@ -37,7 +37,7 @@ use Rattle.tender.specs.Demand3.{JoinMade, tags, JoinOf, alone, joined, 
 use Rattle.tender.specs.Demand2.{Run, Right, ReleasedFor}
 use Rattle.tender.specs.Demand2Shown.{releases, hopeless-exactly, prepared-otherwise}
 use Rattle.tender.specs.WorthlessRuns.{not-forwarding}
-use Rattle.enforcer.specs.declared.state.State.{State}
+use Rattle.stepping.specs.declared.state.State.{State}
 use Rattle.join.specs.Computing.{the-join}
 use Rattle.prepare.specs.Computing.{the-file, the-check, the-bytes}
 

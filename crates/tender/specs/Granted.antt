@@ -17,19 +17,19 @@ use Rattle.policy.specs.CheckLaws.{no-reading, under-none}
 use Rattle.policy.specs.Sound.{WellFormed}
 use Rattle.policy.specs.Numbered.{numberOf-start}
 use Rattle.policy.specs.Checked.{checked-file}
-use Rattle.enforcer.specs.State.{placeIn, stateOf, isMarked}
-use Rattle.enforcer.specs.Laid.{placeIn-stateOf}
+use Rattle.stepping.specs.State.{placeIn, stateOf, isMarked}
+use Rattle.stepping.specs.Laid.{placeIn-stateOf}
 use Rattle.enforcer.specs.States.{good-inside, inside-good, marks-granted, state-granted}
-use Rattle.enforcer.specs.Tick.{inputChoice, outputTick, ran}
+use Rattle.stepping.specs.Tick.{inputChoice, outputTick, ran}
 use Rattle.enforcer.specs.Entries.{eventOf, chosen, outputFrom, runFrom, marksRefusal, xGood, yGood, eventGood, stateRefusal, inputRefusal, inputOf, outputRefusal, outputOf, runRefusal, runOf}
-use Rattle.prepare.specs.Table.{marksOf}
+use Rattle.trimming.specs.Table.{marksOf}
 use Rattle.prepare.specs.Entry.{summaryOf, prepareOf, preparedMarks}
 use Rattle.prepare.specs.declared.Summary.{Summary}
-use Rattle.prepare.specs.Live.{marks-length, goes-on-or-ends, hopeless-start}
+use Rattle.trimming.specs.Live.{marks-length, goes-on-or-ends, hopeless-start}
 use Rattle.prepare.specs.PromiseLaws.{gives-past}
 use Rattle.prepare.specs.Enforces.{prepared-front, leads-start, goes-on-ready}
 use Rattle.prepare.specs.Enforcing.{AsPrepared, MarkedPlace}
-use Rattle.enforcer.specs.declared.state.State.{State}
+use Rattle.stepping.specs.declared.state.State.{State}
 
 else-none : (a b : ℕ) → a orElse b orElse 0 ≡ a orElse b
 else-none zero zero = refl

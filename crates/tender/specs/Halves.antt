@@ -16,14 +16,14 @@ use Rattle.policy.specs.Rules.{Policy, Place, start, Fits, fits-none, fits-more
 use Rattle.policy.specs.File.{policyOf}
 use Rattle.policy.specs.Check.{allPass}
 use Rattle.policy.specs.Checked.{well-sound}
-use Rattle.enforcer.specs.State.{placeIn, stateOf, stateGood}
-use Rattle.enforcer.specs.Laid.{placeIn-stateOf}
+use Rattle.stepping.specs.State.{placeIn, stateOf, stateGood}
+use Rattle.stepping.specs.Laid.{placeIn-stateOf}
 use Rattle.enforcer.specs.States.{good-inside, marks-granted, state-granted, clocks-back}
-use Rattle.enforcer.specs.Tick.{ReleasedTick, inputChoice, outputTick, tick, ran}
-use Rattle.enforcer.specs.Tick as Run
-use Rattle.enforcer.specs.Ticks.{ticked, input-stands, ran-on, ran-none}
+use Rattle.stepping.specs.Tick.{ReleasedTick, inputChoice, outputTick, tick, ran}
+use Rattle.stepping.specs.Tick as Run
+use Rattle.stepping.specs.Ticks.{ticked, input-stands, ran-on, ran-none}
 use Rattle.enforcer.specs.Entries.{eventOf, byteOf, chosen, outputFrom, OutputAnswer, RunAnswer, marksRefusal, xGood, yGood, eventGood, stateRefusal, inputRefusal, inputOf, outputRefusal, outputOf, runOf}
-use Rattle.enforcer.specs.declared.state.State.{State}
+use Rattle.stepping.specs.declared.state.State.{State}
 use Rattle.prepare.specs.Entry.{prepareOf, preparedMarks}
 use Rattle.prepare.specs.Enforces.{leads-start, leads-ready, ticked-ready, tick-found, output-ticked}
 use Rattle.prepare.specs.Enforcing.{MarkedPlace}

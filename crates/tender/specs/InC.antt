@@ -12,10 +12,10 @@ use Rattle.policy.specs.Rules.{Live, Dead}
 use Rattle.policy.specs.File.{policyOf}
 use Rattle.policy.specs.Check.{refusalUnder}
 use Rattle.policy.specs.Number.{states, placeOf}
-use Rattle.enforcer.specs.State.{placeIn}
+use Rattle.stepping.specs.State.{placeIn}
 use Rattle.enforcer.specs.Entries.{OutputAnswer}
 use Rattle.enforcer.specs.Promises.{answerSaid, answer-one, InputPromise, OutputPromise}
-use Rattle.enforcer.specs.declared.state.State.{State}
+use Rattle.stepping.specs.declared.state.State.{State}
 use Rattle.enforcer.specs.declared.halves.HalfAnswer.{HalfAnswer}
 use Rattle.enforcer.specs.declared.halves.HalfAnswer.the-variants as Half
 use Rattle.enforcer.specs.declared.halves.Output.{Output}
@@ -28,8 +28,9 @@ use Rattle.index.specs.Entry.{BuildPromise, writtenOver, builtIndex}
 use Rattle.indexed.specs.Entries.{earlyRefusal}
 use Rattle.indexed.specs.Same.{input-28, output-28, input-early, early-granted}
 use Rattle.indexed.specs.Promises.{InputIndexedPromise, OutputIndexedPromise, input-alike, output-alike}
-use Rattle.reasons.specs.Reasons.{Explained}
-use Rattle.reasons.specs.Entry.{Reasons, WhyAnswers, refuses, explains, answers-up-to}
+use Rattle.explaining.specs.Reasons.{Explained}
+use Rattle.explaining.specs.EachHalf.{Reasons}
+use Rattle.reasons.specs.Entry.{WhyAnswers, refuses, explains, answers-up-to}
 use Rattle.reasons.specs.Promise.{SmallReasons}
 use Rattle.reasons.specs.Word.{whyWord, WhyFields, why-fields}
 use Rattle.ticks.specs.Conversion.{rounded, ticksOf}

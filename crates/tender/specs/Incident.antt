@@ -14,10 +14,10 @@ use Rattle.policy.specs.Check.{readingRefusal, refusalUnder, refusalOf, allPass
 use Rattle.policy.specs.CheckLaws.{under-none}
 use Rattle.policy.specs.Checked.{well-sound}
 use Rattle.policy.specs.Stays.{start-inside}
-use Rattle.enforcer.specs.State.{stateOf}
-use Rattle.enforcer.specs.Tick.{Progress, ran}
+use Rattle.stepping.specs.State.{stateOf}
+use Rattle.stepping.specs.Tick.{Progress, ran}
 use Rattle.enforcer.specs.Entries.{eventOf, byteOf, eventGood}
-use Rattle.prepare.specs.Table.{marksOf}
+use Rattle.trimming.specs.Table.{marksOf}
 use Rattle.prepare.specs.Entry.{preparedMarks}
 use Rattle.prepare.specs.PromiseLaws.{marks-past}
 use Rattle.prepare.specs.Enforcing.{MarkedPlace}

@@ -18,11 +18,11 @@ use Rattle.policy.specs.Sound.{WellFormed}
 use Rattle.policy.specs.Frame.{frame, longest}
 use Rattle.policy.specs.Checked.{checked-file}
 use Rattle.policy.specs.WrittenPasses.{written-passes}
-use Rattle.join.specs.Join.{of, agree, both, pair, each, cell, rows, join}
+use Rattle.pairing.specs.Join.{of, agree, both, pair, each, cell, rows, join}
 use Rattle.join.specs.Free.{always, free, freeFile}
 use Rattle.join.specs.FreeLaws.{free-well, free-read}
 use Rattle.join.specs.Entry.{sameSignals, joinFits, said, joinedFile, joinRefusal, joinOf, joinedOut}
-use Rattle.join.specs.Joins.{join-clocks}
+use Rattle.pairing.specs.Joins.{join-clocks}
 use Rattle.join.specs.Limits.{states-join}
 use Rattle.join.specs.Again.{sameTags-is}
 use Rattle.join.specs.Written.{Unrefused, joined-passes, joined-written}

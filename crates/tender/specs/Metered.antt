@@ -7,7 +7,7 @@ use Rattle.streams.specs.Answer as Said
 use Rattle.streams.specs.Stream.{Event, Stream}
 use Rattle.policy.specs.File.{policyOf}
 use Rattle.enforcer.specs.Entries.{OutputAnswer, outputOf}
-use Rattle.enforcer.specs.Code.{startState}
+use Rattle.stepping.specs.Code.{startState}
 use Rattle.enforcer.specs.declared.halves.HalfAnswer.{HalfAnswer}
 use Rattle.enforcer.specs.declared.halves.HalfAnswer.the-variants as Code
 use Rattle.prepare.specs.Promise.{PreparePromise}
@@ -24,7 +24,7 @@ use Rattle.groovepawn.specs.Meter.{MeterNewCall, MeterInputCall, MeterOutputCal
 use Rattle.tender.specs.Calls.{halfIn, c-meter-new, c-meter-input, c-meter-output}
 use Rattle.tender.specs.Code.{prepare-read}
 use Rattle.tender.specs.TickByTick.{TickByTick, ticks-none, ticks-more, TicksReleased, ticks-release}
-use Rattle.enforcer.specs.declared.state.State.{State}
+use Rattle.stepping.specs.declared.state.State.{State}
 
 -- What a tick of a station with a meter reads: the register, x and the controller's answer.
 pub record Read : Type 0 where

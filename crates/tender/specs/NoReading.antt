@@ -9,7 +9,7 @@ use lib.ListN.{length}
 use Rattle.policy.specs.Layout.{checkedUnder, noLayout}
 use Rattle.enforcer.specs.Entries.{OutputAnswer}
 use Rattle.enforcer.specs.Promises.{InputPromise, OutputPromise, RunPromise, input-one, output-one, run-one}
-use Rattle.enforcer.specs.declared.state.State.{State}
+use Rattle.stepping.specs.declared.state.State.{State}
 use Rattle.enforcer.specs.declared.halves.HalfAnswer.{HalfAnswer}
 use Rattle.enforcer.specs.declared.halves.HalfAnswer.the-variants as Half
 use Rattle.enforcer.specs.declared.halves.Output.{Output}

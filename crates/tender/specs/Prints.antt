@@ -21,12 +21,12 @@ use Rattle.policy.specs.File.{policyOf}
 use Rattle.policy.specs.Check.{readingRefusal, refusalUnder, refusalOf, allPass}
 use Rattle.policy.specs.CheckLaws.{refusal-le}
 use Rattle.policy.specs.Checked.{checked-file}
-use Rattle.enforcer.specs.State.{stateOf}
-use Rattle.enforcer.specs.Tick.{Progress, ran}
+use Rattle.stepping.specs.State.{stateOf}
+use Rattle.stepping.specs.Tick.{Progress, ran}
 use Rattle.enforcer.specs.States.{marks-granted}
 use Rattle.enforcer.specs.Entries.{eventOf, byteOf, eventGood, runFrom, runRefusal, marksRefusal, runOf}
-use Rattle.prepare.specs.Table.{marksOf}
-use Rattle.prepare.specs.Live.{marks-length}
+use Rattle.trimming.specs.Table.{marksOf}
+use Rattle.trimming.specs.Live.{marks-length}
 use Rattle.prepare.specs.Entry.{prepareOf}
 use Rattle.prepare.specs.declared.Summary.{Summary}
 use Rattle.prepare.specs.Enforces.{leads-start, leads-ready, never-stuck, ran-enforces}
@@ -42,7 +42,7 @@ use Rattle.console.specs.Reply.{Replied, replied-front}
 use Rattle.tender.specs.Granted.{well-formed, judged, given-passed, given-goes-on, state-ready, ready-state, run-ready}
 use Rattle.tender.specs.Demand2.{ReleasedFor}
 use Rattle.tender.specs.Demand2Shown.{releases, as-many}
-use Rattle.enforcer.specs.declared.state.State.{State}
+use Rattle.stepping.specs.declared.state.State.{State}
 
 -- Two refusals that print the same are the same.
 refused-one : (n m : ℕ) → refusedLine n ≡ refusedLine m → n ≡ m

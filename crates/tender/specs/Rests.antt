@@ -13,7 +13,7 @@ use Rattle.policy.specs.Rules as Rules
 use Rattle.policy.specs.File.{policyOf}
 use Rattle.policy.specs.Checked.{checked-file}
 use Rattle.prepare.specs.Entry.{prepareOf}
-use Rattle.prepare.specs.Live.{dead-numbered}
+use Rattle.trimming.specs.Live.{dead-numbered}
 use Rattle.join.specs.Entry.{joinedFile}
 use Rattle.tender.specs.Cases.{Case, prepared, enforced, summary, released, refusal, said}
 use Rattle.tender.specs.Demand3.{JoinMade}

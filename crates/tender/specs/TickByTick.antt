@@ -12,15 +12,15 @@ use Rattle.streams.specs.Published.{soundness}
 use Rattle.policy.specs.Rules.{Policy, Place, start, inputValues, outputValues, Fits, fits-none, fits-more, Permits}
 use Rattle.policy.specs.File.{policyOf}
 use Rattle.policy.specs.Sound.{WellFormed}
-use Rattle.enforcer.specs.State.{stateOf}
+use Rattle.stepping.specs.State.{stateOf}
 use Rattle.enforcer.specs.States.{marks-granted}
-use Rattle.enforcer.specs.Tick.{ran}
-use Rattle.enforcer.specs.Ticks.{input-stands}
+use Rattle.stepping.specs.Tick.{ran}
+use Rattle.stepping.specs.Ticks.{input-stands}
 use Rattle.enforcer.specs.Entries.{byteOf, outputFrom, OutputAnswer, marksRefusal, inputOf, outputOf}
 use Rattle.enforcer.specs.Refusals.{events-back, fits-good}
-use Rattle.enforcer.specs.Code.{startState}
+use Rattle.stepping.specs.Code.{startState}
 use Rattle.enforcer.specs.Promises.{ranSaid, InputPromise, OutputPromise, RunPromise, answer-one}
-use Rattle.enforcer.specs.declared.state.State.{State}
+use Rattle.stepping.specs.declared.state.State.{State}
 use Rattle.enforcer.specs.declared.halves.HalfAnswer.{HalfAnswer}
 use Rattle.enforcer.specs.declared.halves.HalfAnswer.the-variants as Code
 use Rattle.enforcer.specs.declared.halves.Output.{Output}

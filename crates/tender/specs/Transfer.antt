@@ -14,11 +14,11 @@ use Rattle.policy.specs.File.{policyOf}
 use Rattle.policy.specs.Check.{readingRefusal, refusalUnder, refusalOf, allPass}
 use Rattle.policy.specs.CheckLaws.{under-none}
 use Rattle.policy.specs.Signals.{weightOf, inputWeight, outputWeight, own-input}
-use Rattle.enforcer.specs.State.{placeIn, stateOf, stateGood, isMarked}
+use Rattle.stepping.specs.State.{placeIn, stateOf, stateGood, isMarked}
 use Rattle.enforcer.specs.States.{marks-granted, state-granted}
-use Rattle.enforcer.specs.Tick.{outputTick, inputChoice}
+use Rattle.stepping.specs.Tick.{outputTick, inputChoice}
 use Rattle.enforcer.specs.Entries.{OutputAnswer, marksRefusal, xGood, yGood, inputOf, outputOf}
-use Rattle.prepare.specs.Table.{marksOf}
+use Rattle.trimming.specs.Table.{marksOf}
 use Rattle.bays.specs.Five.{stateWords}
 use Rattle.meter.specs.Meter.{pulsesOf, withPulse, isOn, risen, fits}
 use Rattle.meter.specs.Entries.{tagP, tagD, settled, metered, meterInputOf, meterOutputOf}

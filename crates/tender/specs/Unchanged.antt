@@ -20,8 +20,8 @@ use Rattle.policy.specs.Sound.{WellFormed}
 use Rattle.policy.specs.Stays.{closed}
 use Rattle.resting.specs.Table.{marksBy}
 use Rattle.resting.specs.Always.{goesOn, same-marks}
-use Rattle.prepare.specs.Table.{machineOf, marksOf}
-use Rattle.prepare.specs.Live.{within}
+use Rattle.trimming.specs.Table.{machineOf, marksOf}
+use Rattle.trimming.specs.Live.{within}
 use Rattle.prepare.specs.Entry.{prepareOf}
 use Rattle.prepare.specs.Enforcing.{EnforcedBy}
 use Rattle.tender.specs.Demand2Shown.{hopeless-exactly}

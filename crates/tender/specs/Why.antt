@@ -3,14 +3,15 @@ use mathlib.Core.Path.{_≡_, refl}
 use mathlib.Core.List.{[], _∷_}
 use Prim.Native.Nat.{ℕ}
 use lib.ListN.{replicate}
-use Rattle.enforcer.specs.State.{stateGood, clocksGood}
+use Rattle.stepping.specs.State.{stateGood, clocksGood}
 use Rattle.enforcer.specs.Entries.{stateRefusal}
-use Rattle.enforcer.specs.declared.state.State.{State}
-use Rattle.reasons.specs.Entry.{whyRefusal, differ, refuses, explains}
+use Rattle.stepping.specs.declared.state.State.{State}
+use Rattle.counting.specs.OtherMarks.{differ}
+use Rattle.reasons.specs.Entry.{whyRefusal, refuses, explains}
 use Rattle.reasons.specs.Promise.{WhyPromise, why-one}
 use Rattle.reasons.specs.Cases as By
-use Rattle.reasons.specs.declared.reason.Reason.{Reason}
-use Rattle.reasons.specs.declared.reason.Reason.the-variants as Reason
+use Rattle.explaining.specs.declared.reason.Reason.{Reason}
+use Rattle.explaining.specs.declared.reason.Reason.the-variants as Reason
 use Rattle.reasons.specs.declared.entry.WhyAnswer.{WhyAnswer}
 use Rattle.reasons.specs.declared.entry.WhyAnswer.the-variants as WhyAnswer
 use Rattle.tender.specs.Samples.{S, D, T}

@@ -13,7 +13,7 @@ use Rattle.policy.specs.Number.{states}
 use Rattle.policy.specs.File.{policyOf, outputsAt}
 use Rattle.policy.specs.Check.{allPass}
 use Rattle.enforcer.specs.Entries.{RunAnswer, eventGood}
-use Rattle.enforcer.specs.Code.{startState}
+use Rattle.stepping.specs.Code.{startState}
 use Rattle.enforcer.specs.Promises.{RunPromise}
 use Rattle.enforcer.specs.declared.runs.Ran.{Ran}
 use Rattle.prepare.specs.Promise.{PreparePromise}

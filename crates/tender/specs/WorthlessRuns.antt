@@ -13,7 +13,7 @@ use Rattle.policy.specs.Rules.{start, Permits}
 use Rattle.policy.specs.Number.{states}
 use Rattle.policy.specs.File.{policyOf, outputsAt}
 use Rattle.policy.specs.Check.{allPass}
-use Rattle.enforcer.specs.State.{stateOf}
+use Rattle.stepping.specs.State.{stateOf}
 use Rattle.enforcer.specs.Entries.{RunAnswer, eventGood}
 use Rattle.prepare.specs.Entry.{prepareOf}
 use Rattle.prepare.specs.declared.Summary.{Summary}

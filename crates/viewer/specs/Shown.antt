@@ -5,7 +5,7 @@ use Prim.Native.Nat.{ℕ}
 use Rattle.console.specs.Frame.{policyPart, eventsPart}
 use Rattle.console.specs.Outcome.{lent, ranUnder, outcome}
 use Rattle.console.specs.Printed.{unlessRefused, lineOr}
-use Rattle.waves.specs.Entry.{textOf, writeRefusal}
+use Rattle.drawing.specs.Entry.{textOf, writeRefusal}
 
 -- The writer has room for the longest text.
 unfoldable pub fileOrLine : (policy released : List ℕ) → List ℕ

@@ -14,7 +14,7 @@ use Rattle.console.specs.Frame.{policyPart, eventsPart}
 use Rattle.console.specs.Outcome.{lent, outcome}
 use Rattle.console.specs.OutcomeLaws.{Enforces, lent-length}
 use Rattle.console.specs.Printed.{unlessRefused}
-use Rattle.waves.specs.Entry.{textOf, writtenOver, writeRefusal, writeOf, writtenOut}
+use Rattle.drawing.specs.Entry.{textOf, writtenOver, writeRefusal, writeOf, writtenOut}
 use Rattle.waves.specs.Promise.{WritePromise}
 use Rattle.waves.specs.declared.writer.Written.{Written}
 use Rattle.waves.specs.declared.writer.Written.the-variants as Written

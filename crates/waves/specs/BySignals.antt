@@ -13,19 +13,19 @@ use Rattle.streams.specs.Answer.{gives, _orElse_, unless, answer}
 use Rattle.policy.specs.File.{inputTags, outputTags}
 use Rattle.policy.specs.Check.{refusalOf, allPass}
 use Rattle.texts.specs.Wrote.{Wrote}
-use Rattle.waves.specs.Checked.{all-fit, fit-all}
-use Rattle.waves.specs.Wave.{waveText}
-use Rattle.waves.specs.Events.{SignalsGood}
-use Rattle.waves.specs.Steps.{AllFit}
-use Rattle.waves.specs.Streams.{text-one}
-use Rattle.waves.specs.Entry.{Makes, writtenOver, writeRefusal, writeOf, writtenOut, Reads, policyRefused, noStream, noRoom, taken}
-use Rattle.waves.specs.Found.{FoundStream}
+use Rattle.drawing.specs.Checked.{all-fit, fit-all}
+use Rattle.drawing.specs.Wave.{waveText}
+use Rattle.drawing.specs.Events.{SignalsGood}
+use Rattle.drawing.specs.Steps.{AllFit}
+use Rattle.drawing.specs.Streams.{text-one}
+use Rattle.drawing.specs.Entry.{Makes, writtenOver, writeRefusal, writeOf, writtenOut, Reads, policyRefused, noStream, noRoom, taken}
+use Rattle.tracing.specs.Found.{FoundStream}
 use Rattle.waves.specs.declared.writer.Written.{Written}
 use Rattle.waves.specs.declared.writer.Written.the-variants as Written
 use Rattle.waves.specs.declared.reader.Taken.{Taken}
 use Rattle.waves.specs.declared.reader.Taken.the-variants as Taken
-use Rattle.waves.specs.declared.stream.StreamRead.{StreamRead}
-use Rattle.waves.specs.declared.stream.StreamRead.the-variants.{Nothing, Events}
+use Rattle.tracing.specs.declared.stream.StreamRead.{StreamRead}
+use Rattle.tracing.specs.declared.stream.StreamRead.the-variants.{Nothing, Events}
 use Rattle.waves.specs.Promise.{TakePromise, WritePromise, writtenSaid}
 
 abbrev pub goodFor : (inputs outputs : ℕ) → ℕ → Bool

@@ -13,10 +13,10 @@ use Rattle.streams.specs.AnswerLaws.{none-refused, none-unless, given-only, unl
 use Rattle.policy.specs.File.{inputTags, outputTags}
 use Rattle.policy.specs.Check.{refusalOf, allPass}
 use Rattle.policy.specs.CheckLaws.{refusal-le}
-use Rattle.waves.specs.Checked.{signals}
-use Rattle.waves.specs.Lengths.{text-most}
-use Rattle.waves.specs.Streams.{stream-one}
-use Rattle.waves.specs.Entry.{eventGood, textOf, Makes, writeRefusal, writeOf, writtenOut, Reads, policyRefused, noStream, noRoom, taken}
+use Rattle.drawing.specs.Checked.{signals}
+use Rattle.drawing.specs.Lengths.{text-most}
+use Rattle.drawing.specs.Streams.{stream-one}
+use Rattle.drawing.specs.Entry.{eventGood, textOf, Makes, writeRefusal, writeOf, writtenOut, Reads, policyRefused, noStream, noRoom, taken}
 use Rattle.waves.specs.Promise.{writtenSaid, takenSaid, WritePromise, TakePromise}
 use Rattle.waves.specs.declared.writer.Written.{Written}
 use Rattle.waves.specs.declared.writer.Written.the-variants as Written

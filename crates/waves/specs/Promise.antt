@@ -3,7 +3,7 @@ use mathlib.Core.Path.{_≡_}
 use mathlib.Core.List.{List}
 use Prim.Native.Nat.{ℕ}
 use Rattle.streams.specs.Answer.{Answer, refused, gives}
-use Rattle.waves.specs.Entry.{writeOf, writtenOut, Reads}
+use Rattle.drawing.specs.Entry.{writeOf, writtenOut, Reads}
 use Rattle.waves.specs.declared.writer.Written.{Written}
 use Rattle.waves.specs.declared.writer.Written.the-variants as Written
 use Rattle.waves.specs.declared.reader.Taken.{Taken}

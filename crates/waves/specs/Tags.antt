@@ -11,8 +11,8 @@ use Rattle.policy.specs.Layout.{CheckPromise}
 use Rattle.policy.specs.LayoutLaws.{checked-says}
 use Rattle.policy.specs.declared.Checked.{Checked}
 use Rattle.policy.specs.declared.Layout.{Layout}
-use Rattle.waves.specs.Events.{SignalsGood}
-use Rattle.waves.specs.Checked.{signals}
+use Rattle.drawing.specs.Events.{SignalsGood}
+use Rattle.drawing.specs.Checked.{signals}
 use Rattle.waves.specs.declared.tags.Tags.{Tags}
 
 -- What the check found of a policy that passes it.

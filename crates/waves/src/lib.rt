@@ -1,13 +1,6 @@
 // A released stream as a Value Change Dump for wave viewers, and back. What the text is, and what each entry promises, stands in specs/.
-mod lengths;
-mod lines;
-mod next;
-mod read;
 mod reader;
-mod store;
-mod stream;
 mod tags;
-mod text;
 mod writer;
 
 pub use reader::Taken;

@@ -1,8 +1,8 @@
 // The reader: the policy's checks, then the text is read twice, once to decide and once to store.
-use crate::stream::StreamRead;
-use crate::stream::read_stream;
 use crate::tags::tags_of;
-ghost use Rattle.waves.specs.Events.{SignalsGood};
+use tracing::StreamRead;
+use tracing::read_stream;
+ghost use Rattle.drawing.specs.Events.{SignalsGood};
 ghost use Rattle.waves.specs.Promise.{TakePromise};
 ghost use Rattle.waves.specs.BySignals.{TakenBy};
 

@@ -1,12 +1,12 @@
 // The writer: the checks in their order, then the text.
-use crate::lengths::text_length;
-use crate::stream::ones;
 use crate::tags::tags_of;
-use crate::text::put_text;
+use drawing::put_text;
+use drawing::text_length;
+use tracing::ones;
 ghost use mathlib.Core.Path.{_≡_};
 ghost use Prim.Native.Nat.{_≤_};
 ghost use Rattle.policy.specs.Check.{allPass};
-ghost use Rattle.waves.specs.Events.{SignalsGood};
+ghost use Rattle.drawing.specs.Events.{SignalsGood};
 ghost use Rattle.waves.specs.Promise.{WritePromise};
 ghost use Rattle.waves.specs.BySignals.{goodFor, WrittenBy};
 

@@ -6,7 +6,7 @@ use borrow.Author.Needs.{needs}
 use Rattle.policy.specs.Check.{refusalUnder}
 use Rattle.policy.specs.LayoutLaws.{under-says}
 use Rattle.policy.specs.declared.Checked.{Checked}
-use Rattle.enforcer.specs.Laid.{laid-of}
+use Rattle.stepping.specs.Laid.{laid-of}
 use Rattle.cleaning.specs.Entry.{cleanedFile, struckList}
 use Rattle.cleaning.specs.Promise.{WritesPromise}
 use Rattle.cleaning.proofs.PromiseLaws.{clean-refused, clean-past}

@@ -9,8 +9,8 @@ use denote.Ref.{now}
 use borrow.Author.Needs.{needs}
 use Rattle.policy.specs.File.{policyOf}
 use Rattle.policy.specs.Number.{states}
-use Rattle.enforcer.specs.Laid.{laid-well, laid-limits}
-use Rattle.cleaning.proofs.FlagLaws.{from-own, laid-sized, sized-all, laid-entered, laid-used, first-long, first-at}
+use Rattle.stepping.specs.Laid.{laid-well, laid-limits}
+use Rattle.usage.proofs.FlagLaws.{from-own, laid-sized, sized-all, laid-entered, laid-used, first-long, first-at}
 use Rattle.cleaning.proofs.PromiseLaws.{cleaned-is, struck-is}
 use Rattle.cleaning.proofs.clean_in.Statement.{statement}
 use Rattle.cleaning.proofs.clean_in.Tie as tie

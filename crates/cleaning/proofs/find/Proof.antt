@@ -3,9 +3,9 @@ use mathlib.Core.Path.{_∙_}
 use native.Mathlib.Omega.{arith}
 use denote.Ref.{now}
 use Rattle.policy.specs.File.{policyOf}
-use Rattle.enforcer.specs.Laid.{laid-well}
-use Rattle.prepare.specs.Located.{laid-start}
-use Rattle.cleaning.proofs.FlagLaws.{laid-sized, sized-all, enters-entered}
+use Rattle.stepping.specs.Laid.{laid-well}
+use Rattle.trimming.specs.Located.{laid-start}
+use Rattle.usage.proofs.FlagLaws.{laid-sized, sized-all, enters-entered}
 use Rattle.cleaning.proofs.find.Statement.{statement}
 use Rattle.cleaning.proofs.find.Tie as tie
 

@@ -5,8 +5,8 @@ use Prim.Native.Nat.{ℕ}
 use native.Mathlib.Omega.{arith}
 use lib.ListN.{length}
 use denote.Ref.{now}
-use Rattle.join.specs.Laying.{laid-length}
-use Rattle.cleaning.specs.Code.{cleanedBy, struckBy}
+use Rattle.laying.specs.Laying.{laid-length}
+use Rattle.usage.specs.Code.{cleanedBy, struckBy}
 use Rattle.cleaning.proofs.PromiseLaws.{writes-first, writes-second, writes-both}
 use Rattle.cleaning.proofs.write.Statement.{statement}
 use Rattle.cleaning.proofs.write.Tie as tie

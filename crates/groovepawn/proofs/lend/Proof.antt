@@ -47,11 +47,11 @@ use denote.Triple.Walked.{says, Stays, stay-none, stay-none-slice, walkOf, AllGo
 use denote.Triple.Clauses.{Lasts, ensured, lasts}
 use denote.Exit.{yes}
 use Rattle.enforcer.specs.Promises.{OutputPromise}
-use Rattle.enforcer.specs.declared.state.State.{State}
+use Rattle.stepping.specs.declared.state.State.{State}
 use Rattle.enforcer.specs.declared.halves.HalfAnswer.{HalfAnswer}
 use Rattle.enforcer.specs.declared.halves.Output.{Output}
-use Rattle.enforcer.proofs.state.State as S
-use Rattle.enforcer.proofs.state.State.Laws as S′
+use Rattle.stepping.proofs.state.State as S
+use Rattle.stepping.proofs.state.State.Laws as S′
 use Rattle.enforcer.proofs.halves.HalfAnswer as N
 use Rattle.enforcer.proofs.halves.HalfAnswer.Laws as N′
 use Rattle.enforcer.proofs.halves.Output as O

@@ -2,8 +2,8 @@
 use mathlib.Core.Path.{_≡_, sym, _∙_}
 use borrow.Author.Needs.{needs}
 use denote.Ref.{now}
-use Rattle.enforcer.specs.Ready.{Standing}
-use Rattle.enforcer.specs.Laid.{laid-sections, standing-location}
+use Rattle.stepping.specs.Ready.{Standing}
+use Rattle.stepping.specs.Laid.{laid-sections, standing-location}
 use Rattle.enforcer.specs.States.{Granted}
 use Rattle.indexed.specs.Entries.{earlyRefusal}
 use Rattle.indexed.specs.Same.{output-early}

@@ -1,6 +1,6 @@
 -- `join::lay_joined` meets its contract: the parts of the files that the rules are.
 use native.Mathlib.Omega.{arith}
-use Rattle.join.specs.Laying.{laid-as}
+use Rattle.laying.specs.Laying.{laid-as}
 use Rattle.join.proofs.SizeLaws.{sizes}
 use Rattle.join.proofs.FileLaws.{rules-section, joinable, rules-joined}
 use borrow.Author.Needs.{needs}

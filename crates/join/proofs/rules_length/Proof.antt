@@ -1,7 +1,7 @@
 -- `join::rules_length` meets its contract: nothing is laid into the part with no bytes.
 use native.Mathlib.Omega.{arith}
 use borrow.Author.Needs.{needs}
-use Rattle.join.specs.Laying.{laid-nowhere}
+use Rattle.laying.specs.Laying.{laid-nowhere}
 use Rattle.join.proofs.rules_length.Statement.{statement}
 use Rattle.join.proofs.rules_length.Tie as tie
 

@@ -6,8 +6,8 @@ use lib.ListN.{length}
 use denote.Ref.{now}
 use borrow.Rule.Slice.PartMut.{same-len-mid}
 use Rattle.policy.specs.File.{byteAt}
-use Rattle.join.specs.Lay.{countsLength}
-use Rattle.join.specs.Laying.{laid-length}
+use Rattle.join.specs.JoinBytes.{countsLength}
+use Rattle.laying.specs.Laying.{laid-length}
 use Rattle.join.proofs.SizeLaws.{sizes}
 use Rattle.join.proofs.FileLaws.{few, counts-long}
 use Rattle.join.proofs.JoinLaws.{file-length, file-laid}

@@ -11,7 +11,7 @@ use Rattle.bays.specs.There.{input-there, input-none}
 use borrow.Author.Needs.{needs}
 use Rattle.bays.proofs.bays.bay_input.Statement.{statement}
 use Rattle.bays.proofs.bays.bay_input.Tie as tie
-use Rattle.enforcer.specs.declared.state.State.{State}
+use Rattle.stepping.specs.declared.state.State.{State}
 
 returns : tie.Need-returns
 returns c =

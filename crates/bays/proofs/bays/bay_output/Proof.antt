@@ -15,7 +15,7 @@ use Rattle.bays.specs.There.{output-there, output-none}
 use borrow.Author.Needs.{needs}
 use Rattle.bays.proofs.bays.bay_output.Statement.{statement}
 use Rattle.bays.proofs.bays.bay_output.Tie as tie
-use Rattle.enforcer.specs.declared.state.State.{State}
+use Rattle.stepping.specs.declared.state.State.{State}
 
 returns : tie.Need-returns
 returns c =
@@ -45,12 +45,12 @@ returns-2 c =
     let e = s .before .before in
     let a = e .before .before .before .before .before .args in
     let states = now (a .states) in
-    let said : outputSaid (o .output .result) ≡ outputOf (a .reading) (now (a .file)) (now (a .marks)) (bayState states (a .bay)) (a .x) (a .y) =
-    o .output .ensures .said ∙ ap (λ (z : State). outputOf (a .reading) (now (a .file)) (now (a .marks)) z (a .x) (a .y)) (s .bay-state .ensures)
+    let said : outputSaid (o .output-of .result) ≡ outputOf (a .reading) (now (a .file)) (now (a .marks)) (bayState states (a .bay)) (a .x) (a .y) =
+    o .output-of .ensures .said ∙ ap (λ (z : State). outputOf (a .reading) (now (a .file)) (now (a .marks)) z (a .x) (a .y)) (s .bay-state .ensures)
     in
     record {
       said =
-          ap (λ (l : List ℕ). record { answer = answerSaid (o .output .result .answer); states = l }) (p .put-bay .ensures)
+          ap (λ (l : List ℕ). record { answer = answerSaid (o .output-of .result .answer); states = l }) (p .put-bay .ensures)
           ∙ ap (moved states (a .bay)) said
           ∙ sym (output-there (a .reading) (now (a .file)) (now (a .marks)) states (a .bay) (is e) (a .x) (a .y));
     }

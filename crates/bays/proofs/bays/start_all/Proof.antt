@@ -7,8 +7,8 @@ use lib.ListN.{length, drop, drop-of-length-le}
 use lib.Seq.{take-at, drop-append-add, drop-drop}
 use denote.Ref.{now}
 use borrow.Author.Needs.{needs}
-use Rattle.enforcer.specs.Code.{startState}
-use Rattle.enforcer.specs.declared.state.State.{State}
+use Rattle.stepping.specs.Code.{startState}
+use Rattle.stepping.specs.declared.state.State.{State}
 use Rattle.bays.specs.Five.{stateWords}
 use Rattle.bays.specs.Bays.{baysIn, withState}
 use Rattle.bays.specs.Entries.{started}

@@ -1,7 +1,7 @@
 -- `cleaning::list::lay_list` meets its contract: the parts are laid one after the other.
 use denote.Ref.{now}
 use borrow.Author.Needs.{needs}
-use Rattle.join.specs.Laying.{laid-more, laid-as}
+use Rattle.laying.specs.Laying.{laid-more, laid-as}
 use Rattle.cleaning.proofs.LayLaws.{flags-few, struck-whole}
 use Rattle.cleaning.proofs.list.lay_list.Statement.{statement}
 use Rattle.cleaning.proofs.list.lay_list.Tie as tie

@@ -5,9 +5,9 @@ use native.Mathlib.Omega.{arith}
 use lib.ListN.{length, drop}
 use denote.Ref.{now}
 use borrow.Author.Needs.{needs}
-use Rattle.join.specs.Laying.{LeftToLay, left-start, left-turn, left-end, left-length}
-use Rattle.cleaning.specs.Clean.{struckBytes, locationsStruck}
-use Rattle.cleaning.specs.Code.{flagsOf}
+use Rattle.laying.specs.Laying.{LeftToLay, left-start, left-turn, left-end, left-length}
+use Rattle.usage.specs.Clean.{struckBytes, locationsStruck}
+use Rattle.usage.specs.Code.{flagsOf}
 use Rattle.cleaning.proofs.LayLaws.{locations-turn, locations-end}
 use Rattle.cleaning.proofs.list.lay_locations.Statement.{statement}
 use Rattle.cleaning.proofs.list.lay_locations.Tie as tie

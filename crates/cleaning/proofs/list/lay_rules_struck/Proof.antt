@@ -6,11 +6,11 @@ use lib.ListN.{length, drop}
 use denote.Ref.{now}
 use borrow.Author.Needs.{needs}
 use Rattle.policy.specs.File.{rulesFrom, rulesOf}
-use Rattle.enforcer.specs.Laid.{laid-limits}
-use Rattle.enforcer.specs.RuleAhead.{laid-short}
-use Rattle.join.specs.Laying.{LeftToLay, left-start, left-same, left-turn, left-end, left-length}
-use Rattle.cleaning.specs.Clean.{struckBytes, rulesStruck}
-use Rattle.cleaning.specs.Code.{flagsOf}
+use Rattle.stepping.specs.Laid.{laid-limits}
+use Rattle.stepping.specs.RuleAhead.{laid-short}
+use Rattle.laying.specs.Laying.{LeftToLay, left-start, left-same, left-turn, left-end, left-length}
+use Rattle.usage.specs.Clean.{struckBytes, rulesStruck}
+use Rattle.usage.specs.Code.{flagsOf}
 use Rattle.cleaning.proofs.LayLaws.{Rest, rest-start, rest-first, rest-more, struck-start, struck-turn, struck-end}
 use Rattle.cleaning.proofs.list.lay_rules_struck.Statement.{statement}
 use Rattle.cleaning.proofs.list.lay_rules_struck.Tie as tie

@@ -1,7 +1,7 @@
 -- `cleaning::list::lay_unless` meets its contract.
 use native.Mathlib.Omega.{arith}
 use borrow.Author.Needs.{needs}
-use Rattle.join.specs.Laying.{laid-none, laid-more}
+use Rattle.laying.specs.Laying.{laid-none, laid-more}
 use Rattle.cleaning.proofs.list.lay_unless.Statement.{statement}
 use Rattle.cleaning.proofs.list.lay_unless.Tie as tie
 

@@ -3,8 +3,8 @@ use native.Mathlib.Omega.{arith}
 use denote.Ref.{now}
 use borrow.Author.Needs.{needs}
 use borrow.Author.Tests.{not-true, not-false}
-use Rattle.join.specs.Laying.{laid-none}
-use Rattle.cleaning.specs.Code.{flagsOf}
+use Rattle.laying.specs.Laying.{laid-none}
+use Rattle.usage.specs.Code.{flagsOf}
 use Rattle.cleaning.proofs.LayLaws.{rule-long}
 use Rattle.cleaning.proofs.rules.lay_kept.Statement.{statement}
 use Rattle.cleaning.proofs.rules.lay_kept.Tie as tie

@@ -5,10 +5,10 @@ use native.Mathlib.Omega.{arith}
 use lib.ListN.{length, drop}
 use denote.Ref.{now}
 use borrow.Author.Needs.{needs}
-use Rattle.join.specs.Lay.{bytesFrom}
-use Rattle.join.specs.Laying.{LeftToLay, left-start, left-same, left-turn, left-end, left-length}
-use Rattle.cleaning.specs.Sift.{sift}
-use Rattle.cleaning.specs.Code.{flagsOf}
+use Rattle.laying.specs.Lay.{bytesFrom}
+use Rattle.laying.specs.Laying.{LeftToLay, left-start, left-same, left-turn, left-end, left-length}
+use Rattle.usage.specs.Sift.{sift}
+use Rattle.usage.specs.Code.{flagsOf}
 use Rattle.cleaning.proofs.LayLaws.{left-kept, left-struck, left-from, left-none}
 use Rattle.cleaning.proofs.rules.lay_left.Statement.{statement}
 use Rattle.cleaning.proofs.rules.lay_left.Tie as tie

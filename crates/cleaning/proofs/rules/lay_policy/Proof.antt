@@ -4,8 +4,8 @@ use native.Mathlib.Omega.{arith}
 use denote.Ref.{now}
 use borrow.Author.Needs.{needs}
 use Rattle.policy.specs.File.{byteAt}
-use Rattle.enforcer.specs.Laid.{laid-limits}
-use Rattle.join.specs.Laying.{laid-more, laid-as, bytes-length}
+use Rattle.stepping.specs.Laid.{laid-limits}
+use Rattle.laying.specs.Laying.{laid-more, laid-as, bytes-length}
 use Rattle.cleaning.proofs.LayLaws.{flags-few, places-at, head-few, file-laid}
 use Rattle.cleaning.proofs.rules.lay_policy.Statement.{statement}
 use Rattle.cleaning.proofs.rules.lay_policy.Tie as tie

@@ -5,10 +5,10 @@ use native.Mathlib.Omega.{arith}
 use denote.Ref.{now}
 use borrow.Author.Needs.{needs}
 use Rattle.policy.specs.File.{byteAt}
-use Rattle.join.specs.Laying.{laid-more, laid-as, bytes-length}
-use Rattle.cleaning.specs.Sift.{rank}
-use Rattle.cleaning.specs.Clean.{renumbered}
-use Rattle.cleaning.specs.Code.{flagsOf}
+use Rattle.laying.specs.Laying.{laid-more, laid-as, bytes-length}
+use Rattle.usage.specs.Sift.{rank}
+use Rattle.usage.specs.Clean.{renumbered}
+use Rattle.usage.specs.Code.{flagsOf}
 use Rattle.cleaning.proofs.LayLaws.{rule-laid}
 use Rattle.cleaning.proofs.rules.lay_rule.Statement.{statement}
 use Rattle.cleaning.proofs.rules.lay_rule.Tie as tie

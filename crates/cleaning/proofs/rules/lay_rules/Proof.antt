@@ -6,10 +6,10 @@ use lib.ListN.{length, drop}
 use denote.Ref.{now}
 use borrow.Author.Needs.{needs}
 use Rattle.policy.specs.File.{rulesFrom, rulesOf, ruleSize}
-use Rattle.enforcer.specs.Laid.{laid-limits}
-use Rattle.enforcer.specs.RuleAhead.{laid-short}
-use Rattle.join.specs.Laying.{LeftToLay, left-start, left-same, left-turn, left-end, left-length}
-use Rattle.cleaning.specs.Code.{flagsOf, EndsAt, cleanedRules}
+use Rattle.stepping.specs.Laid.{laid-limits}
+use Rattle.stepping.specs.RuleAhead.{laid-short}
+use Rattle.laying.specs.Laying.{LeftToLay, left-start, left-same, left-turn, left-end, left-length}
+use Rattle.usage.specs.Code.{flagsOf, EndsAt, cleanedRules}
 use Rattle.cleaning.proofs.LayLaws.{Rest, rest-start, rest-first, rest-more, flags-few, cleaned-start, cleaned-turn, cleaned-end}
 use Rattle.cleaning.proofs.rules.lay_rules.Statement.{statement}
 use Rattle.cleaning.proofs.rules.lay_rules.Tie as tie

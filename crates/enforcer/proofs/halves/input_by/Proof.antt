@@ -8,9 +8,9 @@ use denote.Ref.{now}
 use Rattle.policy.specs.Rules.{inputValues}
 use Rattle.policy.specs.File.{policyOf}
 use Rattle.enforcer.specs.Entries.{chosen, inputPast}
-use Rattle.enforcer.specs.State.{place}
+use Rattle.stepping.specs.State.{place}
 use Rattle.choice.specs.Said.{choiceSaid}
-use Rattle.enforcer.specs.Laid.{laid-limits, laid-inputs}
+use Rattle.stepping.specs.Laid.{laid-limits, laid-inputs}
 use Rattle.enforcer.proofs.halves.input_by.Statement.{statement}
 use Rattle.enforcer.proofs.halves.input_by.Tie as tie
 

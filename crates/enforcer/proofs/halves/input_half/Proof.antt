@@ -6,9 +6,9 @@ use denote.Ref.{now}
 use Rattle.policy.specs.Rules.{inputValues}
 use Rattle.policy.specs.File.{policyOf}
 use Rattle.enforcer.specs.Entries.{marksRefusal, inputRefusal, inputOf, inputPast}
-use Rattle.enforcer.specs.State.{place}
-use Rattle.enforcer.specs.Ready.{Standing}
-use Rattle.enforcer.specs.Laid.{laid-limits, laid-inputs}
+use Rattle.stepping.specs.State.{place}
+use Rattle.stepping.specs.Ready.{Standing}
+use Rattle.stepping.specs.Laid.{laid-limits, laid-inputs}
 use Rattle.enforcer.specs.States.{chosen-first, marks-by, granted-laid, input-16, half-standing, input-left}
 use Rattle.enforcer.specs.AsRead.{input-past-15, input-as-read}
 use Rattle.enforcer.proofs.halves.input_half.Statement.{statement}

@@ -9,14 +9,14 @@ use borrow.Author.Tests.{lt-ltb, le-ltb, not-true, not-false}
 use denote.Ref.{now}
 use Rattle.policy.specs.Rules.{inputValues, outputValues}
 use Rattle.policy.specs.File.{policyOf}
-use Rattle.enforcer.specs.Tick.{ReleasedTick, outputTick}
+use Rattle.stepping.specs.Tick.{ReleasedTick, outputTick}
 use Rattle.enforcer.specs.Entries.{OutputAnswer, chosen, outputFrom, outputPast}
-use Rattle.enforcer.specs.State.{place}
-use Rattle.enforcer.specs.Chosen.{tickFrom}
-use Rattle.enforcer.specs.Laid.{laid-limits, laid-inputs, laid-outputs}
+use Rattle.stepping.specs.State.{place}
+use Rattle.correcting.specs.Chosen.{tickFrom}
+use Rattle.stepping.specs.Laid.{laid-limits, laid-inputs, laid-outputs}
 use Rattle.enforcer.specs.Promises.{outputSaid}
-use Rattle.enforcer.specs.declared.state.State.{State}
-use Rattle.enforcer.specs.declared.tick.Ticked.{Ticked}
+use Rattle.stepping.specs.declared.state.State.{State}
+use Rattle.correcting.specs.declared.tick.Ticked.{Ticked}
 use Rattle.enforcer.specs.declared.halves.HalfAnswer.the-variants.{Value, Refused}
 use Rattle.enforcer.proofs.halves.output_by.Statement.{statement}
 use Rattle.enforcer.proofs.halves.output_by.Tie as tie

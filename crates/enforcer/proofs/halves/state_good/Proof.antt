@@ -3,9 +3,9 @@ use mathlib.Core.Path.{_≡_, sym, ap, _∙_}
 use lib.ListN.{length, replicate}
 use borrow.Author.Needs.{needs}
 use borrow.Author.Tests.{not-true}
-use Rattle.enforcer.specs.State.{inRange}
+use Rattle.stepping.specs.State.{inRange}
 use Rattle.enforcer.specs.States.{laid-good, own-limits}
-use Rattle.enforcer.specs.declared.state.Limits.{Limits}
+use Rattle.stepping.specs.declared.state.Limits.{Limits}
 use Rattle.enforcer.proofs.halves.state_good.Statement.{statement}
 use Rattle.enforcer.proofs.halves.state_good.Tie as tie
 

@@ -7,9 +7,9 @@ use borrow.Author.Tests.{not-true, not-false, eq-eqb, ne-eqb}
 use denote.Ref.{now}
 use Rattle.policy.specs.Number.{numberOf}
 use Rattle.policy.specs.File.{policyOf}
-use Rattle.enforcer.specs.State.{placeIn, stateGood, isMarked}
+use Rattle.stepping.specs.State.{placeIn, stateGood, isMarked}
 use Rattle.enforcer.specs.Entries.{stateRefusal}
-use Rattle.enforcer.specs.Laid.{stateNumber, Numbered, laid-limits, laid-well}
+use Rattle.stepping.specs.Laid.{stateNumber, Numbered, laid-limits, laid-well}
 use Rattle.enforcer.specs.States.{good-numbered, state-granted}
 use Rattle.enforcer.proofs.halves.state_refusal.Statement.{statement}
 use Rattle.enforcer.proofs.halves.state_refusal.Tie as tie

@@ -1,5 +1,5 @@
--- `enforcer::lent::output_half` meets its contract: a walk of its MIR, by hand. The borrow is opened, the state is copied out of its cell and passed to `State::output`, the next state is copied over the cell, and the borrow is closed at it.
--- All that the proof knows of `State::output` is that it meets its contract. The promise of the pair of its answer and its state is by eta the promise of its output, so what the callee says is what the exit says.
+-- `enforcer::lent::output_half` meets its contract: a walk of its MIR, by hand. The borrow is opened, the state is copied out of its cell and passed to `output_of`, the next state is copied over the cell, and the borrow is closed at it.
+-- All that the proof knows of `output_of` is that it meets its contract. The promise of the pair of its answer and its state is by eta the promise of its output, so what the callee says is what the exit says.
 -- The state, the answer and the output are plain: what each owns is made anew from its relation, which the output's relation gives of its two fields. What the other four parameters own is had twice: one copy goes to the callee, and one is kept for the exit.
 -- Assumes nothing.
 use mathlib.Core.Path.{refl, ap}
@@ -45,19 +45,19 @@ use denote.Triple.Walked.{says, Stays, stay-ref, stay-none, stay-none-slice, wal
 use denote.Triple.Clauses.{ensured, lasts}
 use denote.Exit.{yes}
 use Rattle.enforcer.specs.Promises.{OutputPromise}
-use Rattle.enforcer.specs.declared.state.State.{State}
+use Rattle.stepping.specs.declared.state.State.{State}
 use Rattle.enforcer.specs.declared.halves.HalfAnswer.{HalfAnswer}
 use Rattle.enforcer.specs.declared.halves.Output.{Output}
-use Rattle.enforcer.proofs.state.State as S
-use Rattle.enforcer.proofs.state.State.Laws as S′
+use Rattle.stepping.proofs.state.State as S
+use Rattle.stepping.proofs.state.State.Laws as S′
 use Rattle.enforcer.proofs.halves.HalfAnswer as N
 use Rattle.enforcer.proofs.halves.HalfAnswer.Laws as N′
 use Rattle.enforcer.proofs.halves.Output as O
 use Rattle.enforcer.proofs.halves.Output.Laws as O′
-use Rattle.enforcer.proofs.state.State.output as out
-use Rattle.enforcer.proofs.state.State.output.Symbol as out-def
-use Rattle.enforcer.proofs.state.State.output.Symbol.{name as #output}
-use Rattle.enforcer.proofs.state.State.output.Met as out-thm
+use Rattle.enforcer.proofs.halves.output_of as out
+use Rattle.enforcer.proofs.halves.output_of.Symbol as out-def
+use Rattle.enforcer.proofs.halves.output_of.Symbol.{name as #output}
+use Rattle.enforcer.proofs.halves.output_of.Met as out-thm
 use Rattle.enforcer.proofs.lent.output_half.Key.{name as #output-half}
 use Rattle.enforcer.proofs.lent.output_half as half
 use Rattle.enforcer.proofs.lent.output_half.Statement as stated
@@ -194,4 +194,4 @@ output-half-spec 𝓤 H 𝓜 𝓖 𝓡 =
     entered 𝓤 H (tripleOf 𝓤 H (𝓖 .A) half.signature (half.spec 𝓤 H (𝓖 .A) (𝓜 .mem) (𝓡 .run)))
     (tables 𝓤 H 𝓜 𝓡 code.env .C) (tables 𝓤 H 𝓜 𝓡 code.env .Λ) #output-half code.function (code.unfolded 𝓤 H 𝓜 𝓡)
     (half-meets 𝓤 H (𝓖 .A) (givenOf 𝓤 H 𝓜 𝓖) (𝓜 .mem) (𝓡 .run) (tablesOf 𝓤 H 𝓜 (tables 𝓤 H 𝓜 𝓡 code.env))
-    (cited 𝓤 H (Out 𝓤 H (𝓖 .A) (𝓜 .mem) (𝓡 .run)) 𝓜 𝓡 code.env #output out-def.routine code.calls-enforcer·state·State·output (out-thm.met 𝓤 H 𝓜 𝓖 𝓡)))
+    (cited 𝓤 H (Out 𝓤 H (𝓖 .A) (𝓜 .mem) (𝓡 .run)) 𝓜 𝓡 code.env #output out-def.routine code.calls-enforcer·halves·output-of (out-thm.met 𝓤 H 𝓜 𝓖 𝓡)))

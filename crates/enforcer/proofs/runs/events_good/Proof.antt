@@ -13,7 +13,7 @@ use Rattle.policy.specs.File.{policyOf}
 use Rattle.policy.specs.Check.{allPass}
 use Rattle.policy.proofs.Laws.{all-turn, all-end}
 use Rattle.enforcer.specs.Entries.{eventGood}
-use Rattle.enforcer.specs.Laid.{laid-limits, laid-inputs, laid-outputs}
+use Rattle.stepping.specs.Laid.{laid-limits, laid-inputs, laid-outputs}
 use Rattle.enforcer.proofs.runs.events_good.Statement.{statement}
 use Rattle.enforcer.proofs.runs.events_good.Tie as tie
 

@@ -7,7 +7,7 @@ use denote.Ref.{now}
 use borrow.Author.Needs.{needs}
 use borrow.Author.Tests.{ltb-true, not-true, not-false}
 use Rattle.policy.specs.Checked.{all-at}
-use Rattle.enforcer.specs.Laid.{laid-sections, standing-location}
+use Rattle.stepping.specs.Laid.{laid-sections, standing-location}
 use Rattle.enforcer.proofs.RunLaws.{Going, going-starts, going-ends, going-stuck, going-turn}
 use Rattle.enforcer.proofs.runs.release.Statement.{statement}
 use Rattle.enforcer.proofs.runs.release.Tie as tie

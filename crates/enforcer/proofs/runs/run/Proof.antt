@@ -11,7 +11,7 @@ use Rattle.streams.specs.AnswerLaws.{first-refused}
 use Rattle.policy.specs.Check.{allPass}
 use Rattle.policy.specs.declared.Layout.{Layout}
 use Rattle.enforcer.specs.Entries.{eventGood, marksRefusal, stateRefusal, runRefusal, runOf}
-use Rattle.enforcer.specs.Laid.{laid-place, laid-sections}
+use Rattle.stepping.specs.Laid.{laid-place, laid-sections}
 use Rattle.enforcer.specs.States.{state-granted, Granted, marks-by, granted-laid, granted-standing}
 use Rattle.enforcer.proofs.RunLaws.{good-back, run-past, run-refused}
 use Rattle.enforcer.proofs.runs.run.Statement.{statement}

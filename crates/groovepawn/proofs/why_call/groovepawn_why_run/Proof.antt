@@ -6,7 +6,7 @@ use denote.Ref.{now}
 use borrow.Author.Needs.{needs}
 use borrow.Author.Tests.{eq-eqb, eqb-true, eqb-false}
 use Rattle.enforcer.specs.Promises.{ranSaid}
-use Rattle.enforcer.specs.declared.state.State.{State}
+use Rattle.stepping.specs.declared.state.State.{State}
 use Rattle.reasons.specs.Runs.{Room, shortestOf, earlyRefusal}
 use Rattle.groovepawn.specs.Why.{oddWhyRun}
 use Rattle.groovepawn.proofs.why_call.groovepawn_why_run.Statement.{statement}

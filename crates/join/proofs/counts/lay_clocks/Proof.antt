@@ -3,7 +3,7 @@ use Prim.Native.Nat.{_+_, _*_}
 use native.Mathlib.Omega.{arith}
 use denote.Ref.{now}
 use borrow.Author.Needs.{needs}
-use Rattle.join.specs.Laying.{laid-more, bytes-length}
+use Rattle.laying.specs.Laying.{laid-more, bytes-length}
 use Rattle.join.proofs.counts.lay_clocks.Statement.{statement}
 use Rattle.join.proofs.counts.lay_clocks.Tie as tie
 

@@ -2,8 +2,8 @@
 use native.Mathlib.Omega.{arith}
 use denote.Ref.{now}
 use borrow.Author.Needs.{needs}
-use Rattle.join.specs.Lay.{clocksFor}
-use Rattle.join.specs.Laying.{laid-more, bytes-length}
+use Rattle.join.specs.JoinBytes.{clocksFor}
+use Rattle.laying.specs.Laying.{laid-more, bytes-length}
 use Rattle.join.proofs.SizeLaws.{sizes}
 use Rattle.join.proofs.FileLaws.{few}
 use Rattle.join.proofs.counts.lay_counts.Statement.{statement}

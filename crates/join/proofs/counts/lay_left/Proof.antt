@@ -5,10 +5,10 @@ use native.Mathlib.Omega.{arith}
 use denote.Ref.{now}
 use borrow.Author.Needs.{needs}
 use Rattle.join.specs.Entry.{said}
-use Rattle.join.specs.Join.{leftBelow}
-use Rattle.join.specs.Lay.{LaidAt}
-use Rattle.join.specs.Laying.{laid-none, laid-more, laid-as, laid-length}
-use Rattle.join.proofs.RuleLaws.{left-none, left-more}
+use Rattle.pairing.specs.Join.{leftBelow}
+use Rattle.laying.specs.Lay.{LaidAt}
+use Rattle.laying.specs.Laying.{laid-none, laid-more, laid-as, laid-length}
+use Rattle.pairing.proofs.RuleLaws.{left-none, left-more}
 use Rattle.join.proofs.FileLaws.{few}
 use Rattle.join.proofs.counts.lay_left.Statement.{statement}
 use Rattle.join.proofs.counts.lay_left.Tie as tie

@@ -5,7 +5,7 @@ use denote.Ref.{now}
 use borrow.Author.Needs.{needs}
 use Rattle.join.specs.Entry.{said}
 use Rattle.join.specs.Left.{left-length}
-use Rattle.join.specs.Laying.{laid-more}
+use Rattle.laying.specs.Laying.{laid-more}
 use Rattle.join.proofs.FileLaws.{few}
 use Rattle.join.proofs.counts.lay_places.Statement.{statement}
 use Rattle.join.proofs.counts.lay_places.Tie as tie

@@ -3,7 +3,7 @@ use Prim.Native.Nat.{_*_, _≤_}
 use native.Mathlib.Nat.{mul-le-mul}
 use native.Mathlib.Omega.{arith}
 use borrow.Author.Tests.{le-leb, lt-leb}
-use Rattle.join.specs.Lay.{limits}
+use Rattle.join.specs.JoinBytes.{limits}
 use borrow.Author.Needs.{needs}
 use Rattle.join.proofs.counts.within_limits.Statement.{statement}
 use Rattle.join.proofs.counts.within_limits.Tie as tie

@@ -15,7 +15,7 @@ use Rattle.meter.specs.declared.signals.Signals.{Signals}
 use borrow.Author.Needs.{needs}
 use Rattle.meter.proofs.meter.meter_input.Statement.{statement}
 use Rattle.meter.proofs.meter.meter_input.Tie as tie
-use Rattle.enforcer.specs.declared.state.State.{State}
+use Rattle.stepping.specs.declared.state.State.{State}
 
 returns : tie.Need-returns
 returns c =

@@ -3,7 +3,7 @@ use mathlib.Core.Path.{ap, _∙_}
 use lib.ListN.{length}
 use denote.Ref.{now}
 use borrow.Author.Tests.{le-leb, lt-leb}
-use Rattle.enforcer.specs.declared.state.State.{State}
+use Rattle.stepping.specs.declared.state.State.{State}
 use Rattle.meter.specs.Meter.{withStation}
 use Rattle.meter.specs.Entries.{newRefusal, newStation, newTotals}
 use borrow.Author.Needs.{needs}

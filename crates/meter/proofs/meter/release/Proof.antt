@@ -9,26 +9,26 @@ use Rattle.meter.specs.Entries.{metered}
 use borrow.Author.Needs.{needs}
 use Rattle.meter.proofs.meter.release.Statement.{statement}
 use Rattle.meter.proofs.meter.release.Tie as tie
-use Rattle.enforcer.specs.declared.state.State.{State}
+use Rattle.stepping.specs.declared.state.State.{State}
 
 -- The output half of the station's state.
-given : (c : tie.After-output) →
+given : (c : tie.After-output-of) →
     let a = c .before .before .before .before .before .before .before .args in
-    outputSaid (c .output .result) ≡ outputOf (a .reading) (now (a .file)) (now (a .marks)) (stationState (now (a .station))) (a .x) (a .y)
+    outputSaid (c .output-of .result) ≡ outputOf (a .reading) (now (a .file)) (now (a .marks)) (stationState (now (a .station))) (a .x) (a .y)
 given c =
     let a = c .before .before .before .before .before .before .before .args in
-    c .output .ensures .said
+    c .output-of .ensures .said
     ∙ ap (λ (s : State). outputOf (a .reading) (now (a .file)) (now (a .marks)) s (a .x) (a .y)) (c .before .station-state .ensures)
 
 -- What follows from the answer that the code has, follows from it.
-follows : (c : tie.After-output) {z : HalfAnswer} → c .output .result .answer ≡ z →
+follows : (c : tie.After-output-of) {z : HalfAnswer} → c .output-of .result .answer ≡ z →
     let a = c .before .before .before .before .before .before .before .args in
     let o = outputOf (a .reading) (now (a .file)) (now (a .marks)) (stationState (now (a .station))) (a .x) (a .y) in
-    metered (now (a .station)) (now (a .totals)) (a .register) (a .weight) (c .output .result .state) (answerSaid z)
+    metered (now (a .station)) (now (a .totals)) (a .register) (a .weight) (c .output-of .result .state) (answerSaid z)
     ≡ metered (now (a .station)) (now (a .totals)) (a .register) (a .weight) (o .state) (o .answer)
 follows c e =
     let a = c .before .before .before .before .before .before .before .args in
-    ap (λ (z : HalfAnswer). metered (now (a .station)) (now (a .totals)) (a .register) (a .weight) (c .output .result .state) (answerSaid z)) (sym e)
+    ap (λ (z : HalfAnswer). metered (now (a .station)) (now (a .totals)) (a .register) (a .weight) (c .output-of .result .state) (answerSaid z)) (sym e)
     ∙ ap (λ (o : OutputAnswer). metered (now (a .station)) (now (a .totals)) (a .register) (a .weight) (o .state) (o .answer)) (given c)
 
 returns : tie.Need-returns

@@ -4,7 +4,7 @@ use native.Mathlib.Omega.{arith}
 use lib.Seq.{length-take-le}
 use denote.Ref.{now}
 use Rattle.policy.specs.Number.{states}
-use Rattle.enforcer.specs.Laid.{laid-well}
+use Rattle.stepping.specs.Laid.{laid-well}
 use Rattle.enforcer.specs.States.{Granted, granted-laid}
 use Rattle.reasons.specs.Granted.{Allowed, allowed, answers-refused, answers-given, at-standing, at-prepared, at-live, at-x, at-y, at-told, at-counts}
 use borrow.Author.Needs.{needs}

@@ -9,11 +9,11 @@ use denote.Ref.{now}
 use Rattle.policy.specs.Rules.{inputValues, outputValues}
 use Rattle.policy.specs.File.{policyOf}
 use Rattle.enforcer.specs.Entries.{marksRefusal, stateRefusal}
-use Rattle.enforcer.specs.Laid.{laid-limits, laid-inputs, laid-outputs}
+use Rattle.stepping.specs.Laid.{laid-limits, laid-inputs, laid-outputs}
 use Rattle.enforcer.specs.States.{Granted, marks-by, granted-laid}
-use Rattle.reasons.specs.Entry.{otherMarks}
+use Rattle.counting.specs.OtherMarks.{otherMarks}
 use Rattle.reasons.specs.Granted.{CountsFront, by-marks, by-state, by-other, by-x, by-y, by-nothing, at-front}
-use Rattle.reasons.proofs.Laws.{room, part-fits, part-length, back-length, back-part}
+use Rattle.counting.proofs.Laws.{room, part-fits, part-length, back-length, back-part}
 use borrow.Author.Needs.{needs}
 use Rattle.reasons.proofs.refusals.refusal.Statement.{statement}
 use Rattle.reasons.proofs.refusals.refusal.Tie as tie

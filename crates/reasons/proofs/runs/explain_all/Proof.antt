@@ -3,7 +3,7 @@ use mathlib.Core.Path.{_∙_}
 use mathlib.Core.List.{append-nil}
 use native.Mathlib.Omega.{arith}
 use borrow.Author.Needs.{needs}
-use Rattle.enforcer.specs.Laid.{laid-sections}
+use Rattle.stepping.specs.Laid.{laid-sections}
 use Rattle.reasons.proofs.runs.explain_all.Statement.{statement}
 use Rattle.reasons.proofs.runs.explain_all.Tie as tie
 

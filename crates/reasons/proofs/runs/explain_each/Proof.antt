@@ -6,7 +6,7 @@ use lib.ListN.{length}
 use borrow.Author.Needs.{needs}
 use borrow.Author.Tests.{ltb-true}
 use Rattle.policy.specs.Checked.{all-at}
-use Rattle.enforcer.specs.Laid.{laid-sections, standing-location}
+use Rattle.stepping.specs.Laid.{laid-sections, standing-location}
 use Rattle.reasons.specs.RunLaws.{Walking, walking-turn, walking-ends}
 use Rattle.reasons.proofs.runs.explain_each.Statement.{statement}
 use Rattle.reasons.proofs.runs.explain_each.Tie as tie

@@ -8,11 +8,11 @@ use borrow.Author.Tests.{not-true, not-false}
 use Rattle.policy.specs.Rules.{Place}
 use Rattle.policy.specs.File.{policyOf}
 use Rattle.policy.specs.Number.{numberOf}
-use Rattle.enforcer.specs.State.{isMarked}
-use Rattle.enforcer.specs.Laid.{laid-place}
+use Rattle.stepping.specs.State.{isMarked}
+use Rattle.stepping.specs.Laid.{laid-place}
 use Rattle.enforcer.specs.States.{state-granted, granted-standing}
 use Rattle.enforcer.proofs.RunLaws.{good-back}
-use Rattle.reasons.specs.Edited.{marks-prepared}
+use Rattle.explaining.specs.Edited.{marks-prepared}
 use Rattle.reasons.specs.RunLaws.{Walking, walking-starts, run-20, run-15, answers-no, answers-all}
 use Rattle.reasons.proofs.runs.explained.Statement.{statement}
 use Rattle.reasons.proofs.runs.explained.Tie as tie

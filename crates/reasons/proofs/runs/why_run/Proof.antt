@@ -14,7 +14,7 @@ use Rattle.enforcer.specs.Promises.{ranSaid}
 use Rattle.enforcer.specs.States.{Granted, granted-laid}
 use Rattle.reasons.specs.Runs.{Room, shortestOf, roomRefusal, earlyRefusal, WhyRunAnswers}
 use Rattle.reasons.specs.RunLaws.{Fits, room-fits, room-none, early-room, early-state, run-early, answers-no}
-use Rattle.reasons.proofs.Laws.{part-fits, part-length, back-fits, back-part}
+use Rattle.counting.proofs.Laws.{part-fits, part-length, back-fits, back-part}
 use Rattle.reasons.proofs.runs.why_run.Statement.{statement}
 use Rattle.reasons.proofs.runs.why_run.Tie as tie
 

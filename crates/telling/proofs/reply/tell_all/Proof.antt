@@ -4,7 +4,7 @@ use native.Mathlib.Omega.{arith}
 use lib.Seq.{length-take-le}
 use denote.Ref.{now}
 use borrow.Author.Needs.{needs}
-use Rattle.enforcer.specs.Laid.{laid-well}
+use Rattle.stepping.specs.Laid.{laid-well}
 use Rattle.enforcer.specs.States.{Granted, granted-laid}
 use Rattle.telling.specs.Asked.{Asked}
 use Rattle.telling.specs.Prints.{start-marks, start-good, start-asked, start-told}

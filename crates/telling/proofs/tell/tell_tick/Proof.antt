@@ -4,10 +4,10 @@ use native.Mathlib.Omega.{arith}
 use denote.Ref.{now}
 use borrow.Author.Needs.{needs}
 use Rattle.texts.specs.WroteLaws.{wrote-then}
-use Rattle.reasons.specs.Promise.{bothSaid}
+use Rattle.explaining.specs.CodeReasons.{bothSaid}
 use Rattle.console.specs.Lines.{line-short}
 use Rattle.telling.specs.Asked.{released-small}
-use Rattle.telling.specs.Named.{explained-named}
+use Rattle.sentences.specs.Named.{explained-named}
 use Rattle.telling.specs.Told.{told-tick}
 use Rattle.telling.proofs.tell.tell_tick.Statement.{statement}
 use Rattle.telling.proofs.tell.tell_tick.Tie as tie

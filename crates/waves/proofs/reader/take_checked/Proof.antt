@@ -3,9 +3,9 @@ use mathlib.Core.Path.{subst}
 use mathlib.Core.List.{[], _∷_}
 use native.Mathlib.Omega.{arith}
 use denote.Ref.{now}
-use Rattle.waves.specs.Found.{FoundStream}
+use Rattle.tracing.specs.Found.{FoundStream}
 use Rattle.waves.specs.BySignals.{taken-none, taken-short, taken-all}
-use Rattle.waves.specs.declared.stream.StreamRead.{StreamRead}
+use Rattle.tracing.specs.declared.stream.StreamRead.{StreamRead}
 use borrow.Author.Needs.{needs}
 use Rattle.waves.proofs.reader.take_checked.Statement.{statement}
 use Rattle.waves.proofs.reader.take_checked.Tie as tie

@@ -1,0 +1,28 @@
+-- The choice from a set.
+use mathlib.Core.Path.{_≡_, sym, ap, _∙_}
+use mathlib.Core.List.{List}
+use Prim.Native.Nat.{ℕ}
+use lib.Dec.{ltb}
+use lib.ListN.{getD}
+use borrow.Author.Tests.{lt-ltb}
+use Rattle.streams.specs.Choose.{nearest}
+use Rattle.streams.specs.ChooseLaws.{nearest-ext}
+use Rattle.policy.specs.Rules.{Policy, Place, inputValues, outputValues}
+use Rattle.policy.specs.Sound.{WellFormed}
+use Rattle.choice.specs.Sets.{has}
+use Rattle.stepping.specs.Tick.{mayStand, reaches, inputChoice, outputChoice}
+use Rattle.stepping.specs.Ways.{allowed, row}
+use Rattle.stepping.specs.WaysLaws.{allowed-stands, row-has}
+
+module _ (p : Policy) (k : WellFormed p) (marks : List ℕ) (s : Place) where
+  pub sets-chosen : (sets : List ℕ) (all : ℕ) → ((x : ℕ) → getD sets x 0 ≡ allowed p marks s x) → ((x : ℕ) → has all x ≡ ltb 0 (getD sets x 0)) → (x : ℕ) →
+      nearest (has all) x (inputValues p) ≡ inputChoice p marks s x
+  unfolding inputChoice
+  sets-chosen sets all e h x =
+      nearest-ext (has all) (mayStand p marks s) x (inputValues p) (λ z l. h z ∙ ap (ltb 0) (e z) ∙ sym (allowed-stands p k marks s z l))
+
+  pub row-chosen : (set x : ℕ) → set ≡ row p marks s x → (y : ℕ) → nearest (has set) y (outputValues p) ≡ outputChoice p marks s x y
+  unfolding outputChoice
+  row-chosen set x e y =
+      nearest-ext (has set) (reaches p marks s x) y (outputValues p)
+      (λ z l. ap (λ (a : ℕ). has a z) e ∙ row-has p k marks s x z ∙ rw (lt-ltb z (outputValues p) l))

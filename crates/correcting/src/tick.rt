@@ -1,0 +1,114 @@
+// One tick: the input first, without a look at y; then the output; then the state moves. An event that as read takes the state to a marked one is what both halves keep, so it is asked about before either.
+use crate::arrive::arrival;
+use crate::choose::choose_input;
+use crate::choose::choose_output;
+use choice::Choice;
+use policy::Layout;
+use policy::Own;
+use stepping::Here;
+use stepping::State;
+use stepping::here_by;
+ghost use mathlib.Core.Path.{_≡_};
+ghost use mathlib.Core.Bool.{true};
+ghost use mathlib.Core.Option.{none};
+ghost use Prim.Native.Nat.{_<_};
+ghost use Rattle.policy.specs.File.{policyOf, rulesOf};
+ghost use Rattle.policy.specs.Own.{ownOf};
+ghost use Rattle.policy.specs.Rules.{inputValues, outputValues};
+ghost use Rattle.stepping.specs.Tick.{outputTick, tick};
+ghost use Rattle.stepping.specs.Code.{eventXY};
+ghost use Rattle.stepping.specs.State.{place};
+ghost use Rattle.stepping.specs.Ready.{Ready, Standing};
+ghost use Rattle.correcting.specs.Chosen.{tickFrom};
+
+// What a tick releases and the state after it; or that nothing may stand, with the state before it.
+pub struct Ticked {
+    pub state: State,
+    pub released: bool,
+    pub x: u8,
+    pub y: u8,
+}
+
+// The output half with its move.
+pub fn output_tick(
+    file: &[u8],
+    layout: Layout,
+    here: Here,
+    marks: &[u8],
+    state: State,
+    x: u8,
+    y: u8,
+) -> Ticked
+    requires { ⌜ Ready (now file) layout here (now marks) state × (y < outputValues (policyOf (layout .reading) (now file))) ⌝ }
+    ensures { λ r. ⌜ r ≡ tickFrom state (outputTick (policyOf (layout .reading) (now (file .entry))) (now (marks .entry)) (place (layout .clocks) state) x y) ⌝ }
+{
+    match choose_output(file, layout, here, marks, state, x, y) {
+        Choice::Nothing => stuck(state),
+        Choice::Value(z) => {
+            let step = state.step(file, layout, here, x, z);
+            released(x, z, step.state)
+        }
+    }
+}
+
+fn released(x: u8, y: u8, state: State) -> Ticked
+    ensures { λ r. ⌜ r ≡ record { state = state; released = true; x = x; y = y } ⌝ }
+{
+    Ticked {
+        released: true,
+        x,
+        y,
+        state,
+    }
+}
+
+fn stuck(state: State) -> Ticked
+    ensures { λ r. ⌜ r ≡ tickFrom state none ⌝ }
+{
+    Ticked {
+        released: false,
+        x: 0,
+        y: 0,
+        state,
+    }
+}
+
+// Both halves, one after the other.
+fn corrected(
+    file: &[u8],
+    layout: Layout,
+    here: Here,
+    marks: &[u8],
+    state: State,
+    x: u8,
+    y: u8,
+) -> Ticked
+    requires { ⌜ Ready (now file) layout here (now marks) state × (x < inputValues (policyOf (layout .reading) (now file))) × (y < outputValues (policyOf (layout .reading) (now file))) ⌝ }
+    ensures { λ r. ⌜ r ≡ tickFrom state (tick (policyOf (layout .reading) (now (file .entry))) (now (marks .entry)) (place (layout .clocks) state) (eventXY x y)) ⌝ }
+{
+    match choose_input(file, layout, here, marks, state, x) {
+        Choice::Nothing => stuck(state),
+        Choice::Value(z) => output_tick(file, layout, here, marks, state, z, y),
+    }
+}
+
+// Both halves at once where the event may stand as it was read.
+pub fn tick(
+    file: &[u8],
+    layout: Layout,
+    own: Own,
+    marks: &[u8],
+    state: State,
+    x: u8,
+    y: u8,
+) -> Ticked
+    requires { ⌜ Standing (now file) layout (now marks) state × (own ≡ ownOf (layout .clocks) (state .location) (rulesOf (now file))) × (x < inputValues (policyOf (layout .reading) (now file))) × (y < outputValues (policyOf (layout .reading) (now file))) ⌝ }
+    ensures { λ r. ⌜ r ≡ tickFrom state (tick (policyOf (layout .reading) (now (file .entry))) (now (marks .entry)) (place (layout .clocks) state) (eventXY x y)) ⌝ }
+{
+    let here = here_by(file, layout, own, state);
+    let read = arrival(file, layout, here, marks, state, x, y);
+    if read.permitted {
+        return released(x, y, read.state);
+    }
+    corrected(file, layout, here, marks, state, x, y)
+}

@@ -1,0 +1,10 @@
+pub mod Wave
+pub mod Times
+pub mod Values
+pub mod Events
+pub mod Entry
+pub mod Steps
+pub mod Checked
+pub mod Streams
+pub mod Under
+pub mod Lengths

@@ -1,0 +1,2 @@
+// Numbers and parts laid into the bytes of a policy.
+pub mod lay;

@@ -1,0 +1,3 @@
+pub mod Laws
+pub mod DecidedLaws
+pub mod RuleLaws

@@ -1,0 +1,14 @@
+-- `stepping::state::State::step` meets its contract: the rule that decides the event takes the state on.
+use borrow.Author.Needs.{needs}
+use Rattle.stepping.proofs.DecidedLaws.{decided-step}
+use Rattle.stepping.proofs.state.State.step.Statement.{statement}
+use Rattle.stepping.proofs.state.State.step.Tie as tie
+
+by-requires : tie.Need-by-requires
+by-requires c κs = (c .before .before .pre .0, c .rule-of .ensures .stands)
+
+returns : tie.Need-returns
+returns c = decided-step (c .before .rule-of .ensures) (c .by .ensures)
+
+pub step-spec : {M : Type 1} → statement M
+step-spec = tie.close (tie.spec (λ c κs. search needs) by-requires returns)

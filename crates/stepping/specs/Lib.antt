@@ -1,0 +1,15 @@
+pub mod State
+pub mod Only
+pub mod Tick
+pub mod Ticks
+pub mod Code
+pub mod Decider
+pub mod Ready
+pub mod Laid
+pub mod Ways
+pub mod TakesLaws
+pub mod WaysLaws
+pub mod RuleAhead
+pub mod Pass
+pub mod Led
+pub mod Decided

@@ -1,0 +1,116 @@
+-- The rules of a location that are still ahead, by where they stand in the file.
+use mathlib.Core.Path.{_≡_, refl, sym, ap, subst, _∙_}
+use mathlib.Core.Bool.{Bool, true, false, cond}
+use mathlib.Core.List.{List, [], _∷_}
+use Prim.Native.Nat.{ℕ, zero, suc, _+_, _-_, _*_, _≤_, _<_}
+use native.Mathlib.Nat.{suc-mul, mul-le-mul-right, pow-le-pow-right}
+use native.Mathlib.Omega.{arith}
+use lib.Dec.{eqb}
+use lib.ListN.{length, take}
+use borrow.Author.Tests.{eqb-true}
+use Rattle.policy.specs.Rules.{Rule, Policy}
+use Rattle.policy.specs.File.{ruleSize, ruleFrom, rulesFrom, rulesOf, clockCount, policyOf}
+use Rattle.policy.specs.Sound.{WellFormed, Each, each-none, each-more, each-weak, Formed}
+use Rattle.policy.specs.Frame.{frame}
+use Rattle.policy.specs.Checked.{well-ruled}
+use Rattle.policy.specs.Parts.{rules-part}
+use Rattle.policy.specs.Own.{below, level, own, ownOf, each-drop}
+use Rattle.policy.specs.declared.Layout.{Layout}
+use Rattle.policy.specs.declared.own.Own.{Own}
+use Rattle.stepping.specs.Ready.{Laid}
+use Rattle.stepping.specs.Laid.{laid-well, laid-clocks, own-fits, own-rules}
+
+-- The location's own rules, where they stand in the file.
+pub record Cared (clocks locations : ℕ) (r : Rule) : Type 0 where
+  pub formed : Formed clocks locations r
+  pub care : r .inCare < 16
+
+well-cared : (p : Policy) → WellFormed p → Each (Cared (length (p .ceilings)) (p .locations)) (p .rules)
+well-cared p k =
+    each-weak (λ r g. let l = pow-le-pow-right {n = 2} (omega arith) (k .inputs) in record { formed = g .formed; care = omega (arith, g .inCare) })
+    (well-ruled p k)
+
+pub record Ours (clocks locations a : ℕ) (r : Rule) : Type 0 where
+  pub source : r .source ≡ a
+  pub formed : Formed clocks locations r
+  pub care : r .inCare < 16
+
+module _ (clocks locations a : ℕ) where
+  each-level : {rs : List Rule} → Each (Cared clocks locations) rs → Each (Ours clocks locations a) (take (level a rs) rs)
+  unfolding level
+  each-level each-none = each-none
+  each-level (each-more {r = r} {rs = rs} f h) = go (eqb (r .source) a) refl (each-level h)
+    where
+      go : (t : Bool) → eqb (r .source) a ≡ t → Each (Ours clocks locations a) (take (level a rs) rs) →
+          Each (Ours clocks locations a) (take (cond t (suc (level a rs)) 0) (r ∷ rs))
+      go true e k = each-more (record { source = eqb-true _ _ e; formed = f .formed; care = f .care }) k
+      go false e k = each-none
+
+  each-own : {rs : List Rule} → Each (Cared clocks locations) rs → Each (Ours clocks locations a) (own a rs)
+  unfolding own
+  each-own {rs} h = each-level (each-drop (below a rs) h)
+
+-- n rules from `at` on are the location's, and lie within the file.
+pub record Ahead (f : List ℕ) (l : Layout) (a at n : ℕ) : Type 0 where
+  pub each : Each (Ours (l .clocks) (l .locations) a) (rulesFrom (l .clocks) f at n)
+  pub ends : at + n * ruleSize (l .clocks) ≤ length f
+
+-- The rule at `at` is the location's, and lies within the file.
+pub record RuleAt (f : List ℕ) (l : Layout) (a at : ℕ) : Type 0 where
+  pub ours : Ours (l .clocks) (l .locations) a (ruleFrom (l .clocks) f at)
+  pub ends : at + ruleSize (l .clocks) ≤ length f
+  pub short : length f < 65536
+
+module _ {f : List ℕ} {l : Layout} (k : Laid f l) where
+  pub laid-short : length f < 65536
+  laid-short = let g = frame f (k .passes) in omega (arith, mul-le-mul-right (ruleSize (clockCount f)) (g .rules))
+
+  module _ (a : ℕ) {o : Own} (e : o ≡ ownOf (l .clocks) a (rulesOf f)) where
+    pub own-here : rulesFrom (l .clocks) f (l .«rules_start» + o .start) (o .count) ≡ own a (policyOf (l .reading) f .rules)
+    unfolding policyOf
+    own-here = sym (rules-part f (l .clocks) (l .«rules_start» + o .start) (o .count)) ∙ own-rules k a e
+
+    pub own-ahead : Ahead f l a (l .«rules_start» + o .start) (o .count)
+    unfolding policyOf
+    own-ahead =
+        record {
+          each = rw (own-here, k .locations, laid-clocks k) (each-own _ _ a (well-cared (policyOf (l .reading) f) (laid-well k)));
+          ends = own-fits k a e .0;
+        }
+
+  module _ {a at n : ℕ} (h : Ahead f l a at n) (m : 0 < n) where
+    pub left : n ≡ suc (n - 1)
+    left = omega arith
+
+    pub ahead-first : rulesFrom (l .clocks) f at n ≡ ruleFrom (l .clocks) f at ∷ rulesFrom (l .clocks) f (at + ruleSize (l .clocks)) (n - 1)
+    unfolding rulesFrom
+    ahead-first = ap (rulesFrom (l .clocks) f at) left
+
+    room-left : at + ruleSize (l .clocks) + (n - 1) * ruleSize (l .clocks) ≤ length f
+    room-left = omega (arith, h .ends, ap (λ (m : ℕ). m * ruleSize (l .clocks)) left ∙ suc-mul (n - 1) (ruleSize (l .clocks)))
+
+    split : Ours (l .clocks) (l .locations) a (ruleFrom (l .clocks) f at)
+        × Each (Ours (l .clocks) (l .locations) a) (rulesFrom (l .clocks) f (at + ruleSize (l .clocks)) (n - 1))
+    split = go (rw ahead-first at (h .each))
+      where
+        go : {r : Rule} {rs : List Rule} → Each (Ours (l .clocks) (l .locations) a) (r ∷ rs) → Ours (l .clocks) (l .locations) a r × Each (Ours (l .clocks) (l .locations) a) rs
+        go (each-more p q) = (p, q)
+
+    pub ahead-rule : RuleAt f l a at
+    ahead-rule = record { ours = split .0; ends = omega (arith, room-left); short = laid-short }
+
+    pub ahead-rest : Ahead f l a (at + ruleSize (l .clocks)) (n - 1)
+    ahead-rest = record { each = split .1; ends = room-left }
+
+  -- Each of the rules ahead is the location's.
+  pub ahead-at : {a at : ℕ} (n i : ℕ) → Ahead f l a at n → i < n → RuleAt f l a (at + i * ruleSize (l .clocks))
+  ahead-at {a} {at} n zero h m =
+      let e : at ≡ at + 0 * ruleSize (l .clocks) = omega arith in
+      subst (RuleAt f l a) e (ahead-rule h m)
+  ahead-at {a} {at} n (suc i) h m =
+      let e : at + ruleSize (l .clocks) + i * ruleSize (l .clocks) ≡ at + suc i * ruleSize (l .clocks) = omega (arith, suc-mul i (ruleSize (l .clocks))) in
+      subst (RuleAt f l a) e (ahead-at (n - 1) i (ahead-rest h (omega arith)) (omega arith))
+
+pub none-ahead : (clocks : ℕ) (f : List ℕ) (at n : ℕ) → n ≡ 0 → rulesFrom clocks f at n ≡ []
+unfolding rulesFrom
+none-ahead clocks f at n e = rw e

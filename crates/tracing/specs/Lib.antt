@@ -1,0 +1,4 @@
+pub mod Reached
+pub mod Read
+pub mod Next
+pub mod Found

@@ -1,0 +1,3 @@
+pub mod UseLaws
+pub mod FlagLaws
+pub mod LookLaws

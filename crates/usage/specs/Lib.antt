@@ -1,0 +1,5 @@
+pub mod Sift
+pub mod Clean
+pub mod Flags
+pub mod Flagged
+pub mod Code
