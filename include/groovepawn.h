@@ -49,9 +49,9 @@
  * state, groovepawn_input and groovepawn_run never give 17.
  *
  * Stack. Each function says what it was seen to use, in the archive as it is compiled for x86-64 (tools/stack.c); these are readings and no promise.
- * It is less than 2.5 KiB for each but these, which are tools and no part of a station's loop: groovepawn_clean (67,330 bytes), groovepawn_why
- * (1,247,920), groovepawn_why_run (3,296), groovepawn_text_read (5,048), groovepawn_text_line_of_rule (4,856),
- * groovepawn_text_name_of_signal (4,936), groovepawn_text_name_of_clock (4,936), groovepawn_text_name_of_location (4,936). No heap and
+ * It is less than 2.5 KiB for each but these, which are tools and no part of a station's loop: groovepawn_clean (67,530 bytes), groovepawn_why
+ * (1,247,920), groovepawn_why_run (3,296), groovepawn_text_read (5,016), groovepawn_text_line_of_rule (4,824),
+ * groovepawn_text_name_of_signal (4,904), groovepawn_text_name_of_clock (4,904), groovepawn_text_name_of_location (4,904). No heap and
  * no global data.
  */
 #ifndef GROOVEPAWN_H
@@ -191,7 +191,7 @@ uint64_t groovepawn_check(const uint8_t *file, size_t file_len);
 
 /*
  * Checks the policy and writes one mark for each state, under the reading named.
- * Refusals in this order: 22, 1 to 9, 10, 11. Stack: 1,234 bytes.
+ * Refusals in this order: 22, 1 to 9, 10, 11. Stack: 1,434 bytes.
  * Returns refusal | verdict << 8 | states << 16 | live << 40: how many states there are and how many are live.
  * Verdict 0: every state that some permitted stream from the start leads to is live. Verdict 1: the start is live and one such state is not.
  * Refusal 22 and refusals 1 to 10 leave marks as it was. Refusal 11 leaves it as success does.
@@ -279,7 +279,7 @@ uint32_t groovepawn_index(const uint8_t *file, size_t file_len, uint16_t *index,
  * The halves of a tick with an index, so that the rules of the location need not be looked for: the same answers as groovepawn_input and
  * groovepawn_output give for the same arguments. An index that is not that of the file is refused by 28 and never followed; that each call compares
  * it costs more than it saves: see docs/C-INTERFACE.md before you choose them.
- * Refusals in this order: 22, 1 to 9, 28, 10, 16, 15, 17. Stack: 1,120 and 1,184 bytes.
+ * Refusals in this order: 22, 1 to 9, 28, 10, 16, 15, 17. Stack: 1,104 and 1,168 bytes.
  * Return refusal | x' << 8 and refusal | y' << 8. The first writes nothing; with a refusal of the second the state stays as given.
  */
 GROOVEPAWN_LOOK_AT_ANSWER
@@ -337,7 +337,7 @@ uint32_t groovepawn_meter_output(uint8_t reading, const uint8_t *file, size_t fi
 /*
  * The second engine: what groovepawn_prepare answers and writes, for every policy and both readings, and on large tables faster. It works in five
  * slices that the caller lends, each with an entry for each state or more. They may hold anything, and what they hold afterwards is not said.
- * Refusals in this order: 22, 1 to 9, 10, 23 (a work slice has fewer entries than there are states), 11. Stack: 2,288 bytes.
+ * Refusals in this order: 22, 1 to 9, 10, 23 (a work slice has fewer entries than there are states), 11. Stack: 2,400 bytes.
  * Returns what groovepawn_prepare returns. With 22, 1 to 10 and 23 neither the marks nor the work slices are written; 11 leaves the marks as success
  * does.
  */
@@ -357,7 +357,7 @@ uint64_t groovepawn_prepare_fast(uint8_t reading, const uint8_t *file, size_t fi
  *   3  another rule that decides no event in any state that such a stream leads to
  *
  * A tool, and no part of a station's loop. Refusals in this order: 22, 1 to 9, 14 (either slice is too short; both are then left as given).
- * Stack: 67,330 bytes, for a small policy too.
+ * Stack: 67,530 bytes, for a small policy too.
  * Returns refusal | length << 8 | length of the list << 32. Bytes past both lengths stay. 5,974 bytes are always enough for cleaned, and 957 for
  * struck.
  */
@@ -408,7 +408,7 @@ uint64_t groovepawn_why_run(uint8_t reading, const uint8_t *file, size_t file_le
 /*
  * The file of a policy that is written as text (docs/POLICY-TEXT.md). A text has no reading: its file is read under either.
  * Refusals: the first line that breaks a rule gives 4, 7 or one of 30 to 34; then, with line 0, in this order: 2 (no location), 9, 14 (the slice for
- * the file is too short). A tool, and no part of a station's loop. Stack: 5,048 bytes.
+ * the file is too short). A tool, and no part of a station's loop. Stack: 5,016 bytes.
  * Returns refusal | line << 8 | length << 40: the line of the refusal, counted from 1, or how many bytes of file the policy takes; the other bytes
  * stay. 5,974 bytes are always enough. With a refusal the length is 0, and file stays as given.
  */
@@ -428,7 +428,7 @@ uint64_t groovepawn_text_write(const uint8_t *file, size_t file_len, uint8_t *te
 /*
  * The line of a rule, counted from 0 as in the file, so that a reason of groovepawn_why or an entry of groovepawn_clean leads back to its line.
  * Refusals: as groovepawn_text_read, but for 14; then, with line 0, 35 (the text has no such rule). A tool, and no part of a station's loop.
- * Stack: 4,856 bytes.
+ * Stack: 4,824 bytes.
  * Returns refusal | line << 8: the line of the refusal or of the rule, counted from 1. Nothing is written.
  */
 GROOVEPAWN_LOOK_AT_ANSWER
@@ -436,7 +436,7 @@ uint64_t groovepawn_text_line_of_rule(const uint8_t *text, size_t text_len, uint
 
 /*
  * Where a text declares the name of a signal, the inputs first and then the outputs, counted from 0 as in the file.
- * Refusals: as groovepawn_text_line_of_rule, 35 where the text has no such signal. A tool, and no part of a station's loop. Stack: 4,936 bytes.
+ * Refusals: as groovepawn_text_line_of_rule, 35 where the text has no such signal. A tool, and no part of a station's loop. Stack: 4,904 bytes.
  * Returns refusal | place << 8 | length << 40: the line of the refusal, with the length 0; or the byte of the text at which the name begins, counted
  * from 0, and how many bytes it has, at most 16. A signal that has its letter alone has no name: both are then 0. Nothing is written.
  */
@@ -444,13 +444,13 @@ GROOVEPAWN_LOOK_AT_ANSWER
 uint64_t groovepawn_text_name_of_signal(const uint8_t *text, size_t text_len, uint32_t signal);
 
 /*
- * The same for a clock, which always has a name. Stack: 4,936 bytes.
+ * The same for a clock, which always has a name. Stack: 4,904 bytes.
  */
 GROOVEPAWN_LOOK_AT_ANSWER
 uint64_t groovepawn_text_name_of_clock(const uint8_t *text, size_t text_len, uint32_t clock);
 
 /*
- * The same for a location, which always has a name. Stack: 4,936 bytes.
+ * The same for a location, which always has a name. Stack: 4,904 bytes.
  */
 GROOVEPAWN_LOOK_AT_ANSWER
 uint64_t groovepawn_text_name_of_location(const uint8_t *text, size_t text_len, uint32_t location);
