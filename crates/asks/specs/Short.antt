@@ -1,5 +1,6 @@
 -- How long the words of a rule are at most: 12 + 1 for the location, 2 for each signal, 9 for on and off, 21 for each clock, and 8 for digits more: a policy
 -- has at most 65,536 states, so its locations and ceilings have together at most four digits more than one each, of which the clock's is said twice.
+-- In order: a rule of a policy; the names of signals; the digits of a number; the bounds of clocks; all words of a rule.
 use mathlib.Core.Path.{_≡_, refl, ap}
 use mathlib.Core.Bool.{Bool, true, false, cond, and-eq-true-iff}
 use mathlib.Core.List.{List, [], _∷_, _++_}
@@ -135,6 +136,7 @@ few-digits : (m n : ℕ) → 10 ^ m ≤ n → n ≤ 65536 → m ≤ 4
 few-digits m n h l =
     by-cases (decLt 4 m) (λ g. let p : 100000 ≤ 10 ^ m = pow-le-pow-right {n = 10} (omega arith) {i = 5} {j = m} g in absurd (omega arith)) (λ g. omega arith)
 
+-- The words of a rule of a checked policy are at most 130 bytes.
 pub asks-short : (p : Policy) → WellFormed p → (d : Rule) (i : ℕ) → i < length (p .rules) → length (asks (p .inputs) (p .outputs) (getD (p .rules) i d)) ≤ 130
 unfolding asks
 asks-short p k d i l =

@@ -10,6 +10,7 @@ use Rattle.texts.specs.Text.{ascii, decimal}
 abbrev pub name : (tag mask : ℕ) → List ℕ
 name tag mask = cond (eqb (mask % 2) 1) (ascii " " ++ (tag ∷ [])) []
 
+-- All signals that the mask names, in their order.
 unfoldable pub names : (tags : List ℕ) (mask : ℕ) → List ℕ
 names [] mask = []
 names (tag ∷ tags) mask = name tag mask ++ names tags (mask / 2)
@@ -28,6 +29,7 @@ cared inputs outputs inCare inValue outCare outValue =
 abbrev pub clock : (number low : ℕ) → List ℕ
 clock n low = ascii ", clock " ++ decimal n ++ ascii " from " ++ decimal low
 
+-- The words of one clock with its bounds.
 unfoldable pub bound : (number low high : ℕ) → List ℕ
 bound n low high =
     cond (eqb high 65535) (cond (eqb low 0) [] (clock n low ++ ascii " on")) (clock n low ++ ascii " to " ++ decimal high)
@@ -37,6 +39,7 @@ unfoldable pub bounds : (number : ℕ) → List Bound → List ℕ
 bounds n [] = []
 bounds n (b ∷ bs) = bound n (b .low) (b .high) ++ bounds (n + 1) bs
 
+-- The words of the rule's location.
 unfoldable pub location : ℕ → List ℕ
 location n = ascii "at location " ++ decimal n
 

@@ -1,4 +1,6 @@
 -- Calls of any bays in any order: each bay gets what it would get alone.
+-- In order: calls and replies; a station with bays, and one with a single state; any interleaving of the bays' calls; a bay that is not there; the
+-- calls in another order, and two of them exchanged.
 use mathlib.Core.Path.{_≡_, refl, sym, ap, ap₂, _∙_}
 use mathlib.Core.Bool.{Bool, true, false, cond}
 use mathlib.Core.List.{List, [], _∷_, map}
@@ -25,6 +27,7 @@ pub record Reply : Type 0 where
   pub half : Half
   pub answer : Answer ℕ
 
+-- A reply, and the bay that it was for.
 pub record BayReply : Type 0 where
   pub bay : ℕ
   pub reply : Reply
@@ -34,6 +37,7 @@ unfoldable pub callsOf : ℕ → List Call → List Half
 callsOf bay [] = []
 callsOf bay (c ∷ cs) = cond (eqb (c .bay) bay) (c .half ∷ callsOf bay cs) (callsOf bay cs)
 
+-- The replies of one bay, in their order.
 unfoldable pub repliesTo : ℕ → List BayReply → List Reply
 repliesTo bay [] = []
 repliesTo bay (r ∷ rs) = cond (eqb (r .bay) bay) (r .reply ∷ repliesTo bay rs) (repliesTo bay rs)
@@ -43,13 +47,16 @@ module _ (reading : ℕ) (file marks : List ℕ) where
   abbrev pub replyTo : List ℕ → Call → BayReply
   replyTo states c = record { bay = c .bay; reply = record { half = c .half; answer = bayHalf reading file marks states (c .bay) (c .half) .answer } }
 
+  -- The list after one call.
   abbrev pub after : List ℕ → Call → List ℕ
   after states c = bayHalf reading file marks states (c .bay) (c .half) .states
 
+  -- The replies to the calls, one for each.
   unfoldable pub replies : List ℕ → List Call → List BayReply
   replies states [] = []
   replies states (c ∷ cs) = replyTo states c ∷ replies (after states c) cs
 
+  -- The list after all calls.
   unfoldable pub left : List ℕ → List Call → List ℕ
   left states [] = states
   left states (c ∷ cs) = left (after states c) cs
@@ -59,6 +66,7 @@ module _ (reading : ℕ) (file marks : List ℕ) where
   repliesAlone s [] = []
   repliesAlone s (h ∷ hs) = record { half = h; answer = oneHalf reading file marks s h .answer } ∷ repliesAlone (oneHalf reading file marks s h .state) hs
 
+  -- The state after all halves, in a station with one state.
   unfoldable pub leftAlone : State → List Half → State
   leftAlone s [] = s
   leftAlone s (h ∷ hs) = leftAlone (oneHalf reading file marks s h .state) hs
@@ -75,6 +83,7 @@ module _ (reading : ℕ) (file marks : List ℕ) where
     pub replied : repliesTo bay (replies states cs) ≡ repliesAlone (bayState states bay) (callsOf bay cs)
     pub state : bayState (left states cs) bay ≡ leftAlone (bayState states bay) (callsOf bay cs)
 
+  -- Every bay that is there is answered as it would be alone.
   pub interleaved : (states : List ℕ) (cs : List Call) (bay : ℕ) → bay < bayCount states → AsAlone states cs bay
   unfolding replies left repliesAlone leftAlone callsOf repliesTo
   interleaved states [] bay is = record { replied = refl; state = refl }
@@ -113,6 +122,7 @@ module _ (reading : ℕ) (file marks : List ℕ) where
   abbrev pub refusedBy : Half → Reply
   refusedBy h = record { half = h; answer = refused (noBay reading file marks) }
 
+  -- Each call of a bay that is not there gets that refusal.
   pub not-there : (states : List ℕ) (cs : List Call) (bay : ℕ) → bayCount states ≤ bay →
       repliesTo bay (replies states cs) ≡ map refusedBy (callsOf bay cs)
   unfolding replies callsOf repliesTo
@@ -154,6 +164,7 @@ module _ (reading : ℕ) (file marks : List ℕ) where
     pub replied : (bay : ℕ) → repliesTo bay (replies states cs) ≡ repliesTo bay (replies states ds)
     pub list : left states cs ≡ left states ds
 
+  -- Two orders in which each bay makes the same calls come to the same.
   pub any-order : (states : List ℕ) (cs ds : List Call) → ((bay : ℕ) → callsOf bay cs ≡ callsOf bay ds) → Same states cs ds
   any-order states cs ds own = record { replied = λ bay. answers bay (ltb bay (bayCount states)) refl; list = lists (ltb 0 (bayCount states)) refl }
     where
@@ -183,6 +194,7 @@ module _ (reading : ℕ) (file marks : List ℕ) where
     pub second : replyTo (after states c) d ≡ replyTo states d
     pub list : after (after states c) d ≡ after (after states d) c
 
+  -- Two calls of different bays may be exchanged.
   pub exchange : (states : List ℕ) (c d : Call) → ¬ (c .bay ≡ d .bay) → Exchanged states c d
   unfolding left callsOf
   exchange states c d apart =

@@ -12,6 +12,7 @@ use Rattle.stepping.specs.declared.state.State.{State}
 unfoldable pub baysIn : ℕ → ℕ
 baysIn n = cond (eqb (n % 5) 0 && leb n 40) (n / 5) 0
 
+-- How many bays a list holds.
 abbrev pub bayCount : List ℕ → ℕ
 bayCount states = baysIn (length states)
 
@@ -19,6 +20,7 @@ bayCount states = baysIn (length states)
 abbrev pub numbersOf : List ℕ → ℕ → List ℕ
 numbersOf states bay = take 5 (drop (bay * 5) states)
 
+-- The state of a bay.
 abbrev pub bayState : List ℕ → ℕ → State
 bayState states bay = stateIn (numbersOf states bay)
 

@@ -37,6 +37,7 @@ module _ (reading : ℕ) (file marks : List ℕ) where
   noBay = marksRefusal reading file marks orElse 24
 
   module _ (states : List ℕ) (bay : ℕ) where
+    -- The bay is below the count.
     abbrev pub isBay : Bool
     isBay = ltb bay (bayCount states)
 
@@ -44,6 +45,7 @@ module _ (reading : ℕ) (file marks : List ℕ) where
     unfoldable pub bayInputOf : ℕ → Answer ℕ
     bayInputOf x = cond isBay (inputOf reading file marks (bayState states bay) x) (refused noBay)
 
+    -- The output half of the bay: its answer, and the list then.
     unfoldable pub bayOutputOf : ℕ → ℕ → BayAnswer
     bayOutputOf x y =
         cond isBay (moved states bay (outputOf reading file marks (bayState states bay) x y)) (record { answer = refused noBay; states = states })

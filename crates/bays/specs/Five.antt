@@ -13,6 +13,7 @@ use Rattle.stepping.specs.declared.state.State.{State}
 abbrev pub stateWords : State → List ℕ
 stateWords s = s .location ∷ s .clocks
 
+-- The state in five numbers.
 abbrev pub stateIn : List ℕ → State
 stateIn s = record { location = getD s 0 0; clocks = getD s 1 0 ∷ getD s 2 0 ∷ getD s 3 0 ∷ getD s 4 0 ∷ [] }
 
@@ -27,6 +28,7 @@ pub words-back : (s : List ℕ) → length s ≡ 5 → stateWords (stateIn s) �
 unfolding tab
 words-back s e = each 5 s e
 
+-- A state with four clock values comes back from its numbers.
 pub words-in : (t : State) → length (t .clocks) ≡ 4 → stateIn (stateWords t) ≡ t
 words-in t e =
     let five : length (stateWords t) ≡ 5 = omega arith in

@@ -1,4 +1,6 @@
 -- What one half of a bay's tick goes by and what it leaves alone.
+-- In order: the state that the output half hands back; a half asked for by a station with one state and by a bay; a bay that is not there and one
+-- that is; what stays and what an answer depends on; a refusal; a new list.
 use mathlib.Core.Path.{_≡_, refl, sym, ap, _∙_}
 use mathlib.Core.Bool.{Bool, true, false, cond}
 use mathlib.Core.List.{List}
@@ -35,6 +37,7 @@ four-long vs h = simp (length-append, length-replicate) (omega arith)
 
 -- The state that the output half hands back has four clock values, as the one that it was given has.
 module _ (reading : ℕ) (file marks : List ℕ) (s : State) (x y : ℕ) where
+  -- A state with four clock values comes back with four.
   pub output-four : length (s .clocks) ≡ 4 → length (outputOf reading file marks s x y .state .clocks) ≡ 4
   unfolding outputOf outputRefusal outputTick moved
   output-four l = go (outputRefusal reading file marks s x y) refl (outputTick (policyOf reading file) marks (placeIn (policyOf reading file) s) x y) refl
@@ -87,6 +90,7 @@ module _ (reading : ℕ) (file marks : List ℕ) where
     half-answer (input x) = input-there reading file marks states bay is x
     half-answer (output x y) = ap (λ (r : BayAnswer). r .answer) (output-there reading file marks states bay is x y)
 
+    -- The state of the bay goes on as it would alone.
     pub half-state : (h : Half) → bayState (bayHalf states bay h .states) bay ≡ oneHalf (bayState states bay) h .state
     half-state (input x) = refl
     half-state (output x y) =
@@ -153,6 +157,7 @@ output-kept s (refused m) e = refl
 output-kept s (gives t) e = let z : _≡_ {A = ℕ} 0 1 = cc in absurd (omega arith)
 
 module _ (reading : ℕ) (file marks states : List ℕ) (bay x y : ℕ) where
+  -- A refusal of the output half leaves the list as it was.
   pub refused-stays : {n : ℕ} → bayOutputOf reading file marks states bay x y .answer ≡ refused n → bayOutputOf reading file marks states bay x y .states ≡ states
   unfolding outputOf
   refused-stays {n} = go (ltb bay (bayCount states)) refl
@@ -174,6 +179,7 @@ pub afresh : (states : List ℕ) (bay : ℕ) → bay < bayCount states → baySt
 unfolding newStates
 afresh states bay is = rw (lt-ltb 0 (bayCount states) (omega arith), started-bay (bayCount states) bay is)
 
+-- A new list has as many bays as before.
 pub afresh-count : (states : List ℕ) → bayCount (newStates states) ≡ bayCount states
 unfolding newStates
 afresh-count states = go (ltb 0 (bayCount states)) refl

@@ -16,6 +16,7 @@ oddRefusal reading file marks room = marksRefusal reading file marks orElse unle
 
 -- So they are refused, by a number up to 22.
 module _ (reading : ℕ) (file marks : List ℕ) (room : Bool) where
+  -- Such numbers are always refused.
   pub odd-some : 0 < oddRefusal reading file marks room
   unfolding oddRefusal
   odd-some = go (marksRefusal reading file marks) room
@@ -25,6 +26,7 @@ module _ (reading : ℕ) (file marks : List ℕ) (room : Bool) where
       go zero false = omega arith
       go (suc n) t = omega arith
 
+  -- The refusal is at most 22.
   pub odd-le : oddRefusal reading file marks room ≤ 22
   unfolding oddRefusal
   odd-le = let m = marks-le reading file marks in let n : 16 ≤ 22 = omega arith in search (else-le, unless-le)

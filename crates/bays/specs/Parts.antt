@@ -1,4 +1,5 @@
 -- A bay's part of the list, and the list with another state in it.
+-- In order: which bays a list has; the list with another state for one bay; two lists compared bay by bay; the list with every bay at the start.
 use mathlib.Core.Path.{_≡_, refl, sym, ap, ap₂, _∙_}
 use mathlib.Core.Bool.{Bool, true, false, cond, _&&_, and-eq-true-iff}
 use mathlib.Core.List.{List, _++_, append-assoc}
@@ -36,6 +37,7 @@ is-bay n bay some = go (eqb (n % 5) 0 && leb n 40)
     go true h l = omega arith
     go false h l = absurd (omega arith)
 
+-- A bay that is there has five numbers.
 pub numbers-five : (states : List ℕ) (bay : ℕ) → bay * 5 + 5 ≤ length states → length (numbersOf states bay) ≡ 5
 numbers-five states bay h = length-take-le 5 (drop (bay * 5) states) (simp length-drop (omega arith))
 
@@ -56,6 +58,7 @@ module _ (states : List ℕ) (bay : ℕ) (there : bay * 5 + 5 ≤ length states)
   begins : length (take (bay * 5) states) ≡ bay * 5
   begins = length-take-le (bay * 5) states (omega arith)
 
+  -- With another state for the bay the list is as long as it was.
   pub with-length : length (withState states bay s) ≡ length states
   with-length = let b = begins in simp (length-append, length-drop) (omega arith)
 
@@ -65,6 +68,7 @@ module _ (states : List ℕ) (bay : ℕ) (there : bay * 5 + 5 ≤ length states)
       ap (take 5) (drop-at (take (bay * 5) states) (stateWords s ++ drop (bay * 5 + 5) states) (bay * 5) begins)
       ∙ take-at (stateWords s) (drop (bay * 5 + 5) states) 5 (omega arith)
 
+  -- The bay's state, read from the list, is that one.
   pub with-state : bayState (withState states bay s) bay ≡ s
   with-state = rw with-own (words-in s four)
 
@@ -112,6 +116,7 @@ at a i =
     ap (λ (n : ℕ). getD a n 0) e
     ∙ sym (getD-take 5 (drop (i / 5 * 5) a) (i % 5) 0 (omega arith) ∙ getD-drop (i / 5 * 5) a (i % 5) 0)
 
+-- Two lists of five numbers a bay are the same if each bay has the same numbers in both.
 pub same-list :
     (a b : List ℕ) → length a ≡ length b → length a % 5 ≡ 0 → ((bay : ℕ) → bay * 5 + 5 ≤ length a → numbersOf a bay ≡ numbersOf b bay) → a ≡ b
 same-list a b l m f =
@@ -123,6 +128,7 @@ unfolding started
 started-length zero = refl
 started-length (suc n) = length-append (started n) (stateWords startState) ∙ omega (arith, started-length n)
 
+-- Each bay of a list at the start has the numbers of the start.
 pub started-bay : (n bay : ℕ) → bay < n → numbersOf (started n) bay ≡ stateWords startState
 unfolding started
 started-bay zero bay h = absurd (omega arith)

@@ -1,4 +1,5 @@
 -- The inputs that agree with care bits, one after the other.
+-- In order: the next number that agrees; a look at each until one takes something; a change of each entry that agrees; what is left of a set.
 use mathlib.Core.Path.{_≡_, refl, _∙_}
 use mathlib.Core.Bool.{Bool, true, false, _&&_, _||_, not, true≢false, and-eq-true-iff}
 use mathlib.Core.Logic.{by-cases}
@@ -55,6 +56,7 @@ module _ {care x : ℕ} (h : care < 16) (l : x < 16) where
 module _ (care value : ℕ) where
   -- x is the next that agrees.
   module _ {x : ℕ} (h : care < 16) (l : x < 16) (e : bitAnd x care ≡ value) where
+    -- The next number is greater.
     pub after-up : x < after care x
     after-up = right h l .0 .0
 
@@ -77,12 +79,15 @@ module _ (care value : ℕ) where
     idle-not : (z : ℕ) → eqb (bitAnd z care) value ≡ false → ltb 0 (agreed care value set z (getD left z 0)) ≡ false
     idle-not z e = rw e refl
 
+    -- The value is the first number that agrees.
     pub idle-start : bitAnd value care ≡ value → Idle value
     idle-start e = record { here = e; none = λ z l. idle-not z (value-first z l) }
 
+    -- Something is taken at x, so something is taken of the first n sets.
     pub idle-found : {x n : ℕ} → Idle x → x < n → (bitAnd (getD left x 0) set ≡ 0 → ⊥) → someBelow (λ z. ltb 0 (agreed care value set z (getD left z 0))) n ≡ true
     idle-found {x} {n} w l d = some-has _ n x l (rw (eq-eqb _ _ (w .here)) (lt-ltb 0 (bitAnd (getD left x 0) set) (omega arith)))
 
+    -- Nothing is taken at x: the next number that agrees is looked at.
     pub idle-more : {x : ℕ} → care < 16 → x < 16 → Idle x → bitAnd (getD left x 0) set ≡ 0 → Idle (after care x)
     idle-more {x} h l w e = record { here = after-agrees h l (w .here); none = go }
       where
@@ -93,6 +98,7 @@ module _ (care value : ℕ) where
             by-cases (ℕ-discrete z x) (λ (q : z ≡ x). rw (q, eq-eqb _ _ (w .here), e) refl)
             (λ ne. idle-not z (after-first h l (w .here) z (omega arith) k)))
 
+    -- Past the first n sets: nothing is taken of them.
     pub idle-done : {x n : ℕ} → n ≤ x → Idle x → someBelow (λ z. ltb 0 (agreed care value set z (getD left z 0))) n ≡ false
     idle-done {x} {n} l w = some-fails _ n (λ z k. w .none z (omega arith))
 
@@ -106,6 +112,7 @@ module _ (care value : ℕ) where
 
     -- An entry that does not agree stays.
     module _ (still : (z : ℕ) → eqb (bitAnd z care) value ≡ false → f z ≡ getD xs z 0) where
+      -- At the value nothing is changed yet.
       pub walked-start : bitAnd value care ≡ value → Walked value xs
       walked-start e =
           record {
@@ -114,6 +121,7 @@ module _ (care value : ℕ) where
             changed = changed-on (omega arith) (λ z l k. still z (value-first z k)) (changed-none f xs);
           }
 
+      -- The entry at x is changed, and the next that agrees is looked at.
       pub walked-more : {x v : ℕ} {ys : List ℕ} → care < 16 → n ≤ 16 → x < n → x < length ys → v ≡ f x → Walked x ys → Walked (after care x) (set ys x v)
       walked-more {x} h l k m e w =
           let u : x < 16 = omega arith in
@@ -125,6 +133,7 @@ module _ (care value : ℕ) where
                 changed-on (omega (arith, after-up h u (w .here))) (λ z k t. still z (c z (omega arith) t)) (changed-more m e (w .changed));
           }
 
+      -- Past the first n each of them is as f says.
       pub walked-done : {x : ℕ} {ys : List ℕ} → n ≤ x → Walked x ys → Changed f n xs ys
       walked-done l w = changed-back l (λ z u t. still z (w .past z u t)) (w .changed)
 
@@ -136,5 +145,6 @@ module _ (care value : ℕ) where
 abbrev pub rest : ℕ → ℕ → ℕ → List ℕ → ℕ → ℕ
 rest care value set left z = bitXor (getD left z 0) (agreed care value set z (getD left z 0))
 
+-- With an input that does not agree all is left.
 pub rest-still : (care value set : ℕ) (left : List ℕ) (z : ℕ) → eqb (bitAnd z care) value ≡ false → rest care value set left z ≡ getD left z 0
 rest-still care value set left z e = rw (e, xor-zero-r)

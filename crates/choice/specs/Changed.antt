@@ -24,9 +24,11 @@ pub record Changed (f : ℕ → ℕ) (n : ℕ) (xs ys : List ℕ) : Type 0 where
 pub changed-one : {f : ℕ → ℕ} {n : ℕ} {xs ys zs : List ℕ} → Changed f n xs ys → Changed f n xs zs → ys ≡ zs
 changed-one {ys = ys} {zs = zs} c d = ext-getD 0 ys zs (c .size ∙ sym (d .size)) (λ z h. c .at z ∙ sym (d .at z))
 
+-- No entry is changed yet.
 pub changed-none : (f : ℕ → ℕ) (xs : List ℕ) → Changed f 0 xs xs
 changed-none f xs = record { size = refl; at = λ z. rw (le-ltb z 0 (omega arith)) }
 
+-- One entry more is stored, as f says.
 pub changed-more : {f : ℕ → ℕ} {n v : ℕ} {xs ys : List ℕ} → n < length ys → v ≡ f n → Changed f n xs ys → Changed f (n + 1) xs (set ys n v)
 changed-more {f} {n} {v} {xs} {ys} l e h = record { size = length-set ys n v ∙ h .size; at = λ z. go z (eqb z n) refl }
   where
@@ -54,9 +56,11 @@ span f n m xs l same z = go (ltb z n) (ltb z m) refl refl
     go false true d e = sym (same z (ltb-false z n d) (ltb-true z m e))
 
 module _ {f : ℕ → ℕ} {n m : ℕ} {xs ys : List ℕ} (l : n ≤ m) (same : (z : ℕ) → n ≤ z → z < m → f z ≡ getD xs z 0) where
+  -- What is changed up to n is changed up to m, if f keeps the entries from n to m.
   pub changed-on : Changed f n xs ys → Changed f m xs ys
   changed-on c = record { size = c .size; at = λ z. c .at z ∙ span f n m xs l same z }
 
+  -- What is changed up to m is changed up to n, if f keeps the entries from n to m.
   pub changed-back : Changed f m xs ys → Changed f n xs ys
   changed-back c = record { size = c .size; at = λ z. c .at z ∙ sym (span f n m xs l same z) }
 
@@ -64,6 +68,7 @@ module _ {f : ℕ → ℕ} {n m : ℕ} {xs ys : List ℕ} (l : n ≤ m) (same : 
 pub changed-as : {f : ℕ → ℕ} {n m : ℕ} {xs ys : List ℕ} → n ≡ m → Changed f n xs ys → Changed f m xs ys
 changed-as {f} {xs = xs} {ys = ys} e c = subst (λ (k : ℕ). Changed f k xs ys) e c
 
+-- Functions that agree on the first n entries change them alike.
 pub changed-by : {f g : ℕ → ℕ} {n : ℕ} {xs ys : List ℕ} → ((z : ℕ) → z < n → f z ≡ g z) → Changed f n xs ys → Changed g n xs ys
 changed-by {f} {g} {n} {xs} {ys} e c = record { size = c .size; at = λ z. c .at z ∙ go z (ltb z n) refl }
   where

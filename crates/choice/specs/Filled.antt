@@ -19,9 +19,11 @@ pub record Filled (sets : List ℕ) (x all : ℕ) : Type 0 where
   pub is : (y : ℕ) → has all y ≡ ltb 0 (getD sets (x + y) 0)
   pub small : all < 2 ^ (16 - x)
 
+-- Past the sixteenth set nothing is put together yet.
 pub filled-none : (sets : List ℕ) → length sets ≡ 16 → Filled sets 16 0
 filled-none sets e = record { is = λ y. has-none y ∙ ap (ltb 0) (sym (List·getD-eq-default sets 0 (omega arith))); small = omega arith }
 
+-- One set more, at the front: its bit is 1 exactly if it is not empty.
 pub filled-more : {sets : List ℕ} {x all bit : ℕ} → Filled sets x all → 0 < x → x ≤ 16 → (bit < 2) × (eqb bit 1 ≡ ltb 0 (getD sets (x - 1) 0)) →
     Filled sets (x - 1) (all * 2 + bit)
 unfolding has
@@ -42,6 +44,7 @@ filled-more {sets} {x} {all} {bit} k l h b = record { is = go; small = small-now
         let e : x - 1 + suc y ≡ x + y = omega arith in
         rw (d, e) (k .is y)
 
+-- With all sets put together, bit y is 1 exactly if the set of the input y is not empty.
 pub filled-all : {sets : List ℕ} {x all : ℕ} → Filled sets x all → x ≡ 0 → (y : ℕ) → has all y ≡ ltb 0 (getD sets y 0)
 filled-all {sets} {x} k e y = let d : x + y ≡ y = omega arith in rw d at (k .is y)
 

@@ -16,6 +16,7 @@ use Rattle.choice.specs.Sets.{has}
 abbrev pub column : ℕ → ℕ → ℕ → ℕ
 column care value ones = cond (eqb (care % 2) 1) (cond (eqb (value % 2) 1) ones (65535 - ones)) 65535
 
+-- The outputs below 16 that agree with the care bits and the value, as a set.
 unfoldable pub outs : ℕ → ℕ → ℕ
 outs care value =
     bitAnd (bitAnd (column care value 0xAAAA) (column (care / 2) (value / 2) 0xCCCC))
@@ -57,6 +58,7 @@ none-strays : someBelow (λ care. someBelow (strays care) 16) 16 ≡ false
 unfolding someBelow outs clear strays
 none-strays = refl
 
+-- The outputs that agree are the clear ones, shifted up by the value within the care bits.
 pub clear-outs : (care value : ℕ) → care < 16 → value < 16 → (getD clear care 0 * 2 ^ bitAnd value care) % 2 ^ 16 ≡ outs care value
 unfolding strays
 clear-outs care value h l = eqb-true _ _ (not-false _ (some-none (strays care) 16 (some-none _ 16 none-strays care h) value l))

@@ -14,6 +14,7 @@ pub cond-same : {A : Type 0} (t : Bool) (a : A) → cond t a a ≡ a
 cond-same true a = refl
 cond-same false a = refl
 
+-- y is in the set.
 unfoldable pub has : ℕ → ℕ → Bool
 has set zero = eqb (set % 2) 1
 has set (suc y) = has (set / 2) y
@@ -34,21 +35,25 @@ of-digits f g a b c d zero (suc (suc n)) h k = absurd (omega arith)
 of-digits f g a b c d (suc zero) (suc (suc n)) h k = absurd (omega arith)
 of-digits f g a b c d (suc (suc m)) n h k = absurd (omega arith)
 
+-- A number is in `bitAnd` of two sets exactly if it is in both.
 pub has-and : (a b y : ℕ) → has (bitAnd a b) y ≡ (has a y && has b y)
 unfolding has
 has-and a b zero = ap (λ (z : ℕ). eqb z 1) (and-mod a b 1) ∙ of-digits bitAnd _&&_ refl refl refl refl (a % 2) (b % 2) (omega arith) (omega arith)
 has-and a b (suc y) = ap (λ (z : ℕ). has z y) (and-shr a b 1) ∙ has-and (a / 2) (b / 2) y
 
+-- A number is in `bitOr` of two sets exactly if it is in one of them or both.
 pub has-or : (a b y : ℕ) → has (bitOr a b) y ≡ (has a y || has b y)
 unfolding has
 has-or a b zero = ap (λ (z : ℕ). eqb z 1) (or-mod a b 1) ∙ of-digits bitOr _||_ refl refl refl refl (a % 2) (b % 2) (omega arith) (omega arith)
 has-or a b (suc y) = ap (λ (z : ℕ). has z y) (or-shr a b 1) ∙ has-or (a / 2) (b / 2) y
 
+-- A number is in `bitXor` of two sets exactly if it is in one of them alone.
 pub has-xor : (a b y : ℕ) → has (bitXor a b) y ≡ differs (has a y) (has b y)
 unfolding has differs
 has-xor a b zero = ap (λ (z : ℕ). eqb z 1) (xor-mod a b 1) ∙ of-digits bitXor differs refl refl refl refl (a % 2) (b % 2) (omega arith) (omega arith)
 has-xor a b (suc y) = ap (λ (z : ℕ). has z y) (xor-shr a b 1) ∙ has-xor (a / 2) (b / 2) y
 
+-- 0 is the empty set.
 pub has-none : (y : ℕ) → has 0 y ≡ false
 unfolding has
 has-none zero = refl
@@ -58,6 +63,7 @@ has-none (suc y) = has-none y
 abbrev pub allBelow : ℕ → ℕ
 allBelow n = 2 ^ n - 1
 
+-- A number is in the set of all below n exactly if it is below n.
 pub has-all : (n y : ℕ) → has (allBelow n) y ≡ ltb y n
 unfolding has
 has-all zero y = has-none y ∙ sym (le-ltb y 0 (omega arith))
@@ -84,6 +90,7 @@ has-some =
         let r = ih (λ z. h (omega arith)) in
         (suc (r .0), r .1)
 
+-- A set with a number in it is not empty.
 pub has-not-empty : (set y : ℕ) → has set y ≡ true → set ≡ 0 → ⊥
 has-not-empty set y h e = let z : has 0 y ≡ true = rw (← e) h in let k : _≡_ {A = ℕ} 0 1 = cc (has-none y) in omega arith
 

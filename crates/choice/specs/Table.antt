@@ -40,6 +40,7 @@ whole : length table ≡ 256
 unfolding table
 whole = refl
 
+-- The row of a wanted value.
 abbrev pub row : ℕ → List ℕ
 row wanted = take 16 (drop (wanted * 16) table)
 
@@ -47,12 +48,15 @@ module _ (w : ℕ) (h : w < 16) where
   row-rising : rising 16 w (row w) ≡ true
   row-rising = let e : 0 + w ≡ w = omega arith in rw e at (row-at 16 16 0 table ordered w h)
 
+  -- A row has sixteen entries.
   pub row-length : length (row w) ≡ 16
   row-length = rw (length-take, length-drop, whole) (omega arith)
 
+  -- The i-th entry of a row, by its place in the table.
   pub row-entry : (i : ℕ) → i < 16 → getD (row w) i 0 ≡ getD table (w * 16 + i) 0
   row-entry i l = rw (getD-take, getD-drop)
 
+  -- Each entry is below 16.
   pub entry-below : (i : ℕ) → i < 16 → getD table (w * 16 + i) 0 < 16
   entry-below i l = rw (row-entry i l) at (rising-below w 16 (row w) row-rising i (omega (arith, row-length)))
 

@@ -27,6 +27,7 @@ rules-none L (b ∷ U) [] i h = refl
 rules-none L (true ∷ U) (r ∷ rs) i h = rules-none L U rs (suc i) (λ i u. h (suc i) (omega arith))
 rules-none L (false ∷ U) (r ∷ rs) i h = absurd (false≢true (h 0 (omega arith)))
 
+-- A number that has an element is within the list.
 pub nth-below : {A : Type 0} (xs : List A) (i : ℕ) (x : A) → nth xs i ≡ some x → i < length xs
 nth-below [] i x h = absurd (Option·none-ne-some x h)
 nth-below (y ∷ xs) zero x h = omega arith
@@ -67,6 +68,7 @@ module _ {p : Policy} {L U : List Bool} (meant : Meant p L U) (bytes : length (p
           bounds = r .bounds;
         }
 
+  -- A policy with every location entered and every rule used is its own cleaning.
   pub clean-none : cleaned p L U ≡ p
   clean-none =
       let n : kept L ≡ p .locations = kept-all L locations ∙ meant .locations in
@@ -114,8 +116,10 @@ module _ {p : Policy} {L U : List Bool} (meant : Meant p L U) where
     all-rules : All W
     all-rules i h = again .used i .1 (all-used i (omega (arith, again .rules)))
 
+    -- Cleaning a cleaned policy strikes nothing.
     pub strikes-none : struck (cleaned p L U) M W ≡ []
     strikes-none = rw (locations-none M 0 all-locations) (rules-none M W (cleaned p L U .rules) 0 all-rules)
 
+    -- Cleaning a cleaned policy leaves it as it is.
     pub clean-again : length (p .left) ≡ p .locations → cleaned (cleaned p L U) M W ≡ cleaned p L U
     clean-again bytes = clean-none again (length-sift L (p .left) (meant .locations ∙ sym bytes)) all-locations all-rules

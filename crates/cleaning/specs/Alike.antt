@@ -17,6 +17,7 @@ use Rattle.cleaning.specs.Same.{entered-here, from-start, after-cleaned,
 use Rattle.cleaning.specs.Signals.{within, fits-within, steps-within}
 use Rattle.cleaning.specs.Lawful.{cleaned-well}
 
+-- What is kept of a list of numbers is read at its new number.
 pub getD-sift : (L : List Bool) (xs : List ℕ) (i : ℕ) → flag L i ≡ true → getD (sift L xs) (rank L i) 0 ≡ getD xs i 0
 getD-sift [] xs i h = absurd (false≢true h)
 getD-sift (b ∷ L) [] i h = refl
@@ -65,5 +66,6 @@ module _ {p : Policy} {L U : List Bool} (meant : Meant p L U) (ok : WellFormed p
         );
       }
 
+  -- The cleaned policy permits the same streams, and rests after the same.
   pub permits-same : Permits (cleaned p L U) ≋ Permits p
   permits-same = (forth, back)

@@ -17,6 +17,7 @@ use Rattle.cleaning.specs.declared.Lengths.{Lengths}
 unfoldable pub cleanedOf : Policy → Policy
 cleanedOf p = cleaned p (enteredFlags p) (usedFlags p)
 
+-- What is struck from a policy: locations that are not entered, then rules that are not used.
 unfoldable pub struckOf : Policy → List Struck
 struckOf p = struck p (enteredFlags p) (usedFlags p)
 
@@ -34,6 +35,7 @@ module _ (reading : ℕ) (file : List ℕ) where
   unfoldable pub cleanedFile : List ℕ
   cleanedFile = bytesOf (cleanedOf (policyOf reading file))
 
+  -- The bytes of the list of what is struck.
   unfoldable pub struckList : List ℕ
   struckList = struckBytes (struckOf (policyOf reading file))
 
@@ -42,6 +44,7 @@ module _ (reading : ℕ) (file : List ℕ) where
     unfoldable pub cleanRefusal : ℕ
     cleanRefusal = refusalUnder reading file orElse shortRefusal cleanedFile struckList out list
 
+    -- The refusal, or how long the cleaned policy and the list are.
     unfoldable pub cleanOf : Answer Lengths
     cleanOf = answer cleanRefusal (record { cleaned = length cleanedFile; struck = length struckList })
 
@@ -49,5 +52,6 @@ module _ (reading : ℕ) (file : List ℕ) where
     unfoldable pub cleanedOut : List ℕ
     cleanedOut = writtenIn cleanRefusal cleanedFile out
 
+    -- What the slice for the list holds then; after a refusal, what it held.
     unfoldable pub struckOut : List ℕ
     struckOut = writtenIn cleanRefusal struckList list

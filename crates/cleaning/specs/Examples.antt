@@ -23,6 +23,7 @@ pub doors-list : struckList 1 Doors ≡ 0x01 ∷ 0x00 ∷ 0x01 ∷ 0x03 ∷ 0x00
 unfolding the-file a-step the-marks struckList struckOf cleanedOf enteredFlags usedFlags flags entered used somewhere decidesSome decider statesOf
 doors-list = refl
 
+-- The cleaned file has two locations and three rules, and the targets are renumbered.
 pub doors-cleaned :
     cleanedFile 1 Doors
     ≡ 0x01 ∷ 0x41 ∷ 0x01 ∷ 0x52 ∷ 0x00 ∷ 0x02 ∷ 0x00 ∷ 0x01 ∷ 0x00 ∷ 0x03
@@ -39,6 +40,7 @@ Early =
     ∷ 0x00 ∷ 0x00 ∷ 0x00 ∷ 0x00 ∷ 0x00 ∷ 0x00 ∷ 0x00 ∷ 0x00 ∷ 0x00 ∷ 0x00 ∷ 0x00
     ∷ 0x00 ∷ 0x00 ∷ 0x00 ∷ 0x00 ∷ 0x00 ∷ 0x01 ∷ 0x00 ∷ 0x00 ∷ 0x00 ∷ 0xFF ∷ 0xFF ∷ []
 
+-- Reading 1 strikes nothing, and reading 2 strikes the first rule.
 pub early-lists : (struckList 1 Early ≡ []) × (struckList 2 Early ≡ 0x03 ∷ 0x00 ∷ 0x00 ∷ [])
 unfolding the-file a-step the-marks struckList struckOf cleanedOf enteredFlags usedFlags flags entered used somewhere decidesSome decider statesOf
 early-lists = (refl, refl)

@@ -31,6 +31,7 @@ rank-rises (b ∷ L) (suc i) zero l = absurd (omega arith)
 rank-rises (true ∷ L) (suc i) (suc j) l = omega (arith, rank-rises L i j (omega arith))
 rank-rises (false ∷ L) (suc i) (suc j) l = rank-rises L i j (omega arith)
 
+-- No more are kept than there are.
 pub kept-le : (L : List Bool) → kept L ≤ length L
 kept-le [] = le-refl 0
 kept-le (true ∷ L) = omega (arith, kept-le L)
@@ -103,11 +104,13 @@ module _ {p : Policy} {L U : List Bool} (meant : Meant p L U) where
     fewer : kept L ≤ p .locations
     fewer = omega (arith, kept-le L, meant .locations)
 
+    -- The cleaned policy has no more states than the old one.
     pub states-cleaned : states (cleaned p L U) ≤ states p
     states-cleaned =
         let k = length (p .ceilings) in
         rw (states-each (p .ceilings) k (kept L), states-each (p .ceilings) k (p .locations)) (mul-le-mul fewer (le-refl (statesOf (p .ceilings) k 1)))
 
+    -- The cleaned policy of a well-formed one is well-formed.
     pub cleaned-well : WellFormed (cleaned p L U)
     cleaned-well =
         record {

@@ -25,6 +25,7 @@ use Rattle.cleaning.specs.Entry.{cleanedOf, struckOf, cleanedFile, struc
 abbrev pub section : Struck → ℕ
 section x = cond (eqb (x .kind) 1) 0 1
 
+-- An entry comes before another: it is of an earlier section, or has the smaller number in the same one.
 abbrev pub Earlier : Struck → Struck → Type 0
 Earlier x y = (section x < section y) ⊎ ((section x ≡ section y) × (x .number < y .number))
 

@@ -23,6 +23,7 @@ use Rattle.cleaning.specs.Same.{flag-below, used-rule}
 use Rattle.cleaning.specs.Lawful.{start-kept}
 use Rattle.cleaning.specs.Alike.{getD-sift}
 
+-- Each entry of the list stands in three bytes, its kind and its old number.
 pub three-bytes : (xs : List Struck) → ThreeBytes xs (struckBytes xs)
 three-bytes xs = record { size = size xs; kind = kind xs; number = number xs }
   where
@@ -77,6 +78,7 @@ module _ (p : Policy) (ok : WellFormed p) where
           let few = meant p ok .few in
           inr (a, rw (ne-eqb (r .target) 255 (λ e. omega arith)))
 
+  -- The cleaned policy has what is entered and used, in order and renumbered, and nothing else.
   pub leaves : Leaves p (cleanedOf p)
   unfolding cleanedOf
   leaves =

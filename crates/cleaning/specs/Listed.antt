@@ -1,4 +1,5 @@
 -- What stands in the list of what was struck, and in which order; and no other list says so. For any flags that are meant so.
+-- In order: the locations; the rules; kind by kind; "in file order"; that one list alone says so.
 use mathlib.Core.Path.{_≡_, refl, sym, ap, ap₂, subst, _∙_}
 use mathlib.Core.Bool.{Bool, true, false, cond, false≢true}
 use mathlib.Core.List.{List, [], _∷_, _++_, List·Memᴰ, List·Memᴰ·head, List·Memᴰ·tail, List·Memᴰ·not-nil, List·Memᴰ·append-cases, Memᴰ·append-left, Memᴰ·append-right}
@@ -240,6 +241,7 @@ in-order-one (in-order-more {x = x} {xs = xs} h t) (in-order-more {x = y} {xs = 
     go-back {z} first m (List·Memᴰ·head e) = let b = subst (Earlier y) (e ∙ first) (k z m) in absurd (not-both y y b b)
     go-back first m (List·Memᴰ·tail n) = n
 
+-- The list has just the locations that are not entered and the rules that are not used, by kind and in file order.
 pub lists : {p : Policy} {L U : List Bool} → Meant p L U → Lists p (struck p L U)
 lists {p} {L} {U} meant =
     record { kind-1 = kind-1 meant; kind-2 = kind-2 meant; kind-3 = kind-3 meant; kinds = kinds meant; order = struck-order p L U }

@@ -11,6 +11,7 @@ use Rattle.cleaning.specs.declared.Lengths.{Lengths}
 use Rattle.cleaning.specs.declared.Cleaned.{Cleaned}
 use Rattle.cleaning.specs.declared.Cleaned.the-variants as Cleaned
 
+-- The answer of the code, as the definitions say it.
 abbrev pub cleanSaid : Cleaned → Answer Lengths
 cleanSaid (Cleaned.Gives l) = gives l
 cleanSaid (Cleaned.Refused n) = refused n
@@ -51,6 +52,7 @@ refusal-le : (reading : ℕ) (file out list : List ℕ) → Entry.cleanRefusal r
 unfolding Entry.cleanRefusal Entry.shortRefusal
 refusal-le reading file out list = let h = under-le reading file in search (else-le, unless-le)
 
+-- A refusal is one of the numbers 1 to 22.
 pub clean-up-to : (reading : ℕ) (file out list : List ℕ) → UpTo 22 (Entry.cleanOf reading file out list)
 unfolding Entry.cleanOf
 clean-up-to reading file out list = answer-up-to (Entry.cleanRefusal reading file out list) _ (refusal-le reading file out list)

@@ -42,6 +42,7 @@ module _ (reading : ℕ) (file out list : List ℕ) where
   unfolding cleanRefusal
   refused-first = first-refused (refusalUnder reading file) _
 
+  -- What clean answers and writes, for any reading, bytes and slices, is what `Laws` says.
   pub answers : Answers reading file out list
   unfolding cleanOf cleanedOut struckOut
   answers =

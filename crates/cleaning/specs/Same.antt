@@ -1,4 +1,6 @@
 -- Each stream leads to the same place in the cleaned policy, at its new number. For any flags that are meant so.
+-- In order: the rule that decides, by its number, before and after; rules that are used; one event; a stream; events that fit; the places that
+-- permitted streams lead to.
 use mathlib.Core.Path.{_≡_, refl, sym, ap, _∙_}
 use mathlib.Core.Bool.{Bool, true, false, cond, _&&_, false≢true, and-eq-true-iff}
 use mathlib.Core.List.{List, [], _∷_, map}
@@ -20,6 +22,7 @@ use Rattle.usage.specs.Sift.{flag, nth, sift, rank}
 use Rattle.cleaning.specs.SiftLaws.{rank-le, rank-same, nth-sift, nth-map}
 use Rattle.usage.specs.Clean.{Used, Entered, Meant, renamed, cleaned, moved}
 
+-- A flag that is set is one of the list.
 pub flag-below : (L : List Bool) (i : ℕ) → flag L i ≡ true → i < length L
 flag-below L i h = by-cases (decLt i (length L)) (λ l. l) (λ g. absurd (false≢true (sym (List·getD-eq-default L false {n = i} (omega arith)) ∙ h)))
 
@@ -146,9 +149,11 @@ unfolding tested
 looked-moved p L U s = refl
 
 module _ {p : Policy} {L U : List Bool} (meant : Meant p L U) where
+  -- The location of a reached place is kept.
   pub entered-here : {s : Place} → Reached p s → flag L (s .location) ≡ true
   entered-here {s} r = meant .entered (s .location) .1 (record { place = s; reached = r; here = refl })
 
+  -- A rule that is kept is one of a location that is kept.
   pub used-source : (i : ℕ) (r : Rule) → flag U i ≡ true → nth (p .rules) i ≡ some r → flag L (r .source) ≡ true
   used-source i r h q = meant .entered (r .source) .1 (used-rule p i r (meant .used i .0 h) q .0)
 
@@ -156,6 +161,7 @@ module _ {p : Policy} {L U : List Bool} (meant : Meant p L U) where
     used-here : (i : ℕ) → decider (p .rules) (looked unlimited p s) e ≡ some i → flag U i ≡ true
     used-here i h = meant .used i .1 (record { place = s; event = e; reached = r; fits = f; decides = h })
 
+    -- At a reached place the same rule decides in the cleaned policy, under its new number.
     pub decider-cleaned :
         decider (cleaned p L U .rules) (looked unlimited (cleaned p L U) (moved L s)) e ≡ Option·map (rank U) (decider (p .rules) (looked unlimited p s) e)
     decider-cleaned =
@@ -180,6 +186,7 @@ module _ {p : Policy} {L U : List Bool} (meant : Meant p L U) where
     target-below : (t : Place) → step unlimited p s e ≡ some t → rank L (t .location) < 255
     target-below t h = omega (arith, rank-le L (t .location), flag-below L (t .location) (entered-here (reached-more p e r f h)), meant .few)
 
+    -- From a reached place an event leads to the same place at its new number, or to a violation in both.
     pub step-cleaned : step unlimited (cleaned p L U) (moved L s) e ≡ Option·map (moved L) (step unlimited p s e)
     unfolding step bind taken
     step-cleaned =
@@ -200,6 +207,7 @@ module _ {p : Policy} {L U : List Bool} (meant : Meant p L U) where
                 let n : eqb (rank L (a .target)) 255 ≡ false = ne-eqb (rank L (a .target)) 255 (λ z. omega arith) in
                 rw (q, n)
 
+  -- From a reached place a stream leads to the same place at its new number, or to a violation in both.
   pub steps-cleaned :
       (w : Stream) (s : Place) → Reached p s → Fits p w →
       steps unlimited (cleaned p L U) (moved L s) w ≡ Option·map (moved L) (steps unlimited p s w)
@@ -215,6 +223,7 @@ module _ {p : Policy} {L U : List Bool} (meant : Meant p L U) where
       go none h = refl
       go (some t) h = h t refl
 
+  -- From the start a stream leads to the same place at its new number, or to a violation in both.
   pub from-start : (w : Stream) → Fits p w →
       steps unlimited (cleaned p L U) (start (cleaned p L U)) w ≡ Option·map (moved L) (steps unlimited p (start p) w)
   from-start w f = steps-cleaned w (start p) (reached-start p) f
@@ -224,6 +233,7 @@ pub fits-cleaned : {p : Policy} (L U : List Bool) {w : Stream} → Fits p w → 
 fits-cleaned L U fits-none = fits-none
 fits-cleaned L U (fits-more f g) = fits-more (record { x = f .x; y = f .y }) (fits-cleaned L U g)
 
+-- A stream that fits the cleaned policy fits the old one.
 pub cleaned-fits : (p : Policy) (L U : List Bool) {w : Stream} → Fits (cleaned p L U) w → Fits p w
 cleaned-fits p L U fits-none = fits-none
 cleaned-fits p L U (fits-more f g) = fits-more (record { x = f .x; y = f .y }) (cleaned-fits p L U g)
@@ -233,11 +243,13 @@ module _ {p : Policy} {L U : List Bool} (meant : Meant p L U) where
   pub after-cleaned : (w : Stream) (s : Place) → After p w s → After (cleaned p L U) w (moved L s)
   after-cleaned w s a = (fits-cleaned L U (a .0), from-start meant w (a .0) ∙ ap (Option·map (moved L)) (a .1))
 
+  -- A place that a stream leads to in the cleaned policy is one that it leads to in the old one, renumbered.
   pub cleaned-after : (w : Stream) (t : Place) → After (cleaned p L U) w t → (s : Place) × After p w s × (moved L s ≡ t)
   cleaned-after w t a =
       let f = cleaned-fits p L U (a .0) in
       let h = map-eq-some-iff (moved L) (steps unlimited p (start p) w) .0 (sym (from-start meant w f) ∙ a .1) in
       (h .0, (f, h .1), h .2)
 
+  -- A reached place is reached in the cleaned policy, at its new number.
   pub reached-cleaned : {s : Place} → Reached p s → Reached (cleaned p L U) (moved L s)
   reached-cleaned {s} r = (r .0, after-cleaned (r .0) s (r .1))

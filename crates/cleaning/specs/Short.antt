@@ -17,6 +17,7 @@ pub record Few (l : Lengths) : Type 0 where
   pub cleaned : l .cleaned ≤ 5974
   pub struck : l .struck ≤ 960
 
+-- Where clean gives lengths, the policy has at most 5,974 bytes and the list at most 960.
 pub lengths-few : (reading : ℕ) (file out list : List ℕ) (l : Lengths) → cleanOf reading file out list ≡ gives l → Few l
 unfolding cleanOf cleanRefusal
 lengths-few reading file out list l e =

@@ -23,6 +23,7 @@ and-within n a care h =
     ap (bitAnd (a % 2 ^ n)) (sym (mod-eq-of-lt h)) ∙ sym (and-mod a care n) ∙ mod-eq-of-lt l
 
 module _ (p : Policy) where
+  -- Without the bits beyond the signals every stream fits.
   pub fits-within : (w : Stream) → Fits p (map (within p) w)
   fits-within [] = fits-none
   fits-within (e ∷ w) = fits-more (record { x = mod-lt (e .x) (pow-pos _); y = mod-lt (e .y) (pow-pos _) }) (fits-within w)
@@ -39,6 +40,7 @@ module _ (p : Policy) where
         decides-within h s e,
       )
 
+  -- Without the bits beyond the signals a stream leads where it led with them.
   pub steps-within : WellFormed p → (on : ℕ → ℕ → ℕ) (w : Stream) (s : Place) → steps on p s (map (within p) w) ≡ steps on p s w
   unfolding steps step bind
   steps-within ok on [] s = refl

@@ -101,6 +101,7 @@ module _ (reading : ℕ) (file : List ℕ) (passed : refusalOf file ≡ 0) where
       )
       (omega (arith, k .inputsEnd, k .outputsEnd, k .clocksEnd, k .locationsEnd, k .countEnd, k .lastEnd, k .ends))
 
+  -- How much room is enough for the cleaned policy, the list and the marks of a file that passes the check.
   pub room : Room reading file
   unfolding cleanedFile struckList
   room =

@@ -30,6 +30,7 @@ use Rattle.cleaning.specs.Left.{three-bytes, leaves}
 
 -- Of the policy.
 module _ (p : Policy) (ok : WellFormed p) where
+  -- The cleaned policy of a well-formed one is well-formed.
   pub well : WellFormed (cleanedOf p)
   unfolding cleanedOf
   well = cleaned-well (meant p ok) ok
@@ -81,6 +82,7 @@ module _ (reading : ℕ) (file : List ℕ) (passed : refusalOf file ≡ 0) where
   says =
       ap (λ (n : ℕ). policyOf n (bytesOf (cleanedOf p))) (sym (read-alike p ok ∙ policy-reading)) ∙ read-back (cleanedOf p) (well p ok)
 
+  -- All that `Laws` says of a cleaned policy holds of each file that passes the check.
   pub cleans : Cleans reading file
   unfolding cleanedFile struckList
   cleans =
@@ -99,6 +101,7 @@ module _ (reading : ℕ) (file : List ℕ) (passed : refusalOf file ≡ 0) where
 
 -- A joined file passes the check, and so all this holds of it.
 module _ (a b out : List ℕ) (made : joinRefusal a b out ≡ 0) (reading : ℕ) where
+  -- All that `Laws` says of a cleaned policy holds of each joined file.
   pub cleans-joined : Cleans reading (joinedFile a b out)
   cleans-joined = cleans reading (joinedFile a b out) (joined-passes a b out made)
 

@@ -19,31 +19,38 @@ scopeOf text tags starts ends clockStarts clockEnds clocks places =
     record { letters = tags; names = spans text starts ends 0 (length tags); clocks = spans text clockStarts clockEnds 0 clocks; places = places }
 
 module _ {A : Type 0} {o : Option ℕ} {n i : ℕ} (e : o ≡ placeBelow n i) (go : ℕ → Answer A) where
+  -- A place below n was found: the answer goes on from it.
   pub known-there : i < n → go i ≡ known o go
   known-there h = rw (e, lt-ltb i n h)
 
+  -- A place that is not below n stands for an unknown name: 31.
   pub known-not : n ≤ i → refused 31 ≡ known o go
   known-not h = rw (e, le-ltb i n h)
 
 module _ (d : Scope) (b : Begun) (w : Word) where
+  -- A word that was found among the signals asks that the signal be on.
   pub or-signal : {o : Option ℕ} {n i : ℕ} → o ≡ placeBelow n i → i < n → onSignal b 1 i ≡ signalOr d b w o
   or-signal {n = n} {i = i} e h = rw (e, lt-ltb i n h)
 
+  -- A word that was not must name a clock, and the clock's sign comes next.
   pub or-clock : {o : Option ℕ} {n i : ℕ} → o ≡ placeBelow n i → n ≤ i → known (find 0 w (d .clocks)) (λ k. gives (turn (sign k) b)) ≡ signalOr d b w o
   or-clock {n = n} {i = i} e h = rw (e, le-ltb i n h)
 
 -- By the first byte.
 module _ (d : Scope) (b : Begun) where
+  -- A word of no bytes is refused with 30.
   pub condition-none : (w : Word) → length w ≡ 0 → refused 30 ≡ condition d b w
   unfolding condition
   condition-none [] h = refl
   condition-none (c ∷ cs) h = absurd (omega arith)
 
+  -- After `!` stands a signal that must be off.
   pub condition-off : (w : Word) → 0 < length w → getD w 0 0 ≡ 33 → known (signalBy (d .letters) (d .names) (take (length w - 1) (drop 1 w))) (onSignal b 0) ≡ condition d b w
   unfolding condition signal
   condition-off [] h e = absurd (omega arith)
   condition-off (c ∷ cs) h e = rw (eq-eqb c 33 e, take-all (length (c ∷ cs) - 1) cs (omega arith))
 
+  -- Any other word is a signal that must be on, or else a clock.
   pub condition-on : (w : Word) → 0 < length w → (getD w 0 0 ≡ 33 → ⊥) → signalOr d b w (signalBy (d .letters) (d .names) w) ≡ condition d b w
   unfolding condition signal
   condition-on [] h e = absurd (omega arith)

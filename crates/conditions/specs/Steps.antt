@@ -1,4 +1,5 @@
 -- What the code has of a rule whose words it reads, as what the definitions have of it.
+-- In order: the parts, the bounds and a whole rule; powers of two, and room in a mask; a signal or a reset, said once or twice; a bound that changes.
 use mathlib.Core.Path.{_≡_, refl, ap}
 use mathlib.Core.List.{List, [], _∷_}
 use Prim.Native.Nat.{ℕ, zero, suc, _+_, _*_, _/_, _%_, _^_, _≤_, _<_, min, max}
@@ -42,6 +43,7 @@ begunOf n p =
       reset = p .reset;
     }
 
+-- The answer to one word: its refusal, or the rule as it stands after the word.
 abbrev pub stepSaid : ℕ → Step → Answer Begun
 stepSaid n s = answer (s .refusal) (begunOf n (s .parsed))
 
@@ -57,6 +59,7 @@ pub record Masked (p : Parsed) : Type 0 where
 abbrev pub powers : List ℕ
 powers = 1 ∷ 2 ∷ 4 ∷ 8 ∷ 16 ∷ 32 ∷ 64 ∷ 128 ∷ []
 
+-- Entry i of the table is 2 ^ i.
 pub power-at : (i : ℕ) → i < 8 → getD powers i 0 ≡ 2 ^ i
 power-at zero h = refl
 power-at (suc zero) h = refl
@@ -68,6 +71,7 @@ power-at (suc (suc (suc (suc (suc (suc zero)))))) h = refl
 power-at (suc (suc (suc (suc (suc (suc (suc zero))))))) h = refl
 power-at (suc (suc (suc (suc (suc (suc (suc (suc i)))))))) h = absurd (omega arith)
 
+-- The bit of each of eight signals is from 1 to 128.
 pub power-small : (i : ℕ) → i < 8 → (0 < 2 ^ i) × (2 ^ i ≤ 128)
 power-small zero h = (omega arith, omega arith)
 power-small (suc zero) h = (omega arith, omega arith)
@@ -79,6 +83,7 @@ power-small (suc (suc (suc (suc (suc (suc zero)))))) h = (omega arith, omega ari
 power-small (suc (suc (suc (suc (suc (suc (suc zero))))))) h = (omega arith, omega arith)
 power-small (suc (suc (suc (suc (suc (suc (suc (suc i)))))))) h = absurd (omega arith)
 
+-- A number taken once or not at all is at most itself.
 pub once : (v r : ℕ) → v ≤ 1 → v * r ≤ r
 once zero r h = omega arith
 once (suc zero) r h = omega arith
@@ -96,6 +101,7 @@ bit-room m (suc (suc (suc (suc (suc (suc zero)))))) l h e = omega arith
 bit-room m (suc (suc (suc (suc (suc (suc (suc zero))))))) l h e = omega arith
 bit-room m (suc (suc (suc (suc (suc (suc (suc (suc i)))))))) l h e = absurd (omega arith)
 
+-- A bit that is not set in a mask of four bits has room there.
 pub low-room : (m i : ℕ) → m < 16 → i < 4 → m / 2 ^ i % 2 ≡ 0 → m + 2 ^ i < 16
 low-room m zero l h e = omega arith
 low-room m (suc zero) l h e = omega arith
@@ -105,20 +111,24 @@ low-room m (suc (suc (suc (suc i)))) l h e = absurd (omega arith)
 
 -- A condition on a signal; a clock that is reset.
 module _ (b : Begun) (v i : ℕ) where
+  -- A second condition on the same signal is refused with 31.
   pub signal-twice : (b .care / 2 ^ i % 2 ≡ 0 → ⊥) → refused 31 ≡ onSignal b v i
   unfolding onSignal
   signal-twice h = rw (ne-eqb (b .care / 2 ^ i % 2) 0 h)
 
+  -- The first condition on a signal adds its bit to the care mask, and to the value if it must be on.
   pub signal-once : b .care / 2 ^ i % 2 ≡ 0 →
       gives (record { part = more; care = b .care + 2 ^ i; value = b .value + v * 2 ^ i; bounds = b .bounds; target = b .target; reset = b .reset }) ≡ onSignal b v i
   unfolding onSignal
   signal-once h = rw (eq-eqb (b .care / 2 ^ i % 2) 0 h)
 
 module _ (b : Begun) (i : ℕ) where
+  -- A clock that is reset twice in one rule is refused with 31.
   pub reset-twice : (b .reset / 2 ^ i % 2 ≡ 0 → ⊥) → refused 31 ≡ onReset b i
   unfolding onReset
   reset-twice h = rw (ne-eqb (b .reset / 2 ^ i % 2) 0 h)
 
+  -- A clock that is reset for the first time gets its bit in the mask.
   pub reset-once : b .reset / 2 ^ i % 2 ≡ 0 →
       gives (record { part = clears; care = b .care; value = b .value; bounds = b .bounds; target = b .target; reset = b .reset + 2 ^ i }) ≡ onReset b i
   unfolding onReset
@@ -134,6 +144,7 @@ low-changed (suc m) (l ∷ lows) [] (suc k) n = refl
 low-changed (suc m) (l ∷ lows) (h ∷ highs) zero n = refl
 low-changed (suc m) (l ∷ lows) (h ∷ highs) (suc k) n = ap (λ (z : List Bound). record { low = l; high = h } ∷ z) (low-changed m lows highs k n)
 
+-- The same for a high, where the lesser one stays.
 pub high-changed : (m : ℕ) (lows highs : List ℕ) (k n : ℕ) → boundsOf m lows (set highs k (min n (getD highs k 0))) ≡ change (atMostOf n) k (boundsOf m lows highs)
 unfolding boundsOf change
 high-changed zero lows highs k n = refl
@@ -143,6 +154,7 @@ high-changed (suc m) (l ∷ lows) (h ∷ highs) zero n = refl
 high-changed (suc m) (l ∷ lows) (h ∷ highs) (suc k) n = ap (λ (z : List Bound). record { low = l; high = h } ∷ z) (high-changed m lows highs k n)
 
 module _ (m : ℕ) (p : Parsed) (k n : ℕ) where
+  -- What the code does for `>= n`: the low of clock k becomes the greater of the two.
   pub at-least : {v : ℕ} → v ≡ max n (getD (p .low) k 0) →
       begunOf m (record { part = 1; clock = p .clock; care = p .care; value = p .value; target = p .target; reset = p .reset; low = set (p .low) k v; high = p .high })
       ≡ onBound (begunOf m p) k (atLeastOf n)
@@ -151,6 +163,7 @@ module _ (m : ℕ) (p : Parsed) (k n : ℕ) where
       let same = low-changed m (p .low) (p .high) k n in
       rw e (λ i. record { part = more; care = p .care; value = p .value; bounds = same i; target = p .target; reset = p .reset })
 
+  -- What the code does for `<= n`: the high of clock k becomes the lesser of the two.
   pub at-most : {v : ℕ} → v ≡ min n (getD (p .high) k 0) →
       begunOf m (record { part = 1; clock = p .clock; care = p .care; value = p .value; target = p .target; reset = p .reset; low = p .low; high = set (p .high) k v })
       ≡ onBound (begunOf m p) k (atMostOf n)

@@ -1,4 +1,6 @@
 -- Of a file longer than the longest policy the first 5,974 + 1 bytes decide by what it is refused.
+-- In order: bytes and sections that stand in the front; the sections one by one, each where nothing before it is refused; bytes left over; the whole
+-- check.
 use mathlib.Core.Path.{_≡_, refl, ap, _∙_}
 use mathlib.Core.Bool.{Bool, true, false, _&&_, and-eq-true-iff}
 use mathlib.Core.List.{List, _++_}
@@ -174,6 +176,7 @@ module _ (front rest : List ℕ) (long : 5975 ≤ length front) where
               let e = rules-end in
               rw (lt-leb (length whole) (rulesEnd whole) (omega arith), lt-leb (length front) (rulesEnd front) (omega arith))
 
+  -- A file is refused by the number that any front of it with at least 5,975 bytes is refused by.
   pub refusal-front : refusalOf whole ≡ refusalOf front
   unfolding refusalOf
   refusal-front =

@@ -18,9 +18,11 @@ module _ (input : List ℕ) where
   abbrev pub policyFrameRefusal : ℕ
   policyFrameRefusal = countRefusal input 0 5974
 
+  -- Where the policy ends.
   abbrev pub policyEnd : ℕ
   policyEnd = 2 + pairAt input 0
 
+  -- The bytes of the policy.
   abbrev pub policyPart : List ℕ
   policyPart = part input 2 (pairAt input 0)
 
@@ -28,12 +30,15 @@ module _ (input : List ℕ) where
   abbrev pub eventsStart : ℕ
   eventsStart = policyEnd + 2
 
+  -- Where the events end.
   abbrev pub eventsEnd : ℕ
   eventsEnd = eventsStart + pairAt input policyEnd
 
+  -- The refusal of the events' count and of their bytes, then 8 for bytes after them.
   abbrev pub eventsFrameRefusal : ℕ
   eventsFrameRefusal = countRefusal input policyEnd 16384 orElse unless (leb (length input) eventsEnd) 8
 
+  -- The bytes of the events.
   abbrev pub eventsPart : List ℕ
   eventsPart = part input eventsStart (pairAt input policyEnd)
 

@@ -45,6 +45,7 @@ events-fit input e =
     let none : length input ≤ eventsEnd input = leb-true _ _ (none-unless _ 7 .0 (a .1)) in
     (fits .0, omega (arith, fits .1))
 
+-- Events whose frame is not refused are at most 16,384.
 pub events-few : (input : List ℕ) → eventsFrameRefusal input ≡ 0 → length (eventsPart input) ≤ 16384
 events-few input e = simp length-take (omega (arith, events-fit input e))
 
@@ -54,6 +55,7 @@ record StandsIn (input : List ℕ) (at : ℕ) (bytes : List ℕ) : Type 0 where
   there : part input (at + 2) (length bytes) ≡ bytes
   within : at + 2 + length bytes ≤ length input
 
+-- Bytes after their count, which takes two bytes, the high one first.
 abbrev pub counted : List ℕ → List ℕ
 counted bytes = length bytes / 256 ∷ length bytes % 256 ∷ bytes
 
@@ -93,9 +95,11 @@ module _ (policy events : List ℕ) where
       subst (λ (at : ℕ). StandsIn (framed policy events) at events) policy-end
       (rw append-nil at (stands (counted policy) events []))
 
+  -- A policy of at most 5,974 bytes is read back from its frame.
   pub policy-read : length policy ≤ 5974 → (policyFrameRefusal (framed policy events) ≡ 0) × (policyPart (framed policy events) ≡ policy)
   policy-read h = (accepted 5974 policy-stands h, rw (policy-stands .count) (policy-stands .there))
 
+  -- Events of at most 16,384 bytes are read back from their frame.
   pub events-read : length events ≤ 16384 → (eventsFrameRefusal (framed policy events) ≡ 0) × (eventsPart (framed policy events) ≡ events)
   events-read h =
       let e = events-stand in

@@ -13,6 +13,7 @@ use Rattle.texts.specs.Decimal.{decimal-short}
 pub spaced-short : (n k : ℕ) → n < 10 ^ suc k → length (spaced n) ≤ k + 2
 spaced-short n k h = simp length-append (omega (arith, decimal-short n k h))
 
+-- The input and the output of an event byte take at most six bytes of a line.
 pub halves-short : (event : ℕ) → event < 256 → length (halves (event % 16) (event / 16)) ≤ 6
 halves-short e h =
     simp length-append (omega (arith, decimal-short (e % 16) 1 (omega arith), decimal-short (e / 16) 1 (omega arith)))

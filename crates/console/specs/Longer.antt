@@ -21,9 +21,11 @@ use Rattle.console.specs.OutcomeLaws.{events-refused, outcome-gives}
 use Rattle.console.specs.Printed.{lineOr, printed}
 
 module _ (front rest : List ℕ) where
+  -- A two-byte number that stands in the front is the same in the whole input.
   pub pair-front : (at : ℕ) → at + 1 < length front → pairAt (front ++ rest) at ≡ pairAt front at
   pair-front at h = rw (List·getD-append front rest 0 at (omega arith), List·getD-append front rest 0 (at + 1) h)
 
+  -- Bytes that stand in the front are the same in the whole input.
   pub part-front : (at n : ℕ) → at + n ≤ length front → part (front ++ rest) at n ≡ part front at n
   part-front at n h =
       let l : n ≤ length (drop at front) = simp length-drop (omega arith) in
@@ -72,6 +74,7 @@ module _ (front rest : List ℕ) where
       refusal-same reading =
           sym (events-refused reading (front ++ rest) (sym events-same) left-over) ∙ events-refused reading front refl left-over
 
+    -- The checks come to the same for the whole input and for a front of at least 22,363 bytes.
     pub outcome-front : (reading : ℕ) → outcome reading (front ++ rest) ≡ outcome reading front
     unfolding outcome
     outcome-front reading = rw (count-front 0 5974 (omega arith)) (go (inputRefusal front reading) refl)
@@ -92,6 +95,7 @@ module _ (front rest : List ℕ) where
         go (refused n) e = refl
         go (gives s) e = let p = outcome-gives reading front e in absurd (left-over (p .policy) (p .events))
 
+    -- `enforce` prints the same for both.
     pub printed-front : printed (front ++ rest) ≡ printed front
     unfolding printed
     printed-front = line-front 1 _ _

@@ -20,6 +20,7 @@ lent n = replicate n 0
 abbrev pub ranInto : (reading : ℕ) (policy events out : List ℕ) → RunAnswer
 ranInto reading policy events out = runOf reading policy (marksOf (policyOf reading policy)) (stateOf (start (policyOf reading policy))) events out
 
+-- The same run into a slice that is as long as the events.
 abbrev pub ranUnder : (reading : ℕ) (policy events : List ℕ) → RunAnswer
 ranUnder reading policy events = ranInto reading policy events (lent (length events))
 

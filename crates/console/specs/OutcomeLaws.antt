@@ -1,4 +1,6 @@
 -- What the code that checks an input promises, and by which ways it comes to the outcome.
+-- In order: what is known of the policy, of the events and of an input that passes; the promise; the events' refusal and the outcome, by the ways
+-- that the code takes; what is printed.
 use mathlib.Core.Path.{_≡_, refl, sym, ap, subst, _∙_}
 use mathlib.Core.List.{List, _++_}
 use Prim.Native.Nat.{ℕ, zero, suc, _≤_}
@@ -59,6 +61,7 @@ pub record Enforces (reading : ℕ) (input : List ℕ) (s : Summary) (marks rele
   pub marked : take (s .states) marks ≡ marksOf (policyOf reading (policyPart input))
   pub front : take (length (eventsPart input)) released ≡ ranUnder reading (policyPart input) (eventsPart input) .out
 
+-- What the code promises: its answer is the outcome, and where that is a summary the slices hold what they should.
 pub record OutcomePromise (reading : ℕ) (input : List ℕ) (r : Prepared) (marks released : List ℕ) : Type 0 where
   pub said : preparedSaid r ≡ outcome reading input
   pub enforces : (s : Summary) → r ≡ Prepared.Gives s → Enforces reading input s marks released
@@ -77,10 +80,12 @@ prepared-marks {reading} {file} {before} {after} {s} h =
       rw (← n, e) (take-at (marksOf p) _ _ (marks-length p)),
     )
 
+-- Where prepare gives a summary, the front of its slice has the marks of the input's policy.
 pub prepares : {reading : ℕ} {input file before after : List ℕ} {s : Summary} → file ≡ policyPart input →
     PreparePromise reading (policyPart input) before (Prepared.Gives s) after → Prepares reading input file (take (s .states) after)
 prepares e h = let m = prepared-marks h in record { part = e; passes = rw e (m .0); marked = rw e (m .2) }
 
+-- A lent slice of n bytes has the length n.
 pub lent-length : (n : ℕ) → length (lent n) ≡ n
 unfolding lent
 lent-length n = length-replicate n 0
@@ -112,6 +117,7 @@ module _ (reading : ℕ) (input : List ℕ) where
             (sym same) (run-front reading _ _ _ (eventsPart input) released _ room (lent-length (length (eventsPart input))));
       }
 
+  -- The outcome is a summary only where nothing is refused.
   pub outcome-gives : {s : Summary} → outcome reading input ≡ gives s → Passes reading input s
   unfolding outcome eventsRefusal
   outcome-gives {s} e = go (inputRefusal input reading) refl e
@@ -149,13 +155,16 @@ module _ (reading : ℕ) (input : List ℕ) where
     by-events : {s : Summary} {r : ℕ} → a ≡ Prepared.Gives s → r ≡ eventsRefusal reading input → outcome reading input ≡ answer r s
     by-events {s} g e = prepared ∙ ap (λ (z : Prepared). preparedSaid z andThen answer (eventsRefusal reading input)) g ∙ ap (λ (n : ℕ). answer n s) (sym e)
 
+    -- Prepare refuses, and that is the outcome.
     pub prepare-refuses : {n : ℕ} {released : List ℕ} → a ≡ Prepared.Refused n → OutcomePromise reading input (Prepared.Refused n) after released
     prepare-refuses g = refuses (sym (prepared ∙ ap (λ (z : Prepared). preparedSaid z andThen answer (eventsRefusal reading input)) g))
 
+    -- The events are refused, and that is the outcome.
     pub events-refuse : {s : Summary} {r : ℕ} {released : List ℕ} → a ≡ Prepared.Gives s → RanEvents reading input r released → (r ≡ 0 → ⊥) →
         OutcomePromise reading input (Prepared.Refused r) after released
     events-refuse {s} {r} g k n = refuses (sym (by-events g (k .refusal) ∙ answer-refused r s n))
 
+    -- The events are not refused: the outcome is the summary, and the released events stand in front.
     pub events-released : {s : Summary} {r : ℕ} {released : List ℕ} → a ≡ Prepared.Gives s → RanEvents reading input r released → r ≡ 0 →
         OutcomePromise reading input (Prepared.Gives s) after released
     events-released {s} {r} {released} g k z =
@@ -170,10 +179,12 @@ module _ (reading : ℕ) (input : List ℕ) where
 
 -- What is printed of it.
 module _ (input : List ℕ) where
+  -- Where the outcome under reading 1 is a refusal, its line is all that is printed.
   pub printed-refused : {n : ℕ} → refused n ≡ outcome 1 input → printed input ≡ refusedLine n
   unfolding printed
   printed-refused e = rw (← e)
 
+  -- Where it is a summary, the verdict's line and one for each event are printed.
   pub printed-lines : {s : Summary} {marks released : List ℕ} → Enforces 1 input s marks released → printed input ≡ summaryLines s (eventsPart input) released
   unfolding printed
   printed-lines {s} {released = released} k =

@@ -26,5 +26,6 @@ ranOver policy events = ranUnder 1 policy events
 abbrev pub summaryLines : Summary → (events released : List ℕ) → List ℕ
 summaryLines s events released = verdictLine (s .verdict) (s .states) (s .live) ++ tickLines 1 events released
 
+-- All that `enforce` prints for an input.
 unfoldable pub printed : (input : List ℕ) → List ℕ
 printed input = lineOr (outcome 1 input) (λ s. summaryLines s (eventsPart input) (ranOver (policyPart input) (eventsPart input) .out))

@@ -25,6 +25,7 @@ none-named [] h = refl
 none-named (b ∷ []) h = absurd (h refl)
 none-named (b ∷ c ∷ bytes) h = refl
 
+-- A word of one byte names the number that its digit says.
 pub one-named : (word : List ℕ) → length word ≡ 1 → readingOf word ≡ getD word 0 0 - code "0"
 one-named [] h = absurd (omega arith)
 one-named (b ∷ []) h = refl
@@ -32,6 +33,7 @@ one-named (b ∷ c ∷ bytes) h = absurd (omega arith)
 
 -- The reading that is told, by how many words there are.
 module _ (words : ℕ) (word : List ℕ) where
+  -- With no word after its name a program uses reading 1.
   pub told-first : words < 2 → readingTold words word ≡ 1
   told-first h = go words h
     where
@@ -40,6 +42,7 @@ module _ (words : ℕ) (word : List ℕ) where
       go (suc zero) h = refl
       go (suc (suc n)) h = absurd (omega arith)
 
+  -- With two words or more after its name no reading is told.
   pub told-none : 2 < words → readingTold words word ≡ 0
   told-none h = go words h
     where
@@ -49,5 +52,6 @@ module _ (words : ℕ) (word : List ℕ) where
       go (suc (suc zero)) h = absurd (omega arith)
       go (suc (suc (suc n))) h = refl
 
+  -- With one word after its name, that word tells the reading.
   pub told-one : words ≡ 2 → readingTold words word ≡ readingOf word
   told-one e = rw e

@@ -15,6 +15,7 @@ pub record Replied (before bytes : List ℕ) (r : ℕ) (after : List ℕ) : Type
   pub within : r ≤ length after
   pub counted : r ≡ length (take r after)
 
+-- Bytes that were written from the front of a text that keeps its length are a reply.
 pub replied : {before bytes after : List ℕ} {r : ℕ} → Wrote before 0 bytes r after → length after ≡ length before → Replied before bytes r after
 replied {after = after} {r = r} w e =
     let h : r ≤ length after = omega (arith, wrote-within zero-le w e) in record { wrote = w; within = h; counted = sym (length-take-le r after h) }
@@ -23,5 +24,6 @@ replied {after = after} {r = r} w e =
 pub replied-front : {before bytes after : List ℕ} {r : ℕ} → Replied before bytes r after → take r after ≡ bytes
 replied-front k = wrote-front zero-le (k .wrote)
 
+-- One number and one later text alone are the reply.
 pub replied-one : {before bytes after also : List ℕ} {r q : ℕ} → Replied before bytes r after → Replied before bytes q also → (r ≡ q) × (after ≡ also)
 replied-one k l = wrote-one (k .wrote) (l .wrote)

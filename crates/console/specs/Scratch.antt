@@ -45,6 +45,7 @@ moving true e = absurd (omega arith)
 moving false e = refl
 
 module _ (reading : ℕ) (file marks : List ℕ) (s : State) (events a b : List ℕ) where
+  -- A run is refused by the same number with any two slices that have room for the events.
   pub run-alike : length events ≤ length a → length events ≤ length b →
       runOf reading file marks s events a .refusal ≡ runOf reading file marks s events b .refusal
   unfolding runOf runRefusal

@@ -11,6 +11,7 @@ use Rattle.texts.specs.Text.{ascii, decimal}
 abbrev pub labelled : String → ℕ → List ℕ
 labelled label n = ascii label ++ decimal n
 
+-- A number and the space after it.
 abbrev pub spaced : ℕ → List ℕ
 spaced n = decimal n ++ ascii " "
 
@@ -31,6 +32,7 @@ letter given released = cond (eqb given released) (code "F") (code "E")
 abbrev pub halves : (x y : ℕ) → List ℕ
 halves x y = spaced x ++ spaced y
 
+-- The line of one tick: its number, x and y, what was released for them, and two letters.
 unfoldable pub tickLine : (tick x y x′ y′ : ℕ) → List ℕ
 tickLine tick x y x′ y′ =
     spaced tick ++ halves x y ++ halves x′ y′ ++ (letter x x′ ∷ letter y y′ ∷ ascii "\n")

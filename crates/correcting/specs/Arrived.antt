@@ -40,6 +40,7 @@ module _ (p : Policy) (marks : List ℕ) (s : Place) (x y : ℕ) where
 
   -- By the answer r, whether the event reaches a marked place, and which.
   module _ (t : State) {r : Step} (e : r ≡ stepFrom t arrival) where
+    -- The step counts exactly if the event reaches a marked place.
     pub arrival-says : r .permitted ≡ reaches p marks s x y
     unfolding arrival reaches
     arrival-says = ap (λ (z : Step). z .permitted) e ∙ go (step stopped p s (eventXY x y))
@@ -52,6 +53,7 @@ module _ (p : Policy) (marks : List ℕ) (s : Place) (x y : ℕ) where
         go none = refl
         go (some u) = marked u (arrives p marks (some u))
 
+    -- A step that counts leads where the policy's step does.
     pub arrival-some : r .permitted ≡ true → (u : Place) × (step stopped p s (eventXY x y) ≡ some u) × (r .state ≡ stateOf u)
     unfolding arrival
     arrival-some h = go (step stopped p s (eventXY x y)) (reaches p marks s x y) e
@@ -63,21 +65,25 @@ module _ (p : Policy) (marks : List ℕ) (s : Place) (x y : ℕ) where
 
   -- An output that with x reaches a marked place is kept, and so is x.
   module _ (l : y < outputValues p) (r : reaches p marks s x y ≡ true) where
+    -- The output half releases y as it was read.
     pub output-kept : {u : Place} → step stopped p s (eventXY x y) ≡ some u → outputTick p marks s x y ≡ some (record { event = eventXY x y; place = u })
     unfolding outputChoice
     output-kept e = let o = output-chosen p marks s x y (nearest-kept (reaches p marks s x) y (outputValues p) l r) in o .2 ∙ cc (o .1)
 
+    -- The input half keeps x, so the tick is that of the output half.
     pub input-kept : x < inputValues p → tick p marks s (eventXY x y) ≡ outputTick p marks s x y
     unfolding tick inputChoice mayStand bind
     input-kept h = rw (nearest-kept (mayStand p marks s) x (inputValues p) h (some-has (reaches p marks s x) (outputValues p) y l r))
 
   -- So an event that arrives is released as it was read, by the output half alone and by both.
   module _ (t : State) {r : Step} (e : r ≡ stepFrom t arrival) (h : r .permitted ≡ true) (l : y < outputValues p) where
+    -- The output half answers with the event as it was read.
     pub output-as-read : _≡_ {A = Ticked} (record { state = r .state; released = true; x = x; y = y }) (tickFrom t (outputTick p marks s x y))
     output-as-read =
         let u = arrival-some t e h in
         rw (output-kept l (sym (arrival-says t e) ∙ h) (u .1)) (ap (λ (z : State). record { state = z; released = true; x = x; y = y }) (u .2))
 
+    -- Both halves together answer with the event as it was read.
     pub tick-as-read : x < inputValues p →
         _≡_ {A = Ticked} (record { state = r .state; released = true; x = x; y = y }) (tickFrom t (tick p marks s (eventXY x y)))
     tick-as-read k = rw (input-kept l (sym (arrival-says t e) ∙ h) k) output-as-read

@@ -15,12 +15,14 @@ use Rattle.stepping.specs.Ways.{allowed, row}
 use Rattle.stepping.specs.WaysLaws.{allowed-stands, row-has}
 
 module _ (p : Policy) (k : WellFormed p) (marks : List ℕ) (s : Place) where
+  -- The nearest input whose set is not empty is the one that the input half chooses.
   pub sets-chosen : (sets : List ℕ) (all : ℕ) → ((x : ℕ) → getD sets x 0 ≡ allowed p marks s x) → ((x : ℕ) → has all x ≡ ltb 0 (getD sets x 0)) → (x : ℕ) →
       nearest (has all) x (inputValues p) ≡ inputChoice p marks s x
   unfolding inputChoice
   sets-chosen sets all e h x =
       nearest-ext (has all) (mayStand p marks s) x (inputValues p) (λ z l. h z ∙ ap (ltb 0) (e z) ∙ sym (allowed-stands p k marks s z l))
 
+  -- The nearest output in the row of x is the one that the output half chooses.
   pub row-chosen : (set x : ℕ) → set ≡ row p marks s x → (y : ℕ) → nearest (has set) y (outputValues p) ≡ outputChoice p marks s x y
   unfolding outputChoice
   row-chosen set x e y =

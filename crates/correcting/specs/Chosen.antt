@@ -12,6 +12,7 @@ use Rattle.stepping.specs.State.{stateOf}
 use Rattle.stepping.specs.declared.state.State.{State}
 use Rattle.correcting.specs.declared.tick.Ticked.{Ticked}
 
+-- The code's answer for a tick; where there is none, the state stays.
 abbrev pub tickFrom : State → Option Spec.ReleasedTick → Ticked
 tickFrom s none = record { released = false; x = 0; y = 0; state = s }
 tickFrom s (some t) = record { released = true; x = t .event .x; y = t .event .y; state = stateOf (t .place) }
@@ -30,6 +31,7 @@ output-chosen p marks s x y {z} e = rw e (go (step stopped p s (eventXY x z)) (n
 
 -- By the answer r of a tick, whether there is one, and which.
 module _ (s : State) (o : Option Spec.ReleasedTick) {r : Ticked} (e : r ≡ tickFrom s o) where
+  -- Nothing is released: there is no tick.
   pub tick-none : r .released ≡ false → o ≡ none
   tick-none n = go o e
     where
@@ -37,6 +39,7 @@ module _ (s : State) (o : Option Spec.ReleasedTick) {r : Ticked} (e : r ≡ tick
       go none q = refl
       go (some t) q = absurd (false≢true (sym n ∙ ap (λ (z : Ticked). z .released) q))
 
+  -- Something is released: there is a tick, and the answer says it.
   pub tick-some : r .released ≡ true → (t : Spec.ReleasedTick) × (o ≡ some t) × (r ≡ tickFrom s (some t))
   tick-some y = go o e
     where

@@ -62,6 +62,7 @@ distinct before (tag ∷ tags) e =
     ((l .1, d .0), (k .new, l .0))
 
 module _ (f : List ℕ) where
+  -- A checked file has at most four signals of each kind, with no tag below `A` and none twice.
   pub signals : refusalOf f ≡ 0 → SignalsGood (inputTags f) (outputTags f)
   signals e =
       let p = passed f e in
@@ -83,11 +84,13 @@ module _ (f : List ℕ) where
   fits-good : (e : ℕ) → EventFits (inputTags f) (outputTags f) e → eventGood f e ≡ true
   fits-good e g = rw (lt-ltb _ _ (g .x), lt-ltb _ _ (g .y))
 
+  -- Events that pass the test have no bit beyond the signals.
   pub all-fit : (events : List ℕ) → allPass (eventGood f) events ≡ true → AllFit (inputTags f) (outputTags f) events
   unfolding allPass AllFit
   all-fit [] e = tt
   all-fit (a ∷ events) e = let k = and-eq-true-iff (eventGood f a) _ .0 e in (good-fits a (k .0), all-fit events (k .1))
 
+  -- Events with no bit beyond the signals pass the test.
   pub fit-all : (events : List ℕ) → AllFit (inputTags f) (outputTags f) events → allPass (eventGood f) events ≡ true
   unfolding allPass AllFit
   fit-all [] a = refl

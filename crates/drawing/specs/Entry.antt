@@ -20,6 +20,7 @@ module _ (file : List ℕ) where
   abbrev pub eventGood : ℕ → Bool
   eventGood e = ltb (e % 16) (2 ^ length (inputTags file)) && ltb (e / 16) (2 ^ length (outputTags file))
 
+  -- The text of a stream, with the tags of the file.
   abbrev pub textOf : List ℕ → List ℕ
   textOf events = waveText (inputTags file) (outputTags file) events
 

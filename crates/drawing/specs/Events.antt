@@ -1,4 +1,6 @@
 -- How the lines of an event are read: inputs, then outputs.
+-- In order: what is shown of values; what two events differ in; checked signals and events that fit them; `readEvent`, that what it reads stands there,
+-- and that what stands there is read; the same at time 0.
 use mathlib.Core.Path.{_≡_, refl, sym, ap, _∙_}
 use mathlib.Core.Bool.{Bool, true, false, cond}
 use mathlib.Core.List.{List, [], _∷_, _++_, append-assoc}
@@ -53,6 +55,7 @@ differ-bit (suc zero) (suc zero) h l = (omega arith, refl)
 differ-bit (suc zero) (suc (suc y)) h l = absurd (omega arith)
 differ-bit (suc (suc x)) y h l = absurd (omega arith)
 
+-- What two numbers differ in, changed in the one, gives the other.
 pub xor-back : (a b : ℕ) → bitXor a (bitXor a b) ≡ b
 xor-back = bin-ind (λ (a : ℕ). (b : ℕ) → bitXor a (bitXor a b) ≡ b) (λ b. xor-zero-l b) step
   where
@@ -82,6 +85,7 @@ pub record EventFits (inputs outputs : List ℕ) (event : ℕ) : Type 0 where
   pub x : event % 16 < 2 ^ length inputs
   pub y : event / 16 < 2 ^ length outputs
 
+-- Up to four signals have at least 1 and at most 16 values.
 pub few-values : (tags : List ℕ) → length tags ≤ 4 → (0 < 2 ^ length tags) × (2 ^ length tags ≤ 16)
 few-values tags h =
     let p = pow-le-pow-right {n = 2} (omega arith) {i = 0} {j = length tags} (omega arith) in
@@ -95,6 +99,7 @@ module _ (inputs outputs : List ℕ) where
   abbrev bothLines : LinesThere → LinesThere → LinesThere
   bothLines l m = record { shown = l .shown + 16 * m .shown; values = l .values + 16 * m .values; rest = m .rest }
 
+  -- The lines of the inputs, then those of the outputs, read from the front of a text.
   unfoldable pub readEvent : List ℕ → LinesThere
   readEvent text = bothLines (readLines inputs text) (readLines outputs (readLines inputs text .rest))
 
@@ -105,6 +110,7 @@ module _ (inputs outputs : List ℕ) where
     ys : (0 < 2 ^ length outputs) × (2 ^ length outputs ≤ 16)
     ys = few-values outputs (s .fewOut)
 
+    -- No bit of what is read is beyond the signals.
     pub event-bound : (text : List ℕ) → EventFits inputs outputs (readEvent text .shown) × EventFits inputs outputs (readEvent text .values)
     unfolding readEvent
     event-bound text =
@@ -164,10 +170,12 @@ module _ (inputs outputs : List ℕ) where
         let d : bitAnd event everySignal / 16 ≡ event / 16 % 2 ^ length outputs = and-shr event everySignal 4 ∙ rw b (and-mask (event / 16) (length outputs)) in
         omega (arith, mod-eq-of-lt (f .x), mod-eq-of-lt (f .y))
 
+    -- The lines of time 0 are read as a line for every signal, with the event as it is.
     pub first-complete : (event : ℕ) (rest : List ℕ) → EventFits inputs outputs event → Apart inputs rest → Apart outputs rest →
         readEvent (eventLines inputs outputs 255 event ++ rest) ≡ record { shown = everySignal; values = event; rest = rest }
     first-complete event rest f a b = rw (every-shown event, event-complete everySignal event rest every-fits a b, every-value event f)
 
+    -- Where every signal has a line, these are the lines of time 0 for the event that is read.
     pub first-sound : (text : List ℕ) → readEvent text .shown ≡ everySignal →
         text ≡ eventLines inputs outputs 255 (readEvent text .values) ++ readEvent text .rest
     first-sound text e = rw (every-shown (readEvent text .values), ← e) (event-sound text)

@@ -1,4 +1,6 @@
 -- How long the lines are; what is shown decides, and not the values.
+-- In order: lines of values, of a time and of declarations; of an event and of a change; the later lines; the whole text, its parts, its least length
+-- and its greatest.
 use mathlib.Core.Path.{_≡_, refl, sym, ap, _∙_}
 use mathlib.Core.Bool.{Bool, true, false, cond}
 use mathlib.Core.List.{List, [], _∷_, _++_}
@@ -22,6 +24,7 @@ line-length tag shown values = go (eqb (shown % 2) 1) refl
     go true e = omega (arith, eqb-true (shown % 2) 1 e)
     go false e = omega (arith, eqb-false (shown % 2) 1 e)
 
+-- From signal i on: three bytes if it is shown, and the lines of the later signals.
 pub values-length-turn : (tags : List ℕ) (i shown : ℕ) → i < length tags →
     length (valueLines (drop i tags) shown 0) ≡ shown % 2 * 3 + length (valueLines (drop (i + 1) tags) (shown / 2) 0)
 values-length-turn tags i shown h =
@@ -47,12 +50,14 @@ values-most (tag ∷ tags) shown values =
 time-most : (time : ℕ) → time ≤ 16384 → length (timeLine time) ≤ 7
 time-most time h = omega (arith, time-length time, decimal-short time 4 (omega arith))
 
+-- The line that declares a signal has 21 bytes.
 pub vars-length : (tags : List ℕ) → length (varLines tags) ≡ 21 * length tags
 unfolding varLines
 vars-length [] = refl
 vars-length (tag ∷ tags) = omega (arith, vars-length tags, length-append (varLine tag) (varLines tags))
 
 module _ (inputs outputs : List ℕ) where
+  -- What is shown of an event decides how long its lines are, not the values.
   pub event-same : (shown event : ℕ) → length (eventLines inputs outputs shown event) ≡ length (eventLines inputs outputs shown 0)
   event-same shown event =
       omega (arith, event-length inputs outputs shown event, event-length inputs outputs shown 0, values-length inputs (shown % 16) (event % 16), values-length outputs (shown / 16) (event / 16))
@@ -65,6 +70,7 @@ module _ (inputs outputs : List ℕ) where
       go false =
           omega (arith, event-same shown event, length-append (timeLine time) (eventLines inputs outputs shown event), length-append (timeLine time) (eventLines inputs outputs shown 0))
 
+  -- A change has a time line and the lines of the signals that change.
   pub change-long : (time shown event : ℕ) → (shown ≡ 0 → ⊥) →
       length (changeLines inputs outputs time shown event) ≡ length (timeLine time) + length (eventLines inputs outputs shown event)
   change-long time shown event h = rw (ne-eqb shown 0 h) (length-append (timeLine time) (eventLines inputs outputs shown event))
@@ -76,6 +82,7 @@ module _ (inputs outputs : List ℕ) where
   unfolding laterLines
   later-turn events i before h = rw (drop-cons events i 0 h, add-one)
 
+  -- From event i on: the length of its change, and the length from the next event on.
   pub later-length-turn : (events : List ℕ) (i before : ℕ) → i < length events →
       let e = getD events i 0 in
       length (laterLines inputs outputs i before (drop i events))
@@ -86,13 +93,16 @@ module _ (inputs outputs : List ℕ) where
       ∙ length-append (changeLines inputs outputs i (bitXor before e) e) (laterLines inputs outputs (i + 1) e (drop (i + 1) events))
       ∙ rw (change-same i (bitXor before e) e)
 
+  -- After the last event the closing time line alone is left.
   pub later-end : (events : List ℕ) (i before : ℕ) → length events ≤ i → laterLines inputs outputs i before (drop i events) ≡ timeLine i
   unfolding laterLines
   later-end events i before h = rw (drop-of-length-le events h)
 
+  -- The opening has 47 bytes, and 21 for each signal.
   pub opening-long : length (opening inputs outputs) ≡ 47 + 21 * length inputs + 21 * length outputs
   opening-long = omega (arith, opening-length inputs outputs, vars-length inputs, vars-length outputs, time-length 0, ap length (decimal-one 0 (omega arith)))
 
+  -- A text with events has the opening, a line for each signal at time 0, and the later lines.
   pub text-long : (events : List ℕ) → 0 < length events →
       length (waveText inputs outputs events)
       ≡ length (opening inputs outputs) + length (eventLines inputs outputs 255 0) + length (laterLines inputs outputs 1 (getD events 0 0) (drop 1 events))
@@ -108,11 +118,13 @@ module _ (inputs outputs : List ℕ) where
   text-parts [] h = absurd (omega arith)
   text-parts (e ∷ events) h = refl
 
+  -- A stream without events has the opening as its text.
   pub text-empty : (events : List ℕ) → length events ≡ 0 → waveText inputs outputs events ≡ opening inputs outputs
   unfolding waveText
   text-empty [] e = refl
   text-empty (a ∷ events) e = absurd (omega arith)
 
+  -- No text is shorter than the opening.
   pub text-least : (events : List ℕ) → length (opening inputs outputs) ≤ length (waveText inputs outputs events)
   text-least [] = omega (arith, ap length text-empty-none)
     where
@@ -145,6 +157,7 @@ module _ (inputs outputs : List ℕ) where
           later-most (time + 1) e events (omega arith),
         )
 
+    -- With four inputs and four outputs at most, a text of 16,384 events at most has no more than 508,119 bytes.
     pub text-most : (events : List ℕ) → length events ≤ 16384 → length (waveText inputs outputs events) ≤ 508119
     text-most [] h = omega (arith, ap length (text-none inputs outputs), opening-long)
     text-most (e ∷ events) h =

@@ -1,4 +1,6 @@
 -- The lines after time 0: the next time that stands there, with a change or as the last, and what each stream's lines begin with.
+-- In order: the reader of one step (`stepIn`); how the later lines of a stream begin (`split`); that a step which stands there is read, and that the
+-- one which is read stands there (`step-says`); that two streams with the same later lines are the same (`later-one`).
 use mathlib.Core.Path.{_≡_, refl, sym, ap, _∙_}
 use mathlib.Core.Bool.{Bool, true, false, cond, not, _&&_, and-eq-true-iff}
 use mathlib.Core.List.{List, [], _∷_, _++_, append-assoc, append-nil}
@@ -29,18 +31,22 @@ AllFit inputs outputs [] = Unit {0}
 AllFit inputs outputs (e ∷ events) = EventFits inputs outputs e × AllFit inputs outputs events
 
 module _ (inputs outputs : List ℕ) where
+  -- A change by the lines that are read: some signal has one, and each says another value than before.
   abbrev pub changeBy : (time before : ℕ) → LinesThere → ReadStep
   changeBy time before l =
       cond (not (eqb (l .shown) 0) && eqb (bitAnd (bitXor before (l .shown)) (l .shown)) (l .values))
       (changes time (bitXor before (l .shown)) (l .rest)) bad
 
+  -- What follows a time line: the end of the text, so that it is the closing one, or a change.
   abbrev pub stepAfter : (time before : ℕ) → List ℕ → ReadStep
   stepAfter time before [] = closes time
   stepAfter time before (b ∷ rest) = changeBy time before (readEvent inputs outputs (b ∷ rest))
 
+  -- A step by the time line that is read: its time is not before `from`.
   abbrev pub stepBy : (from before : ℕ) → Timed → ReadStep
   stepBy from before t = cond (t .good && leb from (t .time)) (stepAfter (t .time) before (t .rest)) bad
 
+  -- The step at the front of a text, after the event `before` and at the time `from` or later.
   unfoldable pub stepIn : (from before : ℕ) → List ℕ → ReadStep
   stepIn from before text = stepBy from before (readTime text)
 
@@ -60,6 +66,7 @@ module _ (inputs outputs : List ℕ) where
     pub lines : laterLines inputs outputs time before events
         ≡ timeLine (time + times) ++ (eventLines inputs outputs (bitXor before event) event ++ laterLines inputs outputs (time + times + 1) event later)
 
+  -- The later events are all as the one before, or some are and then comes another.
   pub split : (time before : ℕ) (events : List ℕ) → Closing time before events ⊎ Changing time before events
   unfolding laterLines
   split time before [] = inl (record { times = 0; same = refl; lines = rw add-zero })
@@ -100,6 +107,7 @@ module _ (inputs outputs : List ℕ) where
       let a : time + 1 + n ≡ time + suc n = omega arith in
       rw (xor-self, closing-lines (time + 1) before n, a)
 
+  -- Where another event comes after n equal ones, the lines begin with its time and what changes.
   pub changing-lines : (time before n event : ℕ) (events : List ℕ) → (bitXor before event ≡ 0 → ⊥) →
       laterLines inputs outputs time before (replicate n before ++ event ∷ events)
       ≡ timeLine (time + n) ++ (eventLines inputs outputs (bitXor before event) event ++ laterLines inputs outputs (time + n + 1) event events)
@@ -119,12 +127,14 @@ module _ (inputs outputs : List ℕ) where
         let l : getD (decimal n ++ 10 ∷ rest) 0 0 < 65 = rw f (omega arith) in
         rw append-assoc (s .capitalIn _ l, s .capitalOut _ l)
 
+    -- The second byte of the later lines is no tag, so they begin with no line of a value.
     pub later-apart : (time before : ℕ) (events : List ℕ) →
         Apart inputs (laterLines inputs outputs time before events) × Apart outputs (laterLines inputs outputs time before events)
     later-apart time before events =
         ⊎-elim (λ k. rw (k .lines, ← append-nil (timeLine (time + k .times))) (time-apart (time + k .times) []))
         (λ k. rw (k .lines) (time-apart (time + k .times) _)) (split time before events)
 
+    -- The later lines are never empty.
     pub later-some : (time before : ℕ) (events : List ℕ) → 0 < length (laterLines inputs outputs time before events)
     unfolding timeLine
     later-some time before events =
@@ -136,6 +146,7 @@ module _ (inputs outputs : List ℕ) where
     closing-read from before n h =
         rw (← append-nil (timeLine (from + n)), time-complete (from + n) [] h, le-leb from (from + n) (omega arith))
 
+    -- A change is read as its time, the event that begins there, and the lines after it.
     pub changing-read : (from before n event : ℕ) (events : List ℕ) → from + n ≤ 16384 → EventFits inputs outputs before → EventFits inputs outputs event →
         (bitXor before event ≡ 0 → ⊥) →
         let rest = laterLines inputs outputs (from + n + 1) event events in
@@ -169,6 +180,7 @@ module _ (inputs outputs : List ℕ) where
         (text ≡ timeLine n ++ (eventLines inputs outputs (bitXor before e) e ++ rest)) × (from ≤ n) × (n ≤ 16384) × (bitXor before e ≡ 0 → ⊥)
         × EventFits inputs outputs e
 
+    -- A step that is read stands at the front of the text.
     pub step-says : (from before : ℕ) (text : List ℕ) → EventFits inputs outputs before → Says from before text (stepIn from before text)
     unfolding stepIn
     step-says from before text f = go (readTime text .good && leb from (readTime text .time)) refl (readTime text .rest) refl
@@ -224,6 +236,7 @@ module _ (inputs outputs : List ℕ) where
       pub closing : Closing from before events
       pub read : stepIn from before (laterLines inputs outputs from before events) ≡ closes (from + closing .times)
 
+    -- The lines begin with a change and are read so; the events after it fit, and no time is above 16,384.
     pub record ReadChanging (from before : ℕ) (events : List ℕ) : Type 0 where
       pub changing : Changing from before events
       pub read : stepIn from before (laterLines inputs outputs from before events)
@@ -232,6 +245,7 @@ module _ (inputs outputs : List ℕ) where
       pub laterFit : AllFit inputs outputs (changing .later)
       pub few : from + changing .times + 1 + length (changing .later) ≤ 16384
 
+    -- The later lines of a stream are read as the closing time or as a change.
     pub later-read : (from before : ℕ) (events : List ℕ) → from + length events ≤ 16384 → EventFits inputs outputs before → AllFit inputs outputs events →
         ReadClosing from before events ⊎ ReadChanging from before events
     later-read from before events h f a = ⊎-elim close change (split from before events)
@@ -266,6 +280,7 @@ module _ (inputs outputs : List ℕ) where
     alike from before es others e more (inr k) (inl j) = let x = sym (k .read) ∙ ap (stepIn from before) e ∙ j .read in cc
     alike from before es others e more (inr k) (inr j) = more k j
 
+    -- Two streams of fitting events that have the same later lines have the same later events.
     pub later-one : (n from before : ℕ) (es others : List ℕ) → length es ≤ n → from + length es ≤ 16384 → from + length others ≤ 16384 →
         EventFits inputs outputs before → AllFit inputs outputs es → AllFit inputs outputs others →
         laterLines inputs outputs from before es ≡ laterLines inputs outputs from before others → es ≡ others

@@ -19,13 +19,16 @@ module _ (inputs outputs : List ℕ) where
   abbrev pub opening : List ℕ
   opening = header inputs outputs ++ timeLine 0
 
+  -- What follows the opening where there are events: the lines of time 0, then the later lines.
   abbrev pub body : ℕ → List ℕ → List ℕ
   body e events = eventLines inputs outputs 255 e ++ laterLines inputs outputs 1 e events
 
+  -- The text of a stream with events is the opening and the body.
   pub text-some : (e : ℕ) (events : List ℕ) → waveText inputs outputs (e ∷ events) ≡ opening ++ body e events
   unfolding waveText
   text-some e events = append-assoc opening (eventLines inputs outputs 255 e) (laterLines inputs outputs 1 e events)
 
+  -- The text of a stream without events is the opening.
   pub text-none : waveText inputs outputs [] ≡ opening
   unfolding waveText
   text-none = refl
@@ -43,6 +46,7 @@ module _ (inputs outputs : List ℕ) where
         let b = length-append (eventLines inputs outputs 255 e) (laterLines inputs outputs 1 e events) in
         omega (arith, ap length q, length-append opening (body e events), later-some inputs outputs s 1 e events)
 
+    -- Two streams of at most 16,384 fitting events that have the same text are the same.
     pub text-one : (es others : List ℕ) → length es ≤ 16384 → length others ≤ 16384 → AllFit inputs outputs es → AllFit inputs outputs others →
         waveText inputs outputs es ≡ waveText inputs outputs others → es ≡ others
     unfolding AllFit

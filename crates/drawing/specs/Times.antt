@@ -1,4 +1,5 @@
 -- How a time line is read from the front of a text: its number, in decimal without leading zeros and at most 16,384, and what stands after it.
+-- In order: the reader (`readTime`); that a time line which is read stands there (`time-sound`); that one which stands there is read (`time-complete`).
 use mathlib.Core.Path.{_≡_, refl, sym, ap, _∙_}
 use mathlib.Core.Bool.{Bool, true, false, cond, _&&_, and-eq-true-iff, and-false, false≢true}
 use mathlib.Core.List.{List, [], _∷_, _++_, append-assoc}
@@ -11,9 +12,11 @@ use Rattle.texts.specs.Text.{digit, decimal}
 use Rattle.texts.specs.Decimal.{decimal-one, decimal-more, by-digits, digits-alone, no-leading-zero}
 use Rattle.drawing.specs.Wave.{timeLine}
 
+-- The byte is one of `0` to `9`.
 abbrev pub isDigit : ℕ → Bool
 isDigit b = leb 48 b && leb b 57
 
+-- A number at the front of a text, and what stands after it.
 pub record NumberThere : Type 0 where
   pub value : ℕ
   pub rest : List ℕ
@@ -22,21 +25,26 @@ pub record NumberThere : Type 0 where
 abbrev pub goesOn : (v digit : ℕ) → Bool
 goesOn v d = leb 1 v && (leb v 16384 && isDigit d)
 
+-- The number of which v is known, with its further digits at the front of a text.
 unfoldable pub readDigits : ℕ → List ℕ → NumberThere
 readDigits v [] = record { value = v; rest = [] }
 readDigits v (d ∷ ds) = cond (goesOn v d) (readDigits (v * 10 + (d - 48)) ds) (record { value = v; rest = d ∷ ds })
 
+-- Whether a time line stands at the front of a text, its time, and what stands after it.
 pub record Timed : Type 0 where
   pub good : Bool
   pub time : ℕ
   pub rest : List ℕ
 
+-- No time line stands there.
 abbrev pub untimed : Timed
 untimed = record { good = false; time = 0; rest = [] }
 
+-- A time line by its number: it is at most 16,384, and a line feed follows.
 abbrev pub timedBy : NumberThere → Timed
 timedBy n = cond (leb (n .value) 16384 && eqb (getD (n .rest) 0 0) 10) (record { good = true; time = n .value; rest = drop 1 (n .rest) }) untimed
 
+-- The time line at the front of a text, if one stands there: `#`, a number, a line feed.
 unfoldable pub readTime : List ℕ → Timed
 readTime text =
     cond (eqb (getD text 0 0) 35 && isDigit (getD text 1 0)) (timedBy (readDigits (getD text 1 0 - 48) (drop 2 text))) untimed

@@ -1,4 +1,6 @@
 -- How the lines of values are read from the front of a text: which signals have a line there, what it says, and what stands after the lines.
+-- In order: the reader (`readLines`); that lines which are read stand there (`lines-sound`); tags that stand apart; that lines which stand there are
+-- read (`lines-complete`).
 use mathlib.Core.Path.{_≡_, refl, sym}
 use mathlib.Core.Bool.{Bool, true, false, cond, _&&_, _||_, and-eq-true-iff, and-false, false≢true}
 use mathlib.Core.List.{List, [], _∷_, _++_}
@@ -11,6 +13,7 @@ use borrow.Author.Tests.{leb-true, eqb-true, eqb-false, le-leb, eq-eqb, ne-eqb}
 use Rattle.policy.specs.Check.{among}
 use Rattle.drawing.specs.Wave.{valueLines}
 
+-- Which signals have a line at the front of a text, what the lines say, and what stands after them.
 pub record LinesThere : Type 0 where
   pub shown : ℕ
   pub values : ℕ
@@ -20,12 +23,15 @@ pub record LinesThere : Type 0 where
 abbrev pub lineOf : ℕ → List ℕ → Bool
 lineOf tag text = leb 48 (getD text 0 0) && (leb (getD text 0 0) 49 && (eqb (getD text 1 0) tag && eqb (getD text 2 0) 10))
 
+-- A signal with a line of the value v, before the lines of the later signals.
 abbrev pub withLine : ℕ → LinesThere → LinesThere
 withLine v l = record { shown = 1 + 2 * l .shown; values = v + 2 * l .values; rest = l .rest }
 
+-- A signal without a line, before the lines of the later signals.
 abbrev pub withoutLine : LinesThere → LinesThere
 withoutLine l = record { shown = 2 * l .shown; values = 2 * l .values; rest = l .rest }
 
+-- The lines of the signals with these tags, in their order, at the front of a text.
 unfoldable pub readLines : List ℕ → List ℕ → LinesThere
 readLines [] text = record { shown = 0; values = 0; rest = text }
 readLines (tag ∷ tags) text =
@@ -43,6 +49,7 @@ pub record Line (tag : ℕ) (text : List ℕ) : Type 0 where
   pub high : getD text 0 0 ≤ 49
   pub stands : text ≡ getD text 0 0 ∷ tag ∷ 10 ∷ drop 3 text
 
+-- If the test of a line passes, a line of the signal stands at the front.
 pub line-there : (tag : ℕ) (text : List ℕ) → lineOf tag text ≡ true → Line tag text
 line-there tag text e =
     let a = and-eq-true-iff (leb 48 (getD text 0 0)) _ .0 e in
@@ -101,6 +108,7 @@ lines-bound (tag ∷ tags) text = go (lineOf tag text) refl (lines-bound tags (d
 abbrev pub Apart : List ℕ → List ℕ → Type 0
 Apart tags text = among (getD text 1 0) tags ≡ false
 
+-- Where not even one of two holds, both fail.
 pub neither : (a b : Bool) → (a || b) ≡ false → (a ≡ false) × (b ≡ false)
 neither false b e = (refl, e)
 neither true b e = absurd (false≢true (sym e))
@@ -110,6 +118,7 @@ unfoldable pub Distinct : List ℕ → Type 0
 Distinct [] = Unit {0}
 Distinct (tag ∷ tags) = (among tag tags ≡ false) × Distinct tags
 
+-- None of the tags is one of those before.
 unfoldable pub NoneOf : List ℕ → List ℕ → Type 0
 NoneOf before [] = Unit {0}
 NoneOf before (tag ∷ tags) = (among tag before ≡ false) × NoneOf before tags

@@ -11,6 +11,7 @@ use Rattle.texts.specs.Text.{ascii, decimal}
 abbrev pub varLine : ℕ → List ℕ
 varLine tag = ascii "$var wire 1 " ++ (tag ∷ ascii " ") ++ (tag ∷ ascii " $end\n")
 
+-- The lines that declare the signals with these tags.
 unfoldable pub varLines : List ℕ → List ℕ
 varLines [] = []
 varLines (tag ∷ tags) = varLine tag ++ varLines tags
@@ -23,6 +24,7 @@ timeLine n = ascii "#" ++ decimal n ++ ascii "\n"
 abbrev pub valueLine : (tag shown values : ℕ) → List ℕ
 valueLine tag shown values = cond (eqb (shown % 2) 1) ((code "0" + values % 2) ∷ tag ∷ ascii "\n") []
 
+-- The lines of all signals with these tags, in signal order.
 unfoldable pub valueLines : (tags : List ℕ) → (shown values : ℕ) → List ℕ
 valueLines [] shown values = []
 valueLines (tag ∷ tags) shown values = valueLine tag shown values ++ valueLines tags (shown / 2) (values / 2)

@@ -17,6 +17,7 @@ use Rattle.stepping.specs.declared.state.State.{State}
 use Rattle.stepping.specs.declared.next.Step.{Step}
 
 module _ (reading : ℕ) (file marks : List ℕ) (t : Place) (x : ℕ) where
+  -- The input half refuses an x beyond the signals by 15.
   pub input-past-15 : inputValues (policyOf reading file) ≤ x → inputPast reading file marks t x ≡ refused 15
   input-past-15 h = rw (le-ltb _ _ h)
 
@@ -27,9 +28,11 @@ module _ (reading : ℕ) (file marks : List ℕ) (t : Place) (x : ℕ) where
       rw (lt-ltb _ _ h, nearest-kept (mayStand (policyOf reading file) marks t) x (inputValues (policyOf reading file)) h (some-has (reaches (policyOf reading file) marks t x) (outputValues (policyOf reading file)) 0 (pow-pos _) r))
 
   module _ (given : State) (y : ℕ) where
+    -- The output half refuses an x beyond the signals by 15, and hands the state back.
     pub output-past-15-x : inputValues (policyOf reading file) ≤ x → outputPast reading file marks given t x y ≡ record { answer = refused 15; state = given }
     output-past-15-x h = rw (le-ltb _ _ h)
 
+    -- It refuses a y beyond the signals by 15 too, and hands the state back.
     pub output-past-15-y : x < inputValues (policyOf reading file) → outputValues (policyOf reading file) ≤ y →
         outputPast reading file marks given t x y ≡ record { answer = refused 15; state = given }
     output-past-15-y h g = rw (lt-ltb _ _ h, le-ltb _ _ g)

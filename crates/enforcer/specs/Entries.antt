@@ -20,6 +20,7 @@ use Rattle.stepping.specs.declared.state.State.{State}
 abbrev pub eventOf : ℕ → Event
 eventOf b = record { x = b % 16; y = b / 16 }
 
+-- The byte of an event.
 abbrev pub byteOf : Event → ℕ
 byteOf e = e .x + e .y * 16
 
@@ -63,9 +64,11 @@ module _ (reading : ℕ) (file : List ℕ) where
   abbrev pub xGood : ℕ → Bool
   xGood x = ltb x (inputValues (policyOf reading file))
 
+  -- y has no bit beyond the outputs.
   abbrev pub yGood : ℕ → Bool
   yGood y = ltb y (outputValues (policyOf reading file))
 
+  -- Both halves of an event byte are within their signals.
   abbrev pub eventGood : ℕ → Bool
   eventGood b = xGood (b % 16) && yGood (b / 16)
 
@@ -78,6 +81,7 @@ module _ (reading : ℕ) (file marks : List ℕ) where
   abbrev pub inputPast : Place → ℕ → Answer ℕ
   inputPast t x = chosen (unless (xGood reading file x) 15) (inputChoice (policyOf reading file) marks t x)
 
+  -- The output half past 16; `given` is the state that it was given, and t its place.
   abbrev pub outputPast : State → Place → ℕ → ℕ → OutputAnswer
   outputPast given t x y = outputFrom given (chosen (unless (xGood reading file x && yGood reading file y) 15) (outputTick (policyOf reading file) marks t x y))
 
@@ -92,6 +96,7 @@ module _ (reading : ℕ) (file marks : List ℕ) where
     unfoldable pub inputRefusal : ℕ → ℕ
     inputRefusal x = marksRefusal orElse stateRefusal orElse unless (xGood reading file x) 15
 
+    -- What the input half answers.
     unfoldable pub inputOf : ℕ → Answer ℕ
     inputOf x = chosen (inputRefusal x) (inputChoice (policyOf reading file) marks (placeIn (policyOf reading file) s) x)
 
@@ -99,6 +104,7 @@ module _ (reading : ℕ) (file marks : List ℕ) where
     unfoldable pub outputRefusal : ℕ → ℕ → ℕ
     outputRefusal x y = marksRefusal orElse stateRefusal orElse unless (xGood reading file x && yGood reading file y) 15
 
+    -- What the output half answers, and the state that it hands back.
     unfoldable pub outputOf : ℕ → ℕ → OutputAnswer
     outputOf x y =
         outputFrom s (chosen (outputRefusal x y) (outputTick (policyOf reading file) marks (placeIn (policyOf reading file) s) x y))
@@ -109,6 +115,7 @@ module _ (reading : ℕ) (file marks : List ℕ) where
         marksRefusal orElse unless (leb (length events) (length out)) 14 orElse stateRefusal
         orElse unless (allPass (eventGood reading file) events) 15
 
+    -- What the run answers, and what its slice holds then.
     unfoldable pub runOf : List ℕ → List ℕ → RunAnswer
     runOf events out =
         runFrom s out (runRefusal events out) (ran (policyOf reading file) marks (placeIn (policyOf reading file) s) (map eventOf events))

@@ -1,4 +1,6 @@
 -- By which numbers the halves and the run refuse, that 15 refuses no event within the signals, and what 17 says.
+-- In order: events and their bytes; what may be refused before 17; the reading and the file come first; the numbers that the halves and the run
+-- refuse by; what 17 says.
 use mathlib.Core.Path.{_≡_, refl, ap, ap₂, _∙_}
 use mathlib.Core.Bool.{Bool, true, false, cond, _||_}
 use mathlib.Core.Logic.{_⊎_}
@@ -27,11 +29,13 @@ use Rattle.stepping.specs.declared.state.State.{State}
 
 -- An event within the signals is one byte, and comes back from it.
 module _ (p : Policy) (ok : WellFormed p) where
+  -- An event within the signals comes back from its byte.
   pub event-back : (e : Event) → FitsOne p e → eventOf (byteOf e) ≡ e
   event-back e f =
       let h : e .x < 16 = omega (arith, f .x, pow-le-pow-right {n = 2} (omega arith) (ok .inputs)) in
       ap₂ (λ (x y : ℕ). record { x = x; y = y }) (omega arith) (omega arith)
 
+  -- A stream within the signals comes back from its bytes.
   pub events-back : {rs : Stream} → Fits p rs → map eventOf (map byteOf rs) ≡ rs
   events-back fits-none = refl
   events-back (fits-more {e = e} f h) = ap₂ {C = Stream} _∷_ (event-back e f) (events-back h)
@@ -114,14 +118,17 @@ first-of (suc n) a b o h = refl
 
 -- Where the reading or the file is refused, so are the marks and the halves, by that number.
 module _ (reading : ℕ) (file marks : List ℕ) (bad : refusalUnder reading file ≡ 0 → ⊥) where
+  -- The marks are refused by the number of the reading or the file.
   pub marks-first : marksRefusal reading file marks ≡ refusalUnder reading file
   unfolding marksRefusal
   marks-first = first-refused (refusalUnder reading file) _ bad
 
+  -- The input half is refused by the number of the reading or the file.
   pub input-first : (s : State) (x : ℕ) → inputOf reading file marks s x ≡ refused (refusalUnder reading file)
   unfolding inputOf inputRefusal marksRefusal
   input-first s x = first-of (refusalUnder reading file) _ _ _ bad
 
+  -- The output half is refused by that number too, and hands the state back.
   pub output-first : (s : State) (x y : ℕ) → outputOf reading file marks s x y ≡ record { answer = refused (refusalUnder reading file); state = s }
   unfolding outputOf outputRefusal marksRefusal
   output-first s x y = ap (outputFrom s) (first-of (refusalUnder reading file) _ _ _ bad)
@@ -134,6 +141,7 @@ module _ (reading : ℕ) (file marks : List ℕ) where
       early-else (refusalUnder reading file) _ (early-else (readingRefusal reading) _ (reading-early reading) (_⊎_.inl (omega (arith, refusal-le file))))
       (_⊎_.inl (unless-le (leb (states (policyOf reading file)) (length marks)) 10 16 refl))
 
+  -- The reading, the file and the marks are refused by no number above 22.
   pub marks-le : marksRefusal reading file marks ≤ 22
   marks-le = early-le marks-early
 
@@ -159,14 +167,17 @@ module _ (reading : ℕ) (file marks : List ℕ) where
     unfolding inputOf
     input-up-to x = chosen-up-to (inputRefusal reading file marks s x) _ (input-early x)
 
+    -- The output half refuses by 1 to 22.
     pub output-up-to : (x y : ℕ) → UpTo 22 (outputOf reading file marks s x y .answer)
     unfolding outputOf
     output-up-to x y = from-up-to s (outputRefusal reading file marks s x y) _ (output-early x y)
 
+    -- The run refuses by no number above 22.
     pub run-up-to : (events out : List ℕ) → runOf reading file marks s events out .refusal ≤ 22
     unfolding runOf
     run-up-to events out = ended-le s out (runRefusal reading file marks s events out) _ (run-early events out)
 
+    -- A run releases no more events than it reads.
     pub run-few : (events out : List ℕ) → runOf reading file marks s events out .count ≤ length events
     unfolding runOf
     run-few events out =
@@ -184,6 +195,7 @@ module _ (reading : ℕ) (file marks : List ℕ) where
         let z = none-refused (marksRefusal reading file marks) _ .0 (k .0) .1 in
         (none-refused (stateRefusal reading file marks s) _ .0 z .0, k .1)
 
+    -- The run gives 17 only where the state is not refused and it stops at an event.
     pub run-17 :
         (events out : List ℕ) → runOf reading file marks s events out .refusal ≡ 17 →
         (stateRefusal reading file marks s ≡ 0) × (ran (policyOf reading file) marks (placeIn (policyOf reading file) s) (map eventOf events) .stuck ≡ true)

@@ -1,4 +1,6 @@
 -- What the refusals up to 10 and 16 make sure of: the file's layout, a mark for each state, and a state in range; and that the first of them is the answer.
+-- In order: a state in range and its place; the same by the layout; the refusals as the facts that they test; what is known past the refusals up to
+-- 10, and past 16; the halves by that.
 use mathlib.Core.Path.{_≡_, refl, sym, ap, ap₂, _∙_}
 use mathlib.Core.Bool.{Bool, true, false, _&&_, and-eq-true-iff, false≢true}
 use mathlib.Core.List.{List, [], _∷_, _++_}
@@ -154,6 +156,7 @@ good-numbered {f} {l} k marks s g =
 
 -- No refusal up to 10, and no 16, as the facts that they test.
 module _ (reading : ℕ) (file marks : List ℕ) where
+  -- Neither 22 nor 1 to 10 is given exactly if the file passes under the reading and there is a mark for each state.
   pub marks-granted : (marksRefusal reading file marks ≡ 0) ↔ ((refusalUnder reading file ≡ 0) × (states (policyOf reading file) ≤ length marks))
   unfolding marksRefusal
   marks-granted = (
@@ -161,6 +164,7 @@ module _ (reading : ℕ) (file marks : List ℕ) where
     λ k. none-refused (refusalUnder reading file) _ .1 (k .0, none-unless _ 9 .1 (le-leb _ _ (k .1))),
   )
 
+  -- 16 is not given exactly if the state is in range and its mark is 1.
   pub state-granted :
       (s : State)
       → (stateRefusal reading file marks s ≡ 0)
@@ -188,6 +192,7 @@ pub record Granted (reading : ℕ) (file marks : List ℕ) (l : Layout) : Type 0
   pub named : l .reading ≡ reading
   pub enough : states (policyOf (l .reading) file) ≤ length marks
 
+-- Where nothing up to 10 is refused, the check has given such a layout.
 pub granted-laid : {reading : ℕ} {file : List ℕ} (marks : List ℕ) {r : Checked} → r ≡ checkedUnder reading file → marksRefusal reading file marks ≡ 0 →
     Granted reading file marks (r .layout)
 granted-laid {reading} {file} marks {r} e z =
@@ -211,10 +216,12 @@ module _ (reading : ℕ) (file marks : List ℕ) {r : Checked} (e : r ≡ checke
   granted : Granted reading file marks (r .layout)
   granted = granted-laid marks e none
 
+  -- A state that is refused: the input half answers with that number.
   pub input-16 : (x : ℕ) → (n ≡ 0 → ⊥) → inputOf reading file marks s x ≡ refused n
   unfolding inputOf inputRefusal
   input-16 x h = rw (none, ← granted .named) (chosen-first _ _ _ q h)
 
+  -- A state that is refused: the output half answers with that number, and hands the state back.
   pub output-16 : (x y : ℕ) → (n ≡ 0 → ⊥) → outputOf reading file marks s x y ≡ record { answer = refused n; state = s }
   unfolding outputOf outputRefusal
   output-16 x y h = rw (none, ← granted .named) (ap (outputFrom s) (chosen-first _ _ _ q h))
@@ -223,13 +230,16 @@ module _ (reading : ℕ) (file marks : List ℕ) {r : Checked} (e : r ≡ checke
     good : stateRefusal (r .layout .reading) file marks s ≡ 0
     good = sym q ∙ z
 
+    -- A state that is not refused is in range, and there is a mark for each state.
     pub half-standing : Standing file (r .layout) marks s
     half-standing = granted-standing (granted .laid) (granted .enough) good
 
+    -- Past 16 the input half has 15, 17 and its choice left.
     pub input-left : (x : ℕ) → inputOf reading file marks s x ≡ inputPast (r .layout .reading) file marks (place (r .layout .clocks) s) x
     unfolding inputOf inputRefusal
     input-left x = rw (none, ← granted .named, good, laid-place (granted .laid) s)
 
+    -- Past 16 the output half has 15, 17 and its choice left.
     pub output-left : (x y : ℕ) → outputOf reading file marks s x y ≡ outputPast (r .layout .reading) file marks s (place (r .layout .clocks) s) x y
     unfolding outputOf outputRefusal
     output-left x y = rw (none, ← granted .named, good, laid-place (granted .laid) s)

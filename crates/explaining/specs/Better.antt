@@ -1,4 +1,5 @@
 -- The reason for an input, output by output: of the reasons so far, and that of one output more, the one that goes first.
+-- In order: which of two reasons goes first (`better`); that it is right with one output more, by what that output does; the lowest output alone.
 use mathlib.Core.Path.{_≡_, sym, ap, subst, _∙_}
 use mathlib.Core.Logic.{by-cases}
 use mathlib.Core.Option.{Option, none, some, Option·none-ne-some, Option·some-injective}
@@ -17,6 +18,7 @@ withRests j unmatched = rests j
 withRests j (ticks k) = rests j
 withRests j (rests k) = rests (max j k)
 
+-- A count of ticks goes before a rule or none, and the greater of two stands; a count of rests stays.
 abbrev pub withTicks : ℕ → Reason → Reason
 withTicks j kept = ticks j
 withTicks j (rule i) = ticks j
@@ -24,6 +26,7 @@ withTicks j unmatched = ticks j
 withTicks j (ticks k) = ticks (max j k)
 withTicks j (rests k) = rests k
 
+-- Rests go before ticks, these before a rule or none, the greater count before the smaller; else the first stays.
 abbrev pub better : Reason → Reason → Reason
 better r kept = r
 better r (rule i) = r
@@ -46,6 +49,7 @@ ticks-few j unmatched h g = h
 ticks-few j (ticks k) h g = omega arith
 ticks-few j (rests k) h g = g
 
+-- Its number is below each bound that both numbers are below.
 pub better-few : {m : ℕ} (b r : Reason) → countOf b < m → countOf r < m → countOf (better b r) < m
 better-few b kept h g = h
 better-few b (rule i) h g = h
@@ -141,6 +145,7 @@ module _ {p : Policy} {s : Place} {n x : ℕ} where
   more-rests o (at-once f (by-ticks e t)) g = absurd (clash (f 0 o) e)
   more-rests o (at-once f (by-rests e t)) g = absurd (clash (f 0 o) e)
 
+  -- One output more: the reason for the input is the better of the two.
   pub best-more : {b r : Reason} → 0 < n → SaysIn p s n x b → SaysWhy p s (eventXY x n) r → SaysIn p s (suc n) x (better b r)
   best-more o h (by-rule i d t) = more-stop h (rule-stops p s (eventXY x n) d t)
   best-more o h (by-none d) = more-stop h (none-stops p s (eventXY x n) d)
@@ -149,6 +154,7 @@ module _ {p : Policy} {s : Place} {n x : ℕ} where
 
 -- The lowest output alone.
 module _ {p : Policy} {s : Place} {x : ℕ} where
+  -- With the lowest output alone, the reason for the input is that of the event.
   pub best-first : {r : Reason} → SaysWhy p s (eventXY x 0) r → SaysIn p s 1 x r
   best-first (by-rule i d t) = at-once (last 0 (λ z. step unlimited p s (eventXY x z) ≡ none) (λ z l. absurd (omega arith)) (rule-stops p s (eventXY x 0) d t)) (by-rule i d t)
   best-first (by-none d) = at-once (last 0 (λ z. step unlimited p s (eventXY x z) ≡ none) (λ z l. absurd (omega arith)) (none-stops p s (eventXY x 0) d)) (by-none d)

@@ -14,5 +14,6 @@ reasonSaid Reason.Unmatched = unmatched
 reasonSaid (Reason.Ticks k) = ticks k
 reasonSaid (Reason.Rests k) = rests k
 
+-- The code's reasons for both halves, in the same words.
 abbrev pub bothSaid : Both → EachHalf.Reasons
 bothSaid r = record { input = reasonSaid (r .input); output = reasonSaid (r .output) }

@@ -50,11 +50,13 @@ module _ (p : Policy) (s : Place) (e : Event) where
       go false true q = absurd (Option·none-ne-some _ q)
       go false false q = refl
 
+  -- The deciding rule has the same number with stopped clocks as with clocks without limit.
   pub decider-same : {rs : List Rule} → LawfulRules (p .ceilings) rs → decider rs (looked stopped p (stop p s)) e ≡ decider rs (looked unlimited p s) e
   unfolding decider
   decider-same checked-none = refl
   decider-same (checked-more {r = r} {rs = rs} l ls) = rw (fires-same r l, decider-same ls)
 
+  -- The same rule decides with stopped clocks as with clocks without limit.
   pub decides-same : {rs : List Rule} → LawfulRules (p .ceilings) rs → decides rs (looked stopped p (stop p s)) e ≡ decides rs (looked unlimited p s) e
   unfolding decides
   decides-same checked-none = refl

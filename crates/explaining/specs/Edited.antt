@@ -41,6 +41,7 @@ module _ (p : Policy) (marks : List ℕ) (s : Place) where
   edited-output x y {z} l h n =
       is-false _ (λ r. n (Option·some-injective y z (sym (nearest-kept (reaches p marks s x) y (outputValues p) l r) ∙ h)))
 
+  -- An edited input reaches no marked state, whatever the output.
   pub edited-input : (x : ℕ) {z : ℕ} → x < inputValues p → inputChoice p marks s x ≡ some z → (x ≡ z → ⊥) → (y : ℕ) → y < outputValues p → reaches p marks s x y ≡ false
   unfolding inputChoice mayStand
   edited-input x {z} l h n =
@@ -63,9 +64,11 @@ module _ (p : Policy) (marks : List ℕ) (s : Place) where
 
 -- What the halves answer past 16, as the code calls them.
 module _ (reading : ℕ) (file marks : List ℕ) (t : Place) where
+  -- The input half gives the value that it chooses, if x fits.
   pub input-answer : (x : ℕ) {z : ℕ} → x < inputValues (policyOf reading file) → inputChoice (policyOf reading file) marks t x ≡ some z → inputPast reading file marks t x ≡ gives z
   input-answer x l h = rw (lt-ltb x (inputValues (policyOf reading file)) l, h)
 
+  -- The output half gives the value that it chooses, if x and y fit.
   pub output-answer : (given : State) (x y : ℕ) {z : ℕ} → x < inputValues (policyOf reading file) → y < outputValues (policyOf reading file) →
       outputChoice (policyOf reading file) marks t x y ≡ some z → outputPast reading file marks given t x y .answer ≡ gives z
   output-answer given x y l u h =

@@ -1,4 +1,6 @@
 -- Why a half of an event was edited. What a reason is, over streams and "clocks that never stop counting".
+-- In order: exact counts of ticks and of rests; the kinds of reason; the reason for an event (`SaysWhy`), for an input (`SaysIn`) and for both halves of
+-- a tick (`Explained`); that one reason alone is true of each.
 use mathlib.Core.Path.{_≡_, refl, sym, ap, subst, _∙_}
 use mathlib.Core.List.{List, [], _∷_}
 use mathlib.Core.Logic.{⊎-map, by-cases}
@@ -45,6 +47,7 @@ kindOf unmatched = 2
 kindOf (ticks k) = 3
 kindOf (rests k) = 4
 
+-- The rule's number or the count; 0 where there is none.
 abbrev pub countOf : Reason → ℕ
 countOf kept = 0
 countOf (rule i) = i
@@ -85,6 +88,7 @@ pub record Explained (p : Policy) (marks : List ℕ) (s : Place) (x y : ℕ) (in
 
 -- ---- One reason alone is true.
 module _ {p : Policy} {t : Place} where
+  -- A place has one exact count of ticks.
   pub ticks-one : {k j : ℕ} → TicksLeft p t k → TicksLeft p t j → k ≡ j
   ticks-one h g =
       let a = h .some in
@@ -102,6 +106,7 @@ rested-less P v zero r = tt
 rested-less P [] (suc k) r = absurd r
 rested-less P (e ∷ v) (suc k) r = ⊎-map (λ p. (p .0, rested-less (λ u. P (e ∷ u)) v k (p .1))) (rested-less (λ u. P (e ∷ u)) v (suc k)) r
 
+-- What has j events at rest has each smaller number of them.
 pub rested-few : {A : Type 0} (P : List A → Type 0) (v : List A) (d k : ℕ) {j : ℕ} → j ≡ d + k → Rested P j v → Rested P k v
 rested-few P v zero k {j} e r = let q : j ≡ k = omega arith in subst (λ (n : ℕ). Rested P n v) q r
 rested-few P v (suc d) k {j} e r =
@@ -112,6 +117,7 @@ rests-le : {p : Policy} {t : Place} {k j : ℕ} → RestsLeft p t k → RestsLef
 rests-le {p} {t} {k} {j} h g =
     by-cases (decLt j k) (λ l. let v = h .some in absurd (g .most (v .0) (v .1) (rested-few (Rests p t) (v .0) (k - suc j) (suc j) (omega arith) (v .2)))) (λ n. omega arith)
 
+-- A place has one exact count of rests.
 pub rests-one : {p : Policy} {t : Place} {k j : ℕ} → RestsLeft p t k → RestsLeft p t j → k ≡ j
 rests-one h g = le-antisymm (rests-le h g) (rests-le g h)
 
@@ -121,6 +127,7 @@ module _ (p : Policy) (s : Place) (e : Event) where
   unfolding step bind taken
   rule-stops d t = rw (d, eq-eqb _ _ t)
 
+  -- An event that no rule decides has no next place.
   pub none-stops : decides (p .rules) (looked unlimited p s) e ≡ none → step unlimited p s e ≡ none
   unfolding step bind
   none-stops d = rw d
@@ -132,6 +139,7 @@ same : {A : Type 0} {d : Option A} {a b : A} → d ≡ some a → d ≡ some b �
 same {a} {b} h g = Option·some-injective a b (sym h ∙ g)
 
 module _ {p : Policy} {s : Place} {e : Event} where
+  -- An event has one reason.
   pub says-one : {r q : Reason} → SaysWhy p s e r → SaysWhy p s e q → r ≡ q
   says-one (by-rule i d t) (by-rule j c u) = ap rule (same i j)
   says-one (by-rule i d t) (by-none n) = absurd (clash n d)
@@ -154,6 +162,7 @@ module _ {p : Policy} {s : Place} {e : Event} where
   pub ticks-next : {k : ℕ} → SaysWhy p s e (ticks k) → (t : Place) × (step unlimited p s e ≡ some t) × TicksLeft p t k
   ticks-next (by-ticks {t = t} h g) = (t, h, g)
 
+  -- A count of rests is that of the place after the event.
   pub rests-next : {k : ℕ} → SaysWhy p s e (rests k) → (t : Place) × (step unlimited p s e ≡ some t) × RestsLeft p t k
   rests-next (by-rests {t = t} h g) = (t, h, g)
 
@@ -168,6 +177,7 @@ module _ {p : Policy} {s : Place} {e : Event} where
   never-kept h = omega (arith, some-kind h)
 
 module _ {p : Policy} {s : Place} {n x : ℕ} where
+  -- An input has one reason.
   pub says-in-one : {r q : Reason} → SaysIn p s n x r → SaysIn p s n x q → r ≡ q
   says-in-one (most-rests {k = k} {y = y} l h m) (most-rests {k = j} {y = z} o g c) = ap rests (le-antisymm (c y k l h) (m z j o g))
   says-in-one (most-rests {y = y} l h m) (most-ticks o g c f) = let a = rests-next h in absurd (f y (a .0) l (a .1) (a .2 .lasts))
@@ -179,6 +189,7 @@ module _ {p : Policy} {s : Place} {n x : ℕ} where
   says-in-one (at-once c g) (most-ticks {y = y} l h m f) = let a = ticks-next h in absurd (Option·none-ne-some _ (sym (c y l) ∙ a .1))
   says-in-one (at-once c g) (at-once m h) = says-one g h
 
+-- A half has one reason, if an edited one has.
 pub given-one : {says : Reason → Type 0} {w v : ℕ} {r q : Reason} → ((a b : Reason) → says a → says b → a ≡ b) → Given says w v r → Given says w v q → r ≡ q
 given-one one (forwarded e) (forwarded d) = refl
 given-one one (forwarded e) (edited n h) = absurd (n e)

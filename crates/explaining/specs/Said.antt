@@ -1,4 +1,6 @@
 -- From what the code finds to the reason: the rule that decides, where it leads, and what the tables say of the state there.
+-- In order: reasons with small numbers, for an event and for an input; what the tables say of a state; the rules ahead; the reason for an event by the
+-- rule that decides it.
 use mathlib.Core.Path.{_≡_, refl, sym, ap, subst, _∙_}
 use mathlib.Core.Bool.{Bool, true, false}
 use mathlib.Core.Logic.{⊎-elim}
@@ -52,9 +54,11 @@ pub record ToldIn (p : Policy) (s : Place) (n x : ℕ) (r : Reason) : Type 0 whe
 
 -- The lowest output alone, and one output more.
 module _ {p : Policy} {s : Place} {x : ℕ} where
+  -- With the lowest output alone, the reason for the input is that of the event.
   pub told-first : {r : Reason} → ToldWhy p s (eventXY x 0) r → ToldIn p s 1 x r
   told-first t = record { says = best-first (t .says); few = t .few }
 
+  -- One output more: the reason for the input is the better of the two.
   pub told-more : {n : ℕ} {b r : Reason} → 0 < n → ToldIn p s n x b → ToldWhy p s (eventXY x n) r → ToldIn p s (suc n) x (better b r)
   told-more {b = b} {r = r} o h t = record { says = best-more o (h .says) (t .says); few = better-few b r (h .few) (t .few) }
 
@@ -80,14 +84,17 @@ module _ {p : Policy} (ok : WellFormed p) {T R : List ℕ} (c : CountsOf p T R) 
       few : {k : ℕ} → Exact (calm (machineOf p)) k n → suc k < endless
       few x = omega (arith, ok .states, exact-few (calm (machineOf p)) (within-calm (machineOf p) (within p ok)) l x)
 
+  -- A state at rest that is not live has an entry above 0 in the table of rests.
   pub rests-some : getD (marksOf p) n 0 ≡ 0 → machineOf p .rest n ≡ true → 0 < getD R n 0
   rests-some z e = let x = c .rests .each n l z in omega (arith, x .1, ap bit e)
 
+  -- A state that is not live has an entry of at most 65,536 in the table of rests.
   pub rests-few : getD (marksOf p) n 0 ≡ 0 → getD R n 0 ≤ 65536
   rests-few z =
       let x = c .rests .each n l z in
       omega (arith, x .1, bit-le (machineOf p .rest n), ok .states, exact-few (machineOf p) (within p ok) l (x .2))
 
+-- Where a rule leads, with an equal answer to whether it leads on.
 pub led-as : {s : Place} {p : Policy} {r : Rule} {b c : Bool} {to : ℕ} → b ≡ c → Led s p r b to → Led s p r c to
 led-as {s} {p} {r} {to = to} e w = subst (λ (z : Bool). Led s p r z to) e w
 
@@ -112,10 +119,12 @@ module _ (p : Policy) (ok : WellFormed p) (s : Place) (i : Inside p s) (e : Even
       sym (decider-same p s e (well-checked p ok)) ∙ ap (λ (t : Place). decider (p .rules) (looked stopped p t) e) (stop-same p s i)
       ∙ decider-own (looked stopped p s) e (well-rising p ok) ∙ ap (onFrom (below (s .location) (p .rules))) q
 
+  -- No rule of the location decides the event: the reason is that none matches.
   pub told-none : decides (own (s .location) (p .rules)) (looked stopped p s) e ≡ none → ToldWhy p s e unmatched
   told-none q = record { says = by-none (looked-as q); few = omega arith }
 
   module _ {r : Rule} (q : decides (own (s .location) (p .rules)) (looked stopped p s) e ≡ some r) where
+    -- The rule that decides leads to a violation: the reason is its number among all rules.
     pub told-rule : {j to n : ℕ} → decider (own (s .location) (p .rules)) (looked stopped p s) e ≡ some j → Led s p r false to → below (s .location) (p .rules) + j ≡ n → n < 65536 → ToldWhy p s e (rule n)
     told-rule d w c few = record { says = by-rule (decider-as d ∙ ap some c) (looked-as q) (led-none w); few = few }
 
@@ -129,6 +138,7 @@ module _ (p : Policy) (ok : WellFormed p) (s : Place) (i : Inside p s) (e : Even
           let u = next-shown p ok i e {t = t .0} (ap (λ (o : Option Rule). bind o (taken stopped p s)) d ∙ t .1) in
           (u .0, u .1, ap (numberOf p) (u .2) ∙ t .2, u .3)
 
+      -- The rule leads to a state with a count: the reason is that count.
       pub told-counted : {q : Reason} → SaidCount (machineOf p) to q → ToldWhy p s e q
       told-counted (ends x) =
           let u = stepped in

@@ -43,6 +43,7 @@ module _ (p : Policy) (ok : WellFormed p) (t : Place) (i : In p t) where
   unfolding Rested
   walks v r = visits-of a v n 0 (there-numbered p ok t i .permits v r) tt
 
+  -- The exact count of ticks from the numbered state is that from the place.
   pub ticks-left : {k : ℕ} → Exact (calm a) k n → TicksLeft p t k
   ticks-left {k} x =
       let v = x .some in
@@ -55,9 +56,11 @@ module _ (p : Policy) (ok : WellFormed p) (t : Place) (i : In p t) where
       most v r =
           by-cases (decLt k (length v)) (λ l. absurd (x .most v (visits-down (calm a) l (calm-all a (walks v r))))) (λ g. omega arith)
 
+  -- If streams of every length leave the numbered state, they leave the place.
   pub lasting : LastsLong a n → Lasting p t
   lasting l m = let v = l m in (v .0, runs (calm-visits a (v .1)), v .2)
 
+  -- The exact count of rests from the numbered state is that from the place, if the stream can go on for ever.
   pub rests-left : {k : ℕ} → Lasting p t → Exact a k n → RestsLeft p t k
   rests-left {k} l x =
       let v = x .some in
@@ -69,6 +72,7 @@ module _ (p : Policy) (ok : WellFormed p) (t : Place) (i : In p t) where
 
 -- Where a rule leads, by the number that the code finds.
 module _ {s : Place} {p : Policy} {r : Rule} {to : ℕ} where
+  -- A rule that leads on takes the place to the state with that number.
   pub led-some : Led s p r true to → (t : Place) × (taken stopped p s r ≡ some t) × (numberOf p t ≡ to)
   unfolding leads
   led-some l = go (taken stopped p s r) refl (l .mark (only to) ∙ only-marked to)
@@ -77,6 +81,7 @@ module _ {s : Place} {p : Policy} {r : Rule} {to : ℕ} where
       go none q h = absurd (false≢true h)
       go (some t) q h = (t, q, only-one to (numberOf p t) (eqb-true _ 1 h))
 
+  -- A rule that does not lead on has the violation for its target.
   pub led-none : Led s p r false to → r .target ≡ 255
   unfolding leads taken
   led-none l = go (eqb (r .target) 255) refl

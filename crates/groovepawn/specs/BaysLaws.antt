@@ -28,6 +28,7 @@ module _ (reading : ℕ) (file marks states : List ℕ) (bay : ℕ) where
   wider (refused n) h = (h .0, omega arith)
   wider (gives v) h = tt
 
+  -- The input half of a bay refuses by a number from 1 to 24, if at all.
   pub bay-input-up-to : (x : ℕ) → UpTo 24 (bayInputOf reading file marks states bay x)
   unfolding bayInputOf
   bay-input-up-to x = go (ltb bay (bayCount states))
@@ -36,6 +37,7 @@ module _ (reading : ℕ) (file marks states : List ℕ) (bay : ℕ) where
       go true = wider (inputOf reading file marks (bayState states bay) x) (input-up-to reading file marks (bayState states bay) x)
       go false = none-some
 
+  -- The output half of a bay refuses by a number from 1 to 24, if at all.
   pub bay-output-up-to : (x y : ℕ) → UpTo 24 (bayOutputOf reading file marks states bay x y .answer)
   unfolding bayOutputOf
   bay-output-up-to x y = go (ltb bay (bayCount states))
@@ -51,6 +53,7 @@ module _ (reading : ℕ) (file marks states : List ℕ) (bay : ℕ) where
   pub bay-input-fields : (x : ℕ) → answerIn (answerWord (bayInputOf reading file marks states bay x)) ≡ bayInputOf reading file marks states bay x
   bay-input-fields x = answer-back (bayInputOf reading file marks states bay x) 24 (omega arith) (bay-input-up-to x)
 
+  -- The answer of the output half comes back from its word.
   pub bay-output-fields : (x y : ℕ) →
       answerIn (answerWord (bayOutputOf reading file marks states bay x y .answer)) ≡ bayOutputOf reading file marks states bay x y .answer
   bay-output-fields x y = answer-back (bayOutputOf reading file marks states bay x y .answer) 24 (omega arith) (bay-output-up-to x y)

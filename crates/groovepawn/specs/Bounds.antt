@@ -24,6 +24,7 @@ use Rattle.prepare.specs.declared.Summary.{Summary}
 use Rattle.join.specs.Entry.{joinRefusal, joinedFile, joinOf}
 use Rattle.join.specs.Written.{joined-passes}
 
+-- The verdict is 0 or 1, and the states and the live ones are at most 65,536 each.
 pub record Small (s : Summary) : Type 0 where
   pub verdict : s .verdict ≤ 1
   pub states : s .states ≤ 65536

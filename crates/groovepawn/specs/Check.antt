@@ -23,12 +23,15 @@ use Rattle.groovepawn.specs.Fields.{answerIn, answer-back}
 abbrev pub checkOf : List ℕ → Answer ℕ
 checkOf file = answer (refusalOf file) (states (policyOf 1 file))
 
+-- The word that the check returns.
 unfoldable pub checkWord : List ℕ → ℕ
 checkWord file = answerWord (checkOf file)
 
+-- r is what the check returns.
 pub record CheckCall (file : List ℕ) (r : ℕ) : Type 0 where
   pub said : r ≡ checkWord file
 
+-- One answer alone meets `CheckCall`.
 pub check-one : {file : List ℕ} {r q : ℕ} → CheckCall file r → CheckCall file q → r ≡ q
 check-one h g = h .said ∙ sym (g .said)
 

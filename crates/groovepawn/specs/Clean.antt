@@ -14,6 +14,7 @@ abbrev pub lengthsWord : Answer Lengths → ℕ
 lengthsWord (refused n) = n
 lengthsWord (gives l) = l .cleaned * 256 + l .struck * 4294967296
 
+-- The word that cleaning returns.
 unfoldable pub cleanWord : ℕ → (file out list : List ℕ) → ℕ
 cleanWord reading file out list = lengthsWord (cleanOf reading file out list)
 
@@ -23,6 +24,7 @@ pub record CleanCall (reading : ℕ) (file out list : List ℕ) (r : ℕ) (outAf
   pub cleaned : outAfter ≡ cleanedOut reading file out list
   pub struck : listAfter ≡ struckOut reading file out list
 
+-- One answer alone meets `CleanCall`, and one later content of each slice.
 pub clean-one : {reading : ℕ} {file out list outAfter outAlso listAfter listAlso : List ℕ} {r q : ℕ} →
     CleanCall reading file out list r outAfter listAfter → CleanCall reading file out list q outAlso listAlso →
     (r ≡ q) × (outAfter ≡ outAlso) × (listAfter ≡ listAlso)
@@ -43,6 +45,7 @@ lengths-back (gives s) k l h f =
     let a : (s .cleaned + s .struck * 16777216) % 16777216 ≡ s .cleaned = omega (arith, g .cleaned) in
     let b : w / 4294967296 ≡ s .struck = omega (arith, g .cleaned) in rw (z, u, a, b)
 
+-- The answer of cleaning comes back from its word.
 pub clean-fields : (reading : ℕ) (file out list : List ℕ) → lengthsIn (cleanWord reading file out list) ≡ cleanOf reading file out list
 unfolding cleanWord
 clean-fields reading file out list = lengths-back (cleanOf reading file out list) 22 (omega arith) (clean-up-to reading file out list) (lengths-few reading file out list)

@@ -53,6 +53,7 @@ pub same-answers : {reading : ℕ} {file before after also : List ℕ} {work lef
 same-answers h g not-short = prepare-one h (fast-unless g not-short)
 
 module _ (reading : ℕ) (file before : List ℕ) (work : ℕ) where
+  -- The numbers that the second engine gives are small.
   pub fast-small : (s : Summary) → fastOf reading file before work ≡ gives s → Small s
   fast-small s e = summary-small reading file before s (fast-gives reading file before work s e)
 

@@ -29,6 +29,7 @@ answerIn w = answer (w % 256) (w / 256)
 abbrev pub summaryIn : ℕ → Answer Summary
 summaryIn w = answer (w % 256) (record { verdict = w / 256 % 256; states = w / 65536 % 16777216; live = w / 1099511627776 })
 
+-- The word w has no refusal, and its fields hold the three numbers of s.
 pub record SummaryFields (s : Summary) (w : ℕ) : Type 0 where
   pub none : w % 256 ≡ 0
   pub verdict : w / 256 % 256 ≡ s .verdict
@@ -41,9 +42,11 @@ pub record RunFields (events : List ℕ) (n k w : ℕ) : Type 0 where
   pub count : w / 256 ≡ k % 2 ^ 56
   pub whole : length events < 2 ^ 56 → w / 256 ≡ k
 
+-- The word of a number that is given: no refusal, and the number above it.
 pub answer-fields : (v : ℕ) → (answerWord (gives v) % 256 ≡ 0) × (answerWord (gives v) / 256 ≡ v)
 answer-fields v = (omega arith, omega arith)
 
+-- The word of small numbers holds each of them in its field.
 pub summary-fields : (s : Summary) → Small s → SummaryFields s (summaryWord (gives s))
 summary-fields s h = record { none = omega arith; verdict = omega arith; states = omega arith; live = omega arith }
 
@@ -53,6 +56,7 @@ answer-back (refused zero) k l h = absurd (omega arith)
 answer-back (refused (suc n)) k l h = let e : suc n % 256 ≡ suc n = omega arith in rw e
 answer-back (gives v) k l h = let f = answer-fields v in rw (f .0, f .1)
 
+-- An answer of prepare with small numbers comes back from its word.
 pub summary-back : (a : Answer Summary) (k : ℕ) → k < 256 → UpTo k a → ((s : Summary) → a ≡ gives s → Small s) → summaryIn (summaryWord a) ≡ a
 summary-back (refused zero) k l h f = absurd (omega arith)
 summary-back (refused (suc n)) k l h f = let e : suc n % 256 ≡ suc n = omega arith in rw e
@@ -70,17 +74,20 @@ module _ (reading : ℕ) (file marks state : List ℕ) where
   half-back true a h = answer-back a 22 (omega arith) h
   half-back false a h = answer-back (refused (oddRefusal reading file marks true)) 22 (omega arith) (odd-some reading file marks true, odd-le reading file marks true)
 
+  -- What the input half's word holds: its answer, or the refusal of a state that is not five numbers.
   pub input-fields : (x : ℕ) →
       answerIn (inputWord reading file marks state x) ≡ cond (isState state) (inputOf reading file marks (stateIn state) x) (refused (oddRefusal reading file marks true))
   unfolding inputWord
   input-fields x = half-back (isState state) (inputOf reading file marks (stateIn state) x) (input-up-to reading file marks (stateIn state) x)
 
+  -- What the output half's word holds: its answer, or the refusal of a state that is not five numbers.
   pub output-fields : (x y : ℕ) →
       answerIn (outputWord reading file marks state x y)
       ≡ cond (isState state) (outputOf reading file marks (stateIn state) x y .answer) (refused (oddRefusal reading file marks true))
   unfolding outputWord
   output-fields x y = half-back (isState state) (outputOf reading file marks (stateIn state) x y .answer) (output-up-to reading file marks (stateIn state) x y)
 
+  -- What a run's word holds: its refusal and count, or the refusal of a state that is not five numbers.
   pub run-fields : (events out : List ℕ) →
       let r = runOf reading file marks (stateIn state) events out in
       RunFields events (cond (isState state) (r .refusal) (oddRefusal reading file marks (leb (length events) (length out)))) (cond (isState state) (r .count) 0)
@@ -98,10 +105,12 @@ module _ (reading : ℕ) (file marks state : List ℕ) where
           let k = odd-le reading file marks (leb (length events) (length out)) in
           record { refusal = omega arith; count = omega arith; whole = λ f. omega arith }
 
+-- The answer of a join comes back from its word.
 pub join-fields : (a b out : List ℕ) → answerIn (joinWord a b out) ≡ joinOf a b out
 unfolding joinWord
 join-fields a b out = answer-back (joinOf a b out) 14 (omega arith) (join-up-to a b out)
 
+-- The answer of the conversion into ticks comes back from its word.
 pub ticks-fields : (time tick up : ℕ) → answerIn (ticksWord time tick up) ≡ ticksOf time tick (isUp up)
 unfolding ticksWord
 ticks-fields time tick up = answer-back (ticksOf time tick (isUp up)) 19 (omega arith) (ticks-up-to time tick (isUp up))

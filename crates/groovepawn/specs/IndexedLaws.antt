@@ -30,10 +30,12 @@ module _ (reading : ℕ) (file index marks state : List ℕ) where
   unfolding oddIndexed oddRefusal
   odd-same e = ap (λ (n : ℕ). n orElse 16) (early-same reading file index marks e)
 
+  -- The input half with the file's index returns what the one without returns.
   pub input-call-same : index ≡ indexOf file → (x : ℕ) → inputIndexedWord reading file index marks state x ≡ inputWord reading file marks state x
   unfolding inputIndexedWord inputWord
   input-call-same e x = rw (input-same reading file index marks (stateIn state) e x, odd-same e)
 
+  -- The output half with the file's index returns what the one without returns, and leaves the same state.
   pub output-call-same : index ≡ indexOf file → (x y : ℕ) →
       (outputIndexedWord reading file index marks state x y ≡ outputWord reading file marks state x y)
       × (outputIndexedState reading file index marks state x y ≡ outputState reading file marks state x y)
@@ -56,12 +58,14 @@ module _ (reading : ℕ) (file index marks state : List ℕ) where
   half-back true a h = answer-back a 28 (omega arith) h
   half-back false a h = answer-back (refused (oddIndexed reading file index marks)) 28 (omega arith) odd-small
 
+  -- What the input half's word holds: its answer, or the refusal of a state that is not five numbers.
   pub input-indexed-fields : (x : ℕ) →
       answerIn (inputIndexedWord reading file index marks state x)
       ≡ cond (isState state) (inputIndexedOf reading file index marks (stateIn state) x) (refused (oddIndexed reading file index marks))
   unfolding inputIndexedWord
   input-indexed-fields x = half-back (isState state) _ (input-up-to-28 reading file index marks (stateIn state) x)
 
+  -- What the output half's word holds: its answer, or the refusal of a state that is not five numbers.
   pub output-indexed-fields : (x y : ℕ) →
       answerIn (outputIndexedWord reading file index marks state x y)
       ≡ cond (isState state) (outputIndexedOf reading file index marks (stateIn state) x y .answer) (refused (oddIndexed reading file index marks))

@@ -17,23 +17,28 @@ pub record MeterNewCall (station totals : List ℕ) (register r : ℕ) (after ri
   pub placed : after ≡ newStation station totals register
   pub cleared : risen ≡ newTotals station totals
 
+-- r is what the input half with a meter returns.
 pub record MeterInputCall (reading : ℕ) (file marks station : List ℕ) (register x r : ℕ) : Type 0 where
   pub said : r ≡ answerWord (meterInputOf reading file marks station register x)
 
+-- r is what the output half with a meter returns; `after` and `risen` are the station and the totals then.
 pub record MeterOutputCall (reading : ℕ) (file marks station totals : List ℕ) (register x y r : ℕ) (after risen : List ℕ) : Type 0 where
   pub said : r ≡ answerWord (meterOutputOf reading file marks station totals register x y .answer)
   pub next : after ≡ meterOutputOf reading file marks station totals register x y .station
   pub sums : risen ≡ meterOutputOf reading file marks station totals register x y .totals
 
+-- One answer alone meets `MeterNewCall`, one later station, and one later content of the totals.
 pub meter-new-one : {station totals : List ℕ} {register r q : ℕ} {after risen also other : List ℕ} →
     MeterNewCall station totals register r after risen → MeterNewCall station totals register q also other →
     (r ≡ q) × (after ≡ also) × (risen ≡ other)
 meter-new-one h g = (h .said ∙ sym (g .said), h .placed ∙ sym (g .placed), h .cleared ∙ sym (g .cleared))
 
 module _ {reading : ℕ} {file marks station : List ℕ} {register x r q : ℕ} where
+  -- One answer alone meets `MeterInputCall`.
   pub meter-input-one : MeterInputCall reading file marks station register x r → MeterInputCall reading file marks station register x q → r ≡ q
   meter-input-one h g = h .said ∙ sym (g .said)
 
+  -- One answer alone meets `MeterOutputCall`, one later station, and one later content of the totals.
   pub meter-output-one : {totals : List ℕ} {y : ℕ} {after risen also other : List ℕ} →
       MeterOutputCall reading file marks station totals register x y r after risen → MeterOutputCall reading file marks station totals register x y q also other →
       (r ≡ q) × (after ≡ also) × (risen ≡ other)
@@ -46,6 +51,7 @@ module _ (reading : ℕ) (file marks station : List ℕ) where
   meter-input-fields register x = answer-back (meterInputOf reading file marks station register x) 27 (omega arith) (input-up-to reading file marks station register x)
 
   module _ (totals : List ℕ) (register x y : ℕ) where
+    -- The answer of the output half comes back from its word.
     pub meter-output-fields :
         answerIn (answerWord (meterOutputOf reading file marks station totals register x y .answer)) ≡ meterOutputOf reading file marks station totals register x y .answer
     meter-output-fields =

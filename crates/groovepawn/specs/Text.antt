@@ -1,4 +1,6 @@
 -- The calls for policy texts: what each returns and leaves in the slice lent, that one answer alone meets it, and that it comes back from its word.
+-- In order: the word of each call; the calls; that one answer alone meets each; how large the numbers are; the answers read back from their words;
+-- what a refusal leaves.
 use mathlib.Core.Path.{_≡_, refl, sym, ap, _∙_}
 use mathlib.Core.Bool.{Bool, true, false, cond}
 use mathlib.Core.List.{List}
@@ -33,18 +35,23 @@ use Rattle.groovepawn.specs.Fields.{answerIn, answer-back}
 abbrev pub placedWord : (n at size : ℕ) → ℕ
 placedWord n at size = n + at % 2 ^ 32 * 256 + size * 1099511627776
 
+-- What the reader answers: a refusal with its line, or the length of the file.
 abbrev pub textReadOf : (text out : List ℕ) → ReadText
 textReadOf text out = answered (fitted out (fileFromText text))
 
+-- The word of a text that is read.
 unfoldable pub textReadWord : (text out : List ℕ) → ℕ
 textReadWord text out = placedWord (textReadOf text out .refusal) (textReadOf text out .line) (textReadOf text out .length)
 
+-- What the writer answers: a refusal, or the length of the text.
 abbrev pub textWriteOf : (file out : List ℕ) → Answer ℕ
 textWriteOf file out = answer (writeRefusal file out) (length (textOfFile file))
 
+-- The word of a text that is written.
 unfoldable pub textWriteWord : (file out : List ℕ) → ℕ
 textWriteWord file out = answerWord (textWriteOf file out)
 
+-- The line of the rule i in a text, or a refusal with its line.
 abbrev pub textRuleOf : List ℕ → ℕ → RuleAt
 textRuleOf text i = ruleFound (lineOfRule text i (fileFromText text))
 
@@ -56,12 +63,15 @@ textRuleWord text i = textRuleOf text i .refusal + textRuleOf text i .line % 2 ^
 abbrev pub whereOf : NameAt → ℕ
 whereOf r = cond (eqb (r .refusal) 0) (r .place) (r .line)
 
+-- The word of a name: its refusal with the line, or its place and length.
 abbrev pub namedWord : NameAt → ℕ
 namedWord r = placedWord (r .refusal) (whereOf r) (r .length)
 
+-- Where the i-th name of this kind stands in a text, or a refusal with its line.
 abbrev pub textNameOf : (kind : ℕ) → List ℕ → ℕ → NameAt
 textNameOf kind text i = nameGiven kind text i (fileFromText text)
 
+-- The word of the i-th name of this kind.
 unfoldable pub textNameWord : (kind : ℕ) → List ℕ → ℕ → ℕ
 textNameWord kind text i = namedWord (textNameOf kind text i)
 
@@ -75,6 +85,7 @@ pub record TextWriteCall (file before : List ℕ) (r : ℕ) (after : List ℕ) :
   pub said : r ≡ textWriteWord file before
   pub text : after ≡ writtenOver (textOfFile file) before (writeRefusal file before)
 
+-- r is what the call for the line of the rule i returns.
 pub record TextRuleCall (text : List ℕ) (i r : ℕ) : Type 0 where
   pub said : r ≡ textRuleWord text i
 
@@ -82,16 +93,20 @@ pub record TextRuleCall (text : List ℕ) (i r : ℕ) : Type 0 where
 pub record TextNameCall (kind : ℕ) (text : List ℕ) (i r : ℕ) : Type 0 where
   pub said : r ≡ textNameWord kind text i
 
+-- One answer alone meets `TextReadCall`, and one later content of the slice for the file.
 pub text-read-one : {text before after also : List ℕ} {r q : ℕ} → TextReadCall text before r after → TextReadCall text before q also → (r ≡ q) × (after ≡ also)
 text-read-one h g = (h .said ∙ sym (g .said), h .file ∙ sym (g .file))
 
+-- One answer alone meets `TextWriteCall`, and one later content of the slice for the text.
 pub text-write-one : {file before after also : List ℕ} {r q : ℕ} →
     TextWriteCall file before r after → TextWriteCall file before q also → (r ≡ q) × (after ≡ also)
 text-write-one h g = (h .said ∙ sym (g .said), h .text ∙ sym (g .text))
 
+-- One answer alone meets `TextRuleCall`.
 pub text-rule-one : {text : List ℕ} {i r q : ℕ} → TextRuleCall text i r → TextRuleCall text i q → r ≡ q
 text-rule-one h g = h .said ∙ sym (g .said)
 
+-- One answer alone meets `TextNameCall`.
 pub text-name-one : {kind : ℕ} {text : List ℕ} {i r q : ℕ} → TextNameCall kind text i r → TextNameCall kind text i q → r ≡ q
 text-name-one h g = h .said ∙ sym (g .said)
 
@@ -111,6 +126,7 @@ read-small text out = go (fileFromText text) refl
         fits true = (omega arith, short)
         fits false = (omega arith, omega arith)
 
+-- The writer refuses by a number up to 14.
 pub write-le : (file out : List ℕ) → writeRefusal file out ≤ 14
 unfolding writeRefusal
 write-le file out = let f : refusalOf file ≤ 14 = omega (arith, refusal-le file) in search (else-le, unless-le)
@@ -132,6 +148,7 @@ written-word file out = go (writeRefusal file out) refl
     go zero e = (written-at-most file (passes file out e), omega arith)
     go (suc n) e = (omega arith, omega arith)
 
+-- The call for a rule's line refuses by a number up to 35.
 pub rule-small : (text : List ℕ) (i : ℕ) → textRuleOf text i .refusal ≤ 35
 rule-small text i = go (fileFromText text) refl
   where
@@ -147,13 +164,16 @@ rule-small text i = go (fileFromText text) refl
 abbrev pub textReadIn : ℕ → ReadText
 textReadIn w = record { refusal = w % 256; line = w / 256 % 4294967296; length = w / 1099511627776 }
 
+-- The answer in the word of a rule's line.
 abbrev pub textRuleIn : ℕ → RuleAt
 textRuleIn w = record { refusal = w % 256; line = w / 256 }
 
+-- By the refusal n: a name of `size` bytes at `at`, or a refusal with the line `at`.
 abbrev pub nameHeld : (n at size : ℕ) → NameAt
 nameHeld zero at size = record { refusal = 0; line = 0; place = at; length = size }
 nameHeld (suc n) at size = record { refusal = suc n; line = at; place = 0; length = 0 }
 
+-- The answer in the word of a name.
 abbrev pub textNameIn : ℕ → NameAt
 textNameIn w = nameHeld (w % 256) (w / 256 % 4294967296) (w / 1099511627776)
 
@@ -178,6 +198,7 @@ text-read-fields text out l =
     let k = placed-back (r .refusal) (r .line) (r .length) (omega (arith, read-small text out)) l in
     λ i. record { refusal = k .refusal i; line = k .place i; length = k .long i }
 
+-- The answer of the writer comes back from its word.
 pub text-write-fields : (file out : List ℕ) → answerIn (textWriteWord file out) ≡ textWriteOf file out
 unfolding textWriteWord
 text-write-fields file out = answer-back (textWriteOf file out) 14 (omega arith) (answer-up-to (writeRefusal file out) (length (textOfFile file)) (write-le file out))
@@ -187,6 +208,7 @@ pub text-write-numbers : (file out : List ℕ) →
     (textWriteWord file out % 256 ≡ writeRefusal file out) × (textWriteWord file out / 256 ≡ lengthUnless (writeRefusal file out) (length (textOfFile file)))
 text-write-numbers file out = let k = written-word file out in let l = write-le file out in (omega arith, omega arith)
 
+-- The line of a rule comes back from its word, if it is below 2 ^ 32.
 pub text-rule-fields : (text : List ℕ) (i : ℕ) → textRuleOf text i .line < 2 ^ 32 → textRuleIn (textRuleWord text i) ≡ textRuleOf text i
 unfolding textRuleWord
 text-rule-fields text i l =
@@ -197,6 +219,7 @@ text-rule-fields text i l =
     let b : (r .refusal + r .line * 256) / 256 ≡ r .line = omega arith in
     ap (λ (m : ℕ). textRuleIn (r .refusal + m * 256)) e ∙ (λ j. record { refusal = a j; line = b j })
 
+-- Where a name stands comes back from its word, if its place or line is below 2 ^ 32.
 pub text-name-fields : (kind : ℕ) (text : List ℕ) (i : ℕ) → whereOf (textNameOf kind text i) < 2 ^ 32 → textNameIn (textNameWord kind text i) ≡ textNameOf kind text i
 unfolding textNameWord
 text-name-fields kind text i = back (textNameOf kind text i) (given-shaped kind text i)
@@ -223,6 +246,7 @@ text-read-stays text out = go (fitted out (fileFromText text))
     go (stops n line) h = refl
     go (reads f) h = absurd (h (omega arith))
 
+-- With a refusal the slice for the text stays.
 pub text-write-stays : (file out : List ℕ) → (textWriteWord file out % 256 ≡ 0 → ⊥) → writtenOver (textOfFile file) out (writeRefusal file out) ≡ out
 unfolding textWriteWord
 text-write-stays file out = go (writeRefusal file out)

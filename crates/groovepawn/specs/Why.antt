@@ -22,6 +22,7 @@ pub record WhyCall (reading : ℕ) (file marks state : List ℕ) (x y r : ℕ) :
   pub odd : isState state ≡ false → r ≡ oddRefusal reading file marks true
   pub said : isState state ≡ true → (a : Answer Reasons) × WhyAnswers reading file marks (stateIn state) x y a × SmallReasons a × (r ≡ whyWord a)
 
+-- One answer alone meets `WhyCall`.
 pub why-one : {reading : ℕ} {file marks state : List ℕ} {x y r q : ℕ} → WhyCall reading file marks state x y r → WhyCall reading file marks state x y q → r ≡ q
 why-one {reading} {file} {marks} {state} {x} {y} {r} {q} h g = go (isState state) refl
   where
@@ -52,6 +53,7 @@ pub record WhyRunCall (reading : ℕ) (file marks state events before : List ℕ
 
 module _ {reading : ℕ} {file marks state events before : List ℕ} {room : Room} {r : ℕ} {after written : List ℕ} {left : Room}
     (h : WhyRunCall reading file marks state events before room r after written left) where
+  -- One answer alone meets `WhyRunCall`, one later state, and one later content of the slice for the words.
   pub why-run-one : {q : ℕ} {also too : List ℕ} {right : Room} → WhyRunCall reading file marks state events before room q also too right →
       (r ≡ q) × (after ≡ also) × (written ≡ too)
   why-run-one {q} {also} {too} g = go (isState state) refl

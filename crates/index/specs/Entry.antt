@@ -16,6 +16,7 @@ module _ (f index : List ℕ) where
   unfoldable pub buildRefusal : ℕ
   buildRefusal = refusalOf f orElse unless (leb 128 (length index)) 14
 
+  -- What the slice holds by the refusal: for 0 the index in front, else what it held.
   abbrev pub writtenOver : ℕ → List ℕ
   writtenOver zero = indexOf f ++ drop 128 index
   writtenOver (suc n) = index
@@ -24,6 +25,7 @@ module _ (f index : List ℕ) where
   unfoldable pub builtIndex : List ℕ
   builtIndex = writtenOver buildRefusal
 
+  -- The refusal of a build is at most 14.
   pub build-le : buildRefusal ≤ 14
   unfolding buildRefusal
   build-le = let h : refusalOf f ≤ 14 = omega (arith, refusal-le f) in search (else-le, unless-le)
@@ -33,5 +35,6 @@ pub record BuildPromise (f before : List ℕ) (r : ℕ) (after : List ℕ) : Typ
   pub refuses : r ≡ buildRefusal f before
   pub writes : after ≡ builtIndex f before
 
+-- One answer and one later slice alone meet the promise.
 pub build-one : {f before after also : List ℕ} {r q : ℕ} → BuildPromise f before r after → BuildPromise f before q also → (r ≡ q) × (after ≡ also)
 build-one h g = (h .refuses ∙ sym (g .refuses), h .writes ∙ sym (g .writes))

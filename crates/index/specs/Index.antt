@@ -20,6 +20,7 @@ count test (r ∷ rs) = cond (test r) (suc (count test rs)) (count test rs)
 abbrev pub lower : ℕ → List Rule → ℕ
 lower a rs = count (λ r. ltb (r .source) a) rs
 
+-- How many rules the location has.
 abbrev pub number : ℕ → List Rule → ℕ
 number a rs = count (λ r. eqb (r .source) a) rs
 
@@ -43,6 +44,7 @@ same [] (b ∷ bs) = false
 same (a ∷ rest) [] = false
 same (a ∷ rest) (b ∷ bs) = eqb a b && same rest bs
 
+-- The test is passed exactly if the two lists are equal.
 pub same-exactly : (xs ys : List ℕ) → (same xs ys ≡ true) ↔ (xs ≡ ys)
 unfolding same
 same-exactly [] [] = (λ e. refl, λ e. refl)

@@ -1,4 +1,6 @@
 -- "Index entries are proved to name exactly that location's rules."
+-- In order: counts of rules; the counts where sources never fall; the numbers of an index; and of a file that passes the check, what its entries say
+-- and which rules they name.
 use mathlib.Core.Path.{_≡_, refl, ap, ap₂, _∙_}
 use mathlib.Core.Bool.{Bool, true, false, cond}
 use mathlib.Core.List.{List, [], _∷_, _++_}
@@ -21,6 +23,7 @@ use Rattle.index.specs.declared.entry.Entry.{Entry}
 use Rattle.index.specs.Index.{count, lower, number, entryOf, entries, indexOf}
 
 -- ---- counts of rules
+-- No more rules pass a test than there are.
 pub count-le : (test : Rule → Bool) (rs : List Rule) → count test rs ≤ length rs
 unfolding count
 count-le test [] = omega arith
@@ -30,6 +33,7 @@ count-le test (r ∷ rs) = go (test r) (count-le test rs)
     go true h = omega arith
     go false h = omega arith
 
+-- No source is lower than 0.
 pub lower-none : (rs : List Rule) → lower 0 rs ≡ 0
 unfolding count
 lower-none [] = refl
@@ -84,6 +88,7 @@ module _ (a : ℕ) where
           let d : r .source ≡ a → ⊥ = eqb-false (r .source) a e in
           let n : a < r .source = omega arith in number-high n k
 
+  -- Where sources never fall, the rules with a lower source are those in front.
   pub lower-below : {b : ℕ} {rs : List Rule} → Rising b rs → lower a rs ≡ below a rs
   unfolding count below
   lower-below rising-none = refl
@@ -94,6 +99,7 @@ module _ (a : ℕ) where
       go true e ih = ap suc ih
       go false e ih = lower-high (ltb-false _ _ e) k
 
+  -- Where sources never fall, a location's rules come right after the lower ones.
   pub number-level : {b : ℕ} {rs : List Rule} → Rising b rs → number a rs ≡ level a (drop (below a rs) rs)
   unfolding count below level
   number-level rising-none = refl
@@ -130,6 +136,7 @@ lower-exactly a (suc i) (rising-more {r = q} {rs = qs} h k) {r = r} e = go (ltb 
         let n = lower-high a m k in
         let w = rising-at i k e in (λ l. absurd (omega arith), λ l. absurd (omega arith))
 
+-- A number that is not below n is at least n.
 pub not-below : (i n : ℕ) → (i < n → ⊥) → n ≤ i
 not-below i n h = go (ltb i n) refl
   where
@@ -145,11 +152,13 @@ between s a i low many this next = (
 
 -- ---- the numbers of the index
 module _ (f : List ℕ) where
+  -- The entries of n locations are 2 n numbers.
   pub entries-length : (n : ℕ) → length (entries f n) ≡ 2 * n
   unfolding entries
   entries-length zero = refl
   entries-length (suc n) = let e = entries-length n in simp length-append (omega arith)
 
+  -- Where the two numbers of a location stand.
   pub entries-at : (n a : ℕ) → a < n → (getD (entries f n) (2 * a) 0 ≡ entryOf f a .first) × (getD (entries f n) (2 * a + 1) 0 ≡ entryOf f a .number)
   unfolding entries
   entries-at zero a h = absurd (omega arith)
@@ -176,15 +185,18 @@ module _ (f : List ℕ) where
             ap (λ (i : ℕ). getD (entries f n ++ last) i 0) v ∙ getD-append-add (entries f n) last 1 0 ∙ ap (λ (i : ℕ). entryOf f i .number) e,
           )
 
+  -- An index has 128 numbers.
   pub index-length : length (indexOf f) ≡ 128
   unfolding indexOf
   index-length = entries-length 64
 
+  -- A slice that is the file's index has 128 numbers.
   pub index-long : {index : List ℕ} → index ≡ indexOf f → length index ≡ 128
   index-long e = ap length e ∙ index-length
 
 -- ---- of a file that passes the check
 module _ (f : List ℕ) (passes : refusalOf f ≡ 0) where
+  -- The sources of its rules never fall.
   pub rising : Rising 0 (rulesOf f)
   unfolding policyOf
   rising = well-rising (policyOf 1 f) (checked-file 1 f passes)
@@ -192,6 +204,7 @@ module _ (f : List ℕ) (passes : refusalOf f ≡ 0) where
   few : length (rulesOf f) ≤ 256
   few = omega (arith, rules-length (clockCount f) (ruleSection f) 0 (ruleCount f), frame f passes .rules)
 
+  -- The rules with a lower source are no more than the file has.
   pub lower-rules : (a : ℕ) → lower a (rulesOf f) ≤ ruleCount f
   lower-rules a = omega (arith, count-le (λ r. ltb (r .source) a) (rulesOf f), rules-length (clockCount f) (ruleSection f) 0 (ruleCount f))
 
@@ -199,6 +212,7 @@ module _ (f : List ℕ) (passes : refusalOf f ≡ 0) where
   unfolding policyOf
   sources = each-weak (λ r g. g .source) (well-ruled (policyOf 1 f) (checked-file 1 f passes))
 
+  -- The rules with a lower source are at most 256.
   pub lower-few : (a : ℕ) → lower a (rulesOf f) ≤ 256
   lower-few a = omega (arith, lower-rules a, frame f passes .rules)
 
@@ -236,6 +250,7 @@ module _ (f : List ℕ) (passes : refusalOf f ≡ 0) where
       between _ a i _ _ (lower-exactly a i rising e) (rw (lower-next a (rulesOf f)) at (lower-exactly (a + 1) i rising e))
 
   module _ (a : ℕ) (h : a < locationCount f) where
+    -- The entry of a location that there is: the rules with a lower source, and its own.
     pub entry-within : entryOf f a ≡ record { first = lower a (rulesOf f); number = number a (rulesOf f) }
     unfolding entryOf
     entry-within = rw (lt-ltb a (locationCount f) h)

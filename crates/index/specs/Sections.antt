@@ -31,6 +31,7 @@ module _ {f : List ℕ} {l : Layout} (k : Sections f l) where
   framed : Framed f
   framed = frame f (k .passes)
 
+  -- The layout's counts are within their limits, and the rule section is within the file.
   pub sections-limits : (l .clocks ≤ 4) × (l .locations ≤ 64) × (l .rules ≤ 256) × (l .«rules_start» ≤ l .«rules_end») × (l .«rules_end» ≤ length f)
   sections-limits = omega (arith, framed, k)
 

@@ -26,5 +26,6 @@ module _ (reading : ℕ) (file index marks : List ℕ) where
     unfoldable pub inputIndexedOf : ℕ → Answer ℕ
     inputIndexedOf x = refusedOr (indexRefusal reading file index) refused (inputOf reading file marks s x)
 
+    -- Past 28 the output half answers as it does without an index; a refusal hands the state back.
     unfoldable pub outputIndexedOf : ℕ → ℕ → OutputAnswer
     outputIndexedOf x y = refusedOr (indexRefusal reading file index) (λ n. record { answer = refused n; state = s }) (outputOf reading file marks s x y)

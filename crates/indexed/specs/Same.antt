@@ -1,4 +1,6 @@
 -- "With it the halves give the same answers as the present ones for every input. Any other index is refused and never followed."
+-- In order: the same answers with the file's index; 28 with any other; the numbers that the halves refuse by; what is refused before the state is
+-- looked at.
 use mathlib.Core.Path.{_≡_, refl, sym, ap, subst, _∙_}
 use mathlib.Core.Bool.{Bool, true, false, false≢true}
 use mathlib.Core.List.{List}
@@ -54,6 +56,7 @@ module _ (reading : ℕ) (file index marks : List ℕ) (s : State) where
   unfolding inputIndexedOf indexRefusal inputOf inputRefusal marksRefusal
   input-same e x = rw (same-exactly index (indexOf file) .1 e) (input-first (refusalUnder reading file) _ _ _)
 
+  -- With the file's index the output half gives the same answer and hands back the same state.
   pub output-same : index ≡ indexOf file → (x y : ℕ) → outputIndexedOf reading file index marks s x y ≡ outputOf reading file marks s x y
   unfolding outputIndexedOf indexRefusal outputOf outputRefusal marksRefusal
   output-same e x y = rw (same-exactly index (indexOf file) .1 e) (output-first s (refusalUnder reading file) _ _ _)
@@ -67,6 +70,7 @@ module _ (reading : ℕ) (file index marks : List ℕ) (s : State) where
         λ h. k .1 (h .0, not-index file index .1 (h .1)),
       )
 
+  -- The output half gives 28 in the same cases.
   pub output-28 : (x y : ℕ) → (outputIndexedOf reading file index marks s x y .answer ≡ refused 28) ↔ ((refusalUnder reading file ≡ 0) × (index ≡ indexOf file → ⊥))
   unfolding outputIndexedOf indexRefusal
   output-28 x y =
@@ -86,6 +90,7 @@ module _ (reading : ℕ) (file index marks : List ℕ) (s : State) where
   unfolding inputIndexedOf indexRefusal
   input-up-to-28 x = up-to (refusalUnder reading file) (same index (indexOf file)) _ (under-le reading file) (input-up-to reading file marks s x)
 
+  -- The output half refuses by 1 to 28.
   pub output-up-to-28 : (x y : ℕ) → UpTo 28 (outputIndexedOf reading file index marks s x y .answer)
   unfolding outputIndexedOf indexRefusal
   output-up-to-28 x y =
@@ -111,10 +116,12 @@ early-output s zero false m t o {r} e h = ap (λ (i : ℕ). record { answer = re
 early-output s (suc n) b m t o {r} e h = ap (λ (i : ℕ). record { answer = refused i; state = s }) (sym e)
 
 module _ (reading : ℕ) (file index marks : List ℕ) where
+  -- What is refused before the state is looked at is the answer of the input half.
   pub input-early : (s : State) (x : ℕ) {r : ℕ} → r ≡ earlyRefusal reading file index marks → (r ≡ 0 → ⊥) → inputIndexedOf reading file index marks s x ≡ refused r
   unfolding inputIndexedOf earlyRefusal indexRefusal inputOf inputRefusal marksRefusal
   input-early s x = early-input (refusalUnder reading file) (same index (indexOf file)) _ _ _
 
+  -- It is the answer of the output half too, which hands the state back.
   pub output-early : (s : State) (x y : ℕ) {r : ℕ} → r ≡ earlyRefusal reading file index marks → (r ≡ 0 → ⊥) →
       outputIndexedOf reading file index marks s x y ≡ record { answer = refused r; state = s }
   unfolding outputIndexedOf earlyRefusal indexRefusal outputOf outputRefusal marksRefusal
@@ -137,6 +144,7 @@ module _ (reading : ℕ) (file index marks : List ℕ) where
       go zero m = refl
       go (suc n) m = refl
 
+  -- What is refused before the state is looked at is refused by at most 28.
   pub early-le : earlyRefusal reading file index marks ≤ 28
   unfolding earlyRefusal indexRefusal
   early-le =

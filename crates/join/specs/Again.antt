@@ -1,4 +1,6 @@
 -- The join of two checked policies that is not refused by 12 and 13 is a checked policy again, so all that is proved of a checked policy holds of it.
+-- In order: what is known where 12 and 13 are not given; the joined rules one by one, and their sources in order; that they pass the check; the join
+-- as a whole.
 use mathlib.Core.Path.{_≡_, refl, ap₂}
 use mathlib.Core.Bool.{true, _||_, and-eq-true-iff, or-true, false≢true}
 use mathlib.Core.List.{List, [], _∷_, _++_}
@@ -107,10 +109,12 @@ rising-append {mid = mid} l (rising-more {r = r} i t) (each-more e h) k =
 
 -- "For each (a, b) in number order", so sources never fall.
 module _ (k n : ℕ) (rs ss : List Rule) where
+  -- The rules of the pairs with numbers below m have sources below m.
   pub rows-below : (m : ℕ) → Each (λ r. r .source < m) (rows k n rs ss m)
   unfolding both
   rows-below m = each-rows {P = λ r. Unit {0}} {Q = λ r. Unit {0}} {R = λ r. r .source < m} k n m (λ at l r s p q. l) (each-any rs) (each-any ss)
 
+  -- The sources of the joined rules never fall.
   pub rows-rising : (m : ℕ) → Rising 0 (rows k n rs ss m)
   unfolding rows
   rows-rising zero = rising-none
@@ -143,6 +147,7 @@ module _ (i o : ℕ) (cs : List ℕ) (l : ℕ) where
         bounds-pass (g .lawful) (g .ordered),
       )
 
+  -- Rules whose sources never fall, each of them as the check asks, are not refused.
   pub rules-pass : {before : ℕ} {rs : List Rule} → Rising before rs → Each (Ruled i o cs l) rs → rulesRefusal i o cs l before rs ≡ 0
   unfolding rulesRefusal
   rules-pass rising-none each-none = refl
@@ -161,6 +166,7 @@ joined-rules a b g h s =
     rules-pass i o (join a b .ceilings) m (rows-rising k n (a .rules) (b .rules) m)
     (each-rows k n m (both-ruled i o (a .ceilings) (b .ceilings) (a .locations) n) (well-ruled a g) (rw (t .0, t .1) (well-ruled b h)))
 
+-- The join of two checked policies is a checked policy where neither 12 nor 13 is given.
 pub join-well : (a b : Policy) → WellFormed a → WellFormed b → sameSignals a b ≡ true → joinFits (join a b) ≡ true → WellFormed (join a b)
 unfolding join
 join-well a b g h s f =

@@ -47,6 +47,7 @@ module _ (a b out : List ℕ) where
   unfoldable pub joinOf : Answer ℕ
   joinOf = answer joinRefusal (length joinedFile)
 
+  -- What the slice holds by the refusal: for 0 the joined file in front, else what it held.
   abbrev pub writtenOver : ℕ → List ℕ
   writtenOver zero = joinedFile ++ drop (length joinedFile) out
   writtenOver (suc n) = out

@@ -25,6 +25,7 @@ module _ (ins outs : List ℕ) where
   unfolding freeFile bytesOf countsBytes
   free-bytes reading = refl
 
+  -- The bytes of the policy that permits all, one by one.
   pub free-written : freeFile ≡ (length ins ∷ ins) ++ ((length outs ∷ outs) ++ (0 ∷ 1 ∷ 0 ∷ 0 ∷ 1 ∷ 0 ∷ 0 ∷ 0 ∷ 0 ∷ 0 ∷ 0 ∷ 0 ∷ []))
   unfolding freeFile bytesOf countsBytes pairsBytes rulesBytes ruleBytes boundsBytes
   free-written = rw (append-assoc ins, append-assoc outs)

@@ -22,6 +22,7 @@ module _ (reading : ℕ) (ins outs : List ℕ) where
   abbrev p : Policy
   p = free reading ins outs
 
+  -- The policy that permits all has a location, and its rule is well formed.
   pub free-sound : Sound p
   free-sound = record { start = omega arith; rules = each-more one each-none }
     where
@@ -42,6 +43,7 @@ module _ (reading : ℕ) (ins outs : List ℕ) where
   unfolding Runs
   free-permits w f = (f, (start p, free-steps w))
 
+  -- The policy that permits all rests after every stream.
   pub free-rests : (w : Stream) → Permits p .rests w
   unfolding Rests rests
   free-rests w = (start p, free-steps w, refl)

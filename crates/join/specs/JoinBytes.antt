@@ -33,6 +33,7 @@ pub record PartsReady (f : List ℕ) (x : Layout) (g : List ℕ) (y : Layout) : 
 abbrev pub joinedCount : List ℕ → List ℕ → ℕ
 joinedCount f g = length (join (said f) (said g) .rules)
 
+-- The bytes of the join's rules.
 abbrev pub joinedRules : List ℕ → List ℕ → List ℕ
 joinedRules f g = rulesBytes (join (said f) (said g) .rules)
 
@@ -44,16 +45,20 @@ clocksFor x = 2 + x .inputs + x .outputs
 abbrev pub clocksPart : List ℕ → ℕ → ℕ → List ℕ → ℕ → ℕ → List ℕ
 clocksPart f p k g q j = (k + j) ∷ bytesFrom f (p + 1) (2 * k) ++ bytesFrom g (q + 1) (2 * j)
 
+-- The location bytes: one for each pair of locations.
 abbrev pub leftPart : List ℕ → Layout → List ℕ → Layout → List ℕ
 leftPart f x g y = leftBelow (said f) (said g) (x .locations * y .locations)
 
+-- How many locations there are, their bytes, and how many rules there are.
 abbrev pub placesPart : List ℕ → Layout → List ℕ → Layout → ℕ → List ℕ
 placesPart f x g y rules = (x .locations * y .locations) ∷ leftPart f x g y ++ pairBytes rules
 
+-- All bytes before the rules.
 abbrev pub countsFrom : List ℕ → Layout → List ℕ → Layout → ℕ → List ℕ
 countsFrom f x g y rules =
     bytesFrom f 0 (clocksFor x)
     ++ (clocksPart f (clocksFor x) (x .clocks) g (clocksFor y) (y .clocks) ++ placesPart f x g y rules)
 
+-- How many bytes stand before the rules.
 abbrev pub countsLength : Layout → Layout → ℕ
 countsLength x y = 6 + x .inputs + x .outputs + 2 * (x .clocks + y .clocks) + x .locations * y .locations

@@ -27,6 +27,7 @@ pub record Equal (p q : Policy) : Type 1 where
   pub releases : (o : Order) (n m : ℕ) (w : Stream) (es rs : List Event) →
       Enforced o (Permits p) n m w es rs ↔ Enforced o (Permits q) n m w es rs
 
+-- Two policies are equal if each permits what the other permits and rests where it rests.
 pub equal : (p q : Policy) → Permits p narrows Permits q → Permits q narrows Permits p → Equal p q
 equal p q f g =
     record {
@@ -39,6 +40,7 @@ equal p q f g =
     }
 
 module _ (a b : Policy) (g : Sound a) (h : Sound b) (j : Joins a b) where
+  -- What can be joined can be joined in the other order.
   pub joins-swap : Joins b a
   joins-swap = record { reading = sym (j .reading); inputs = sym (j .inputs); outputs = sym (j .outputs); locations = rw (mul-comm (b .locations) (a .locations)) (j .locations) }
 
@@ -52,6 +54,7 @@ module _ (a b : Policy) (g : Sound a) (h : Sound b) (j : Joins a b) where
   into : {L : Language} → L narrows Permits a → L narrows Permits b → L narrows Permits (join a b)
   into f k = narrows-trans (alongside-into f k) (both-within a b g h j)
 
+-- Demand 3, order: A with B is equal to B with A.
 pub commutes : (a b : Policy) → Sound a → Sound b → Joins a b → Equal (join a b) (join b a)
 commutes a b g h j =
     let i = joins-swap a b g h j in
@@ -75,10 +78,12 @@ module _ (a b c : Policy) (g : Sound a) (h : Sound b) (k : Sound c) (j : Joins a
             );
       }
 
+  -- Where the left grouping is made, the right one can be.
   pub joins-whole : Joins a (join b c)
   unfolding join
   joins-whole = record { reading = j .reading; inputs = j .inputs; outputs = j .outputs; locations = rw (← mul-assoc (a .locations) (b .locations) (c .locations)) (i .locations) }
 
+  -- Demand 3, grouping: (A with B) with C is equal to A with (B with C).
   pub associates : Equal (join (join a b) c) (join a (join b c))
   associates =
       let ab = join-sound a b g h in
@@ -91,6 +96,7 @@ module _ (a b c : Policy) (g : Sound a) (h : Sound b) (k : Sound c) (j : Joins a
       (into (join a b) c ab k i (into a b g h j (to-first a (join b c) g bc joins-whole) (narrows-trans r (to-first b c h k joins-right)))
       (narrows-trans r (to-second b c h k joins-right)))
 
+-- Demand 3, repetition: A with A is equal to A.
 pub idempotent : (a : Policy) → Sound a → Joins a a → Equal (join a a) a
 idempotent a g j = equal (join a a) a (to-first a a g g j) (into a a g g j (narrows-refl (Permits a)) (narrows-refl (Permits a)))
 
@@ -98,6 +104,7 @@ idempotent a g j = equal (join a a) a (to-first a a g g j) (into a a g g j (narr
 abbrev pub freeFor : Policy → Policy
 freeFor a = free (a .reading) (a .inputs) (a .outputs)
 
+-- A policy of at most 64 locations can be joined with it.
 pub joins-free : (a : Policy) → a .locations ≤ 64 → Joins a (freeFor a)
 joins-free a l = record { reading = refl; inputs = refl; outputs = refl; locations = rw (mul-one (a .locations)) l }
 

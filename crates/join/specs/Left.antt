@@ -53,6 +53,7 @@ module _ (a b : Policy) where
           ∙ getD-append-add (leftBelow a b m) (leftAt a b m ∷ []) 0 0
           ∙ rw s
 
+  -- Each location byte of the join is 0 or 1, so 5 is not given.
   pub left-good : (m : ℕ) → allPass locationGood (leftBelow a b m) ≡ true
   unfolding leftBelow leftAt allPass
   left-good zero = refl
@@ -68,6 +69,7 @@ module _ (a b : Policy) where
       ∙ ap (λ (z : ℕ). eqb z 0) (left-at (a .locations * b .locations) k h)
       ∙ bit-rests (rests a (k / b .locations) && rests b (k % b .locations))
 
+  -- Two places side by side rest exactly if both do.
   pub rests-beside : (s t : Place) → In a s → In b t →
       rests (join a b) (beside (b .locations) s t .location) ≡ (rests a (s .location) && rests b (t .location))
   unfolding beside

@@ -32,6 +32,7 @@ module _ (cs ds : List ℕ) (l n : ℕ) where
       let s : length cs + suc j ≡ suc (length cs + j) = omega arith in
       rw (s, states-both j, getD-append-add cs ds j 0) (mul-assoc (statesOf cs (length cs) l) (statesOf ds j n) (values ds j))
 
+-- The number of the join's states is the product of those of its parts.
 pub states-join : (a b : Policy) → states (join a b) ≡ states a * states b
 unfolding join
 states-join a b = rw (length-append (a .ceilings) (b .ceilings)) (states-both (a .ceilings) (b .ceilings) (a .locations) (b .locations) (length (b .ceilings)))

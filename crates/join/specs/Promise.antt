@@ -12,10 +12,12 @@ use Rattle.join.specs.declared.Joined.{Joined}
 use Rattle.join.specs.declared.Joined.the-variants.{Length, Refused}
 use Rattle.join.specs.Entry.{joinedFile, joinRefusal, joinOf, joinedOut}
 
+-- What the answer says: the length written or a refusal.
 abbrev pub joinedSaid : Joined → Answer ℕ
 joinedSaid (Length n) = gives n
 joinedSaid (Refused n) = refused n
 
+-- What the join answers, and what its slice holds `before` and `after`.
 pub record JoinPromise (a b before : List ℕ) (r : Joined) (after : List ℕ) : Type 0 where
   pub answers : joinedSaid r ≡ joinOf a b before
   pub writes : after ≡ joinedOut a b before
@@ -39,6 +41,7 @@ refusals-le a b out =
     let g : refusalOf b ≤ 14 = omega (arith, refusal-le b) in
     search (else-le, unless-le) depth 7
 
+-- The answer of the join is a length or a refusal by 1 to 14.
 pub join-up-to : (a b out : List ℕ) → UpTo 14 (joinOf a b out)
 unfolding joinOf
 join-up-to a b out = answer-up-to (joinRefusal a b out) (length (joinedFile a b out)) (refusals-le a b out)

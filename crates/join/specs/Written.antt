@@ -38,6 +38,7 @@ unfolding leftBelow leftAt rests policyOf
 left-alike a b reading zero = refl
 left-alike a b reading (suc m) = rw (left-alike a b reading m)
 
+-- The joined file is the same whatever reading its parts are read under.
 pub joined-bytes : (a b out : List ℕ) (reading : ℕ) → bytesOf (join (policyOf reading a) (policyOf reading b)) ≡ joinedFile a b out
 unfolding joinedFile bytesOf countsBytes join policyOf
 joined-bytes a b out reading = rw (left-alike a b reading (locationCount a * locationCount b))
@@ -47,6 +48,7 @@ unfolding join policyOf
 joined-reading a b reading = refl
 
 module _ (a b out : List ℕ) (e : joinRefusal a b out ≡ 0) where
+  -- Where the refusal is 0, none of them is given.
   pub unrefused : Unrefused a b out
   unfolding joinRefusal
   unrefused =
@@ -72,6 +74,7 @@ module _ (a b out : List ℕ) (e : joinRefusal a b out ≡ 0) where
     unfolding joinFits join policyOf
     joined-fits = unrefused .fits
 
+    -- Under each reading the premise of the join's laws holds.
     pub joined-joins : Joins (policyOf reading a) (policyOf reading b)
     unfolding policyOf
     joined-joins = joins-of (policyOf reading a) (policyOf reading b) refl joined-signals joined-fits
@@ -81,6 +84,7 @@ module _ (a b out : List ℕ) (e : joinRefusal a b out ≡ 0) where
         join-well (policyOf reading a) (policyOf reading b) (checked-file reading a (unrefused .first)) (checked-file reading b (unrefused .second))
         joined-signals joined-fits
 
+  -- The joined file passes the check.
   pub joined-passes : refusalOf (joinedFile a b out) ≡ 0
   unfolding joinedFile
   joined-passes = written-passes (join (said a) (said b)) (joined-well 1)

@@ -1,4 +1,6 @@
 -- Bytes laid one part after the other, and what bytes that are copied say.
+-- In order: parts laid one after the other; the midst of laying, turn by turn; the bytes of a copy, turn by turn; numbers, bounds and rules that are
+-- copied; parts of a file.
 use mathlib.Core.Path.{_≡_, refl, ap, ap₂, sym, _∙_}
 use mathlib.Core.List.{List, [], _∷_, _++_, append-assoc, append-nil}
 use Prim.Native.Nat.{ℕ, zero, suc, _+_, _-_, _*_, _/_, _%_, _≤_, _<_}
@@ -15,9 +17,11 @@ sets-append : (l : List ℕ) (i : ℕ) (xs ys : List ℕ) → sets l i (xs ++ ys
 sets-append l i [] ys = ap (λ (k : ℕ). sets l k ys) (omega arith)
 sets-append l i (x ∷ xs) ys = sets-append (set l i x) (suc i) xs ys ∙ ap (λ (k : ℕ). sets (sets (set l i x) (suc i) xs) k ys) (omega arith)
 
+-- Where no bytes are laid, slice and position stay.
 pub laid-none : (l : List ℕ) (at : ℕ) → LaidAt [] l at l at
 laid-none l at = record { ends = omega arith; lies = refl }
 
+-- Two parts laid one after the other are laid as one.
 pub laid-more : {xs ys l m n : List ℕ} {at i j : ℕ} → LaidAt xs l at m i → LaidAt ys m i n j → LaidAt (xs ++ ys) l at n j
 laid-more {xs} {ys} {l} {m} {n} {at} {i} {j} g h =
     record {
@@ -25,9 +29,11 @@ laid-more {xs} {ys} {l} {m} {n} {at} {i} {j} g h =
       lies = h .lies ∙ rw (g .lies, g .ends) (sym (sets-append l at xs ys));
     }
 
+-- The bytes that are laid may be given as any equal list.
 pub laid-as : {xs ys l m : List ℕ} {at i : ℕ} → xs ≡ ys → LaidAt xs l at m i → LaidAt ys l at m i
 laid-as e g = rw e at g
 
+-- Laying leaves the slice as long as it was.
 pub laid-length : {xs l m : List ℕ} {at i : ℕ} → LaidAt xs l at m i → length m ≡ length l
 laid-length {xs} {l} {m} {at} g = rw (g .lies) (length-sets l at xs)
 
@@ -50,9 +56,11 @@ sets-out : (l : List ℕ) (i : ℕ) (xs : List ℕ) → length l ≤ i → sets 
 sets-out l i [] h = refl
 sets-out l i (x ∷ xs) h = rw (set-out l i x h) (sets-out l (suc i) xs (omega arith))
 
+-- Bytes laid from the slice's end on leave it as it was.
 pub laid-past : (xs l : List ℕ) (at : ℕ) → length l ≤ at → {end : ℕ} → end ≡ at + length xs → LaidAt xs l at l end
 laid-past xs l at h e = record { ends = e; lies = sym (sets-out l at xs h) }
 
+-- A slice with no bytes has none afterwards, whatever is laid into it.
 pub laid-nowhere : {xs m : List ℕ} {at i : ℕ} → LaidAt xs [] at m i → m ≡ []
 laid-nowhere {xs} {m} {at} g = g .lies ∙ sets-out [] at xs (omega arith)
 
@@ -61,10 +69,12 @@ pub record LeftToLay (whole rest l : List ℕ) (at : ℕ) (m : List ℕ) (i : �
   pub ends : i + length rest ≡ at + length whole
   pub lies : sets m i rest ≡ sets l at whole
 
+-- Before the first turn the whole is left.
 pub left-start : (whole l : List ℕ) (at : ℕ) → LeftToLay whole whole l at l at
 left-start whole l at = record { ends = refl; lies = refl }
 
 module _ {whole rest l m : List ℕ} {at i : ℕ} (g : LeftToLay whole rest l at m i) where
+  -- A turn that lays the front of what is left leaves the rest.
   pub left-turn : {xs ys n : List ℕ} {j : ℕ} → rest ≡ xs ++ ys → LaidAt xs m i n j → LeftToLay whole ys l at n j
   left-turn {xs} {ys} {n} {j} e h =
       record {
@@ -72,12 +82,15 @@ module _ {whole rest l m : List ℕ} {at i : ℕ} (g : LeftToLay whole rest l at
         lies = rw (h .lies, h .ends) (sym (sets-append m i xs ys) ∙ rw (← e) (g .lies));
       }
 
+  -- What is left may be given as any equal list.
   pub left-same : {ys : List ℕ} → rest ≡ ys → LeftToLay whole ys l at m i
   left-same e = rw (← e) g
 
+  -- With nothing left the whole is laid.
   pub left-end : rest ≡ [] → LaidAt whole l at m i
   left-end e = record { ends = omega (arith, ap length e, g .ends); lies = sym (sym (g .lies) ∙ rw e) }
 
+  -- At every turn the slice is as long as it was.
   pub left-length : length m ≡ length l
   left-length = sym (length-sets m i rest) ∙ ap length (g .lies) ∙ length-sets l at whole
 
@@ -85,6 +98,7 @@ module _ {whole rest l m : List ℕ} {at i : ℕ} (g : LeftToLay whole rest l at
 pub bytes-start : (f : List ℕ) (at n : ℕ) → bytesFrom f at n ≡ bytesFrom f (at + 0) (n - 0)
 bytes-start f at n = ap₂ (bytesFrom f) (omega arith) (omega arith)
 
+-- As long as i is below n: the byte i is next, and the others follow.
 pub bytes-turn : (f : List ℕ) (at n i : ℕ) {v : ℕ} → i < n → v ≡ byteAt f (at + i) →
     bytesFrom f (at + i) (n - i) ≡ (v ∷ []) ++ bytesFrom f (at + (i + 1)) (n - (i + 1))
 unfolding bytesFrom
@@ -92,10 +106,12 @@ bytes-turn f at n i h v =
     let e : n - i ≡ suc (n - (i + 1)) = omega arith in
     let s : at + i + 1 ≡ at + (i + 1) = omega arith in rw (v, e, s)
 
+-- After n bytes nothing is left.
 pub bytes-end : (f : List ℕ) (at n i : ℕ) → n ≤ i → bytesFrom f at (n - i) ≡ []
 unfolding bytesFrom
 bytes-end f at n i h = let e : n - i ≡ 0 = omega arith in rw e
 
+-- There are as many bytes as asked for.
 pub bytes-length : (f : List ℕ) (at n : ℕ) → length (bytesFrom f at n) ≡ n
 unfolding bytesFrom
 bytes-length f at zero = refl
@@ -110,12 +126,14 @@ module _ (f : List ℕ) (b : (i : ℕ) → byteAt f i < 256) where
       let low : pairAt f at % 256 ≡ byteAt f (at + 1) = omega (arith, b (at + 1)) in
       let e : at + 1 + 1 ≡ at + 2 = omega arith in rw (high, low, e)
 
+  -- Two-byte numbers that are read and written again are the bytes that were read.
   pub pairs-copied : (at n : ℕ) → pairsBytes (pairsFrom f at n) ≡ bytesFrom f at (2 * n)
   unfolding pairsBytes pairsFrom bytesFrom
   pairs-copied at zero = refl
   pairs-copied at (suc n) =
       let e : 2 * suc n ≡ suc (suc (2 * n)) = omega arith in rw (e, pairs-copied (at + 2) n) (two-copied at (2 * n))
 
+  -- Bounds that are read and written again are the bytes that were read.
   pub bounds-copied : (at k : ℕ) → boundsBytes (boundsFrom f at k) ≡ bytesFrom f at (4 * k)
   unfolding boundsBytes boundsFrom bytesFrom
   bounds-copied at zero = refl
@@ -130,6 +148,7 @@ pub next-rule : (k : ℕ) (f : List ℕ) (at n i : ℕ) → i < n →
 unfolding rulesFrom
 next-rule k f at n i h = let e : n - i ≡ suc (n - (i + 1)) = omega arith in rw e
 
+-- After n rules none is left.
 pub no-rule : (k : ℕ) (f : List ℕ) (at n i : ℕ) → n ≤ i → rulesFrom k f at (n - i) ≡ []
 unfolding rulesFrom
 no-rule k f at n i h = let e : n - i ≡ 0 = omega arith in rw e
@@ -144,6 +163,7 @@ bytes-add f at (suc n) m =
     let e : suc n + m ≡ suc (n + m) = omega arith in
     let s : at + 1 + n ≡ at + suc n = omega arith in rw (e, bytes-add f (at + 1) n m, s)
 
+-- Bytes within the file are a part of it.
 pub bytes-part : (f : List ℕ) (at n : ℕ) → at + n ≤ length f → bytesFrom f at n ≡ part f at n
 unfolding bytesFrom
 bytes-part f at zero h = refl

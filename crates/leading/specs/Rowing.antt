@@ -16,12 +16,14 @@ module _ (s : Place) (p : Policy) (marks : List ℕ) (x : ℕ) where
   pub record Rowing (rs : List Rule) (left found : ℕ) : Type 0 where
     pub is : row p marks s x ≡ gathered s p marks rs x left found
 
+  -- Before the first rule all outputs are left and none is found.
   pub rowing-start : WellFormed p → (rs : List Rule) → rs ≡ own (s .location) (p .rules) → (left : ℕ) → left ≡ allBelow (outputValues p) → Rowing rs left 0
   unfolding row
   rowing-start k rs e left c = record { is = sym (gathered-own s p marks x (allBelow (outputValues p)) k) ∙ rw (e, c) }
 
   module _ {r : Rule} {rs : List Rule} {left found took kept : ℕ} (g : Rowing (r ∷ rs) left found) (t : took ≡ takes (looked stopped p s) r x left)
       (e : kept ≡ cond (leads s p marks r) took 0) where
+    -- After a rule what it takes is no longer left, and is found if the rule leads to a marked place.
     pub rowing-more : Rowing rs (bitXor left took) (bitOr found kept)
     unfolding gathered
     rowing-more = record { is = g .is ∙ rw (e, t) (ap (gathered s p marks rs x (bitXor left (takes (looked stopped p s) r x left))) (go (leads s p marks r))) }
@@ -30,6 +32,7 @@ module _ (s : Place) (p : Policy) (marks : List ℕ) (x : ℕ) where
         go true = refl
         go false = sym (or-zero-r found)
 
+  -- After the last rule what is found is the row.
   pub rowing-done : {left found : ℕ} → Rowing [] left found → found ≡ row p marks s x
   unfolding gathered
   rowing-done g = sym (g .is)

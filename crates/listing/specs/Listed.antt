@@ -37,6 +37,7 @@ bytesLines (k ∷ h ∷ l ∷ bs) = entryLine k (h * 256 + l) ++ bytesLines bs
 unfoldable pub leftLine : ℕ → List ℕ
 leftLine n = ascii "left " ++ decimal n ++ ascii " bytes\n"
 
+-- The bytes, or none after a refusal.
 abbrev pub noneRefused : ℕ → List ℕ → List ℕ
 noneRefused zero bytes = bytes
 noneRefused (suc n) bytes = []

@@ -35,6 +35,7 @@ module _ (front rest : List ℕ) (long : 5975 ≤ length front) (reading : ℕ) 
       go zero e = absurd (refused e)
       go (suc n) e = refl
 
+  -- `clean` writes the same for the whole file and for its front.
   pub written-front : written reading whole ≡ written reading front
   unfolding written
   written-front = rw under-front (go (refusalUnder reading front) refl)

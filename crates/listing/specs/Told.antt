@@ -25,6 +25,7 @@ pub record SaidByClean (reading : ℕ) (file : List ℕ) : Type 0 where
   pub writes : written reading file ≡ bytesOf policy
 
 module _ (reading : ℕ) (file : List ℕ) where
+  -- For a file that passes under the reading, `clean` prints and writes this.
   pub told : refusalUnder reading file ≡ 0 → SaidByClean reading file
   unfolding printed written cleanedFile
   told passed =

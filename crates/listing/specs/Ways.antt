@@ -77,6 +77,7 @@ few-none (a ∷ []) h = refl
 few-none (a ∷ b ∷ []) h = refl
 few-none (a ∷ b ∷ c ∷ bytes) h = absurd (omega arith)
 
+-- Past the last whole entry there is no line.
 pub lines-end : (list : List ℕ) (i : ℕ) → length list ≤ i + 2 → bytesLines (drop i list) ≡ []
 lines-end list i h = few-none (drop i list) (rw length-drop (omega arith))
 
@@ -114,6 +115,7 @@ module _ (reading : ℕ) (file out list : List ℕ) (roomOut : length out ≡ 59
     pub few : l .struck ≤ 957
     pub says : printed reading file ≡ bytesLines (take (l .struck) listAfter) ++ leftLine (l .cleaned)
 
+  -- Clean gives lengths: this is what is written and printed.
   pub given-way : {l : Lengths} {outAfter listAfter : List ℕ} → CleanPromise reading file out list (Cleaned.Gives l) outAfter listAfter → GoesOut l outAfter listAfter
   unfolding printed written cleanOf cleanedOut struckOut struckList
   given-way {l} {outAfter} {listAfter} h =

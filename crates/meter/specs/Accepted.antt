@@ -46,12 +46,14 @@ module _ (reading : ℕ) (file marks station : List ℕ) where
     abbrev half : OutputAnswer
     half = outputOf reading file marks (stationState station) x y
 
+    -- The output half released z, the station goes on, and the pulses went into a total that has room for them.
     pub record Accepted (z : ℕ) (a : MeterAnswer) : Type 0 where
       pub released : half .answer ≡ gives z
       pub next : a .station ≡ withStation station (half .state) register
       pub sums : a .totals ≡ risen totals (isOn (weightD reading file) z) (pulsesOf register (lastReading station))
       pub room : fits totals (isOn (weightD reading file) z) (pulsesOf register (lastReading station)) ≡ true
 
+    -- A tick for which the second half gives an output is accepted so.
     pub accepted-output :
         {z : ℕ} → meterOutputOf reading file marks station totals register x y .answer ≡ gives z →
         Accepted z (meterOutputOf reading file marks station totals register x y)

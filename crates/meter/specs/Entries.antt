@@ -18,9 +18,11 @@ use Rattle.stepping.specs.declared.state.State.{State}
 unfoldable pub newRefusal : List ℕ → List ℕ → ℕ
 newRefusal station totals = unless (isStation station && areTotals totals) 14
 
+-- The station that is set up: the start and the first reading; with a slice too short it stays as it was.
 unfoldable pub newStation : List ℕ → List ℕ → ℕ → List ℕ
 newStation station totals register = cond (isStation station && areTotals totals) (withStation station startState register) station
 
+-- The totals that are set up, both at 0; with a slice too short they stay as they were.
 unfoldable pub newTotals : List ℕ → List ℕ → List ℕ
 newTotals station totals = cond (isStation station && areTotals totals) (0 ∷ 0 ∷ drop 2 totals) totals
 
@@ -56,6 +58,7 @@ past (suc n) refusal a = refusal (suc n)
 abbrev pub tagP : ℕ
 tagP = 80
 
+-- The tag of the output that is on while pulses are billed.
 abbrev pub tagD : ℕ
 tagD = 68
 
@@ -64,9 +67,11 @@ module _ (reading : ℕ) (file : List ℕ) where
   unfoldable pub meterRefusal : ℕ
   meterRefusal = refusalUnder reading file orElse unless (among tagP (policyOf reading file .inputs) && among tagD (policyOf reading file .outputs)) 26
 
+  -- The weight of P in a value of the inputs.
   abbrev pub weightP : ℕ
   weightP = weightOf tagP (policyOf reading file .inputs)
 
+  -- The weight of D in a value of the outputs.
   abbrev pub weightD : ℕ
   weightD = weightOf tagD (policyOf reading file .outputs)
 

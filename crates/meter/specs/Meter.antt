@@ -9,15 +9,19 @@ use lib.ListN.{length, getD, take, drop}
 use Rattle.bays.specs.Five.{stateWords, stateIn}
 use Rattle.stepping.specs.declared.state.State.{State}
 
+-- The slice has the six numbers of a station.
 abbrev pub isStation : List ℕ → Bool
 isStation station = leb 6 (length station)
 
+-- The slice has the two totals.
 abbrev pub areTotals : List ℕ → Bool
 areTotals totals = leb 2 (length totals)
 
+-- The state in the first five numbers.
 abbrev pub stationState : List ℕ → State
 stationState station = stateIn (take 5 station)
 
+-- The last accepted reading, the sixth number.
 abbrev pub lastReading : List ℕ → ℕ
 lastReading station = getD station 5 0
 
@@ -25,9 +29,11 @@ lastReading station = getD station 5 0
 abbrev pub withStation : List ℕ → State → ℕ → List ℕ
 withStation station s register = stateWords s ++ (register ∷ drop 6 station)
 
+-- The billed total, the first of the two.
 abbrev pub billed : List ℕ → ℕ
 billed totals = getD totals 0 0
 
+-- The unbilled total, the second of the two.
 abbrev pub unbilled : List ℕ → ℕ
 unbilled totals = getD totals 1 0
 

@@ -16,9 +16,11 @@ pub record MeterNewPromise (station totals : List ℕ) (register r : ℕ) (after
   pub placed : after ≡ newStation station totals register
   pub cleared : risen ≡ newTotals station totals
 
+-- The whole promise of the first half: its answer.
 pub record MeterInputPromise (reading : ℕ) (file marks station : List ℕ) (register x : ℕ) (r : HalfAnswer) : Type 0 where
   pub said : answerSaid r ≡ meterInputOf reading file marks station register x
 
+-- The whole promise of the second half: its answer, and what the station and the totals are then.
 pub record MeterOutputPromise (reading : ℕ) (file marks station totals : List ℕ) (register x y : ℕ) (r : HalfAnswer) (after risen : List ℕ) : Type 0 where
   pub said : record { answer = answerSaid r; station = after; totals = risen } ≡ meterOutputOf reading file marks station totals register x y
 
@@ -32,15 +34,18 @@ pub record ReleasePromise (reading : ℕ) (file marks station totals : List ℕ)
       let o = outputOf reading file marks (stationState station) x y in
       record { answer = answerSaid r; station = after; totals = risen } ≡ metered station totals register weight (o .state) (o .answer)
 
+-- One answer alone sets a meter up as promised, and one later content of each slice.
 pub meter-new-one : {station totals : List ℕ} {register r q : ℕ} {after risen also other : List ℕ} →
     MeterNewPromise station totals register r after risen → MeterNewPromise station totals register q also other →
     (r ≡ q) × (after ≡ also) × (risen ≡ other)
 meter-new-one h g = (h .said ∙ sym (g .said), h .placed ∙ sym (g .placed), h .cleared ∙ sym (g .cleared))
 
 module _ {reading : ℕ} {file marks station : List ℕ} {register x : ℕ} {r q : HalfAnswer} where
+  -- One answer alone meets the promise of the first half.
   pub meter-input-one : MeterInputPromise reading file marks station register x r → MeterInputPromise reading file marks station register x q → r ≡ q
   meter-input-one h g = answer-one r q (h .said ∙ sym (g .said))
 
+  -- One answer alone meets the promise of the second half, and one later content of each slice.
   pub meter-output-one : {totals : List ℕ} {y : ℕ} {after risen also other : List ℕ} →
       MeterOutputPromise reading file marks station totals register x y r after risen → MeterOutputPromise reading file marks station totals register x y q also other →
       (r ≡ q) × (after ≡ also) × (risen ≡ other)

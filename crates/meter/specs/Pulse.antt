@@ -17,6 +17,7 @@ use Rattle.policy.specs.Signals.{weight-none, weight-bit}
 use Rattle.meter.specs.Meter.{withPulse, isOn}
 use Rattle.meter.specs.Entries.{tagP, tagD, meterRefusal, weightP}
 
+-- In z the signal is on exactly if there are pulses, and all other bits are those of x.
 pub record PulseSet (weight pulses x z : ℕ) : Type 0 where
   pub own : isOn weight z ≡ not (eqb pulses 0)
   pub others : bitAnd z (255 - weight) ≡ bitAnd x (255 - weight)
@@ -43,6 +44,7 @@ every-at test (suc n) e i h = go (and-eq-true-iff (test n) (everyBelow test n) .
 tested : everyBelow (λ i. everyBelow (bitGood (2 ^ i)) 256) 4 ≡ true
 tested = refl
 
+-- Each of the four input bits is so set or cleared, in every byte x.
 pub pulse-set : (i : ℕ) → i < 4 → (pulses x : ℕ) → x < 256 → PulseSet (2 ^ i) pulses x (withPulse (2 ^ i) pulses x)
 unfolding withPulse
 pulse-set i h n x l = let k = go (eqb n 0) in record { own = k .0; others = k .1 }

@@ -31,6 +31,7 @@ module _ (reading : ℕ) (file : List ℕ) where
     wider (gives v) h = tt
 
     module _ (station : List ℕ) where
+      -- The first half refuses by the numbers 1 to 27 alone.
       pub input-up-to : (register x : ℕ) → UpTo 27 (meterInputOf reading file marks station register x)
       unfolding meterInputOf
       input-up-to register x = first (meterRefusal reading file) meter-le
@@ -46,6 +47,7 @@ module _ (reading : ℕ) (file : List ℕ) where
           first zero l = second (isStation station)
           first (suc n) l = (omega arith, l)
 
+      -- The second half refuses by the numbers 1 to 27 alone.
       pub output-up-to : (totals : List ℕ) (register x y : ℕ) → UpTo 27 (meterOutputOf reading file marks station totals register x y .answer)
       unfolding meterOutputOf settled
       output-up-to totals register x y = first (meterRefusal reading file) meter-le

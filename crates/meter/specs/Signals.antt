@@ -11,13 +11,16 @@ use Rattle.policy.specs.Signals.{inputWeight, outputWeight, own-input, own-outp
 use Rattle.meter.specs.Entries.{tagP, tagD, meterRefusal}
 use Rattle.meter.specs.declared.signals.Signals.{Signals}
 
+-- The weights of P and D, as the code finds them in the bytes.
 abbrev pub signalsIn : List ℕ → Signals
 signalsIn f = record { pulse = inputWeight f tagP; dispense = outputWeight f tagD }
 
+-- P is no input or D is no output.
 abbrev pub Lacks : List ℕ → Type 0
 Lacks f = (inputWeight f tagP ≡ 0) ⊎ (outputWeight f tagD ≡ 0)
 
 module _ (reading : ℕ) (f : List ℕ) where
+  -- Without P or D the refusal is that of the file, or else 26.
   pub lacks : Lacks f → meterRefusal reading f ≡ (refusalUnder reading f orElse 26)
   unfolding meterRefusal
   lacks h = go (refusalUnder reading f) refl
@@ -32,6 +35,7 @@ module _ (reading : ℕ) (f : List ℕ) where
       go zero e = rw (no e h)
       go (suc n) e = refl
 
+  -- With P and D the refusal is that of the file alone.
   pub has : (inputWeight f tagP ≡ 0 → ⊥) → (outputWeight f tagD ≡ 0 → ⊥) → meterRefusal reading f ≡ refusalUnder reading f
   unfolding meterRefusal
   has h g = go (refusalUnder reading f) refl

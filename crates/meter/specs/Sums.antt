@@ -1,5 +1,7 @@
 -- "The two totals together equal the advance of a register that never rolls over, from the first reading to the last accepted one, provided fewer than
 -- 65,536 pulses pass between accepted readings." Over any sequence of ticks, accepted and refused.
+-- In order: the pulses of one tick and the advance; what the second half can do; one tick; a meter that is set up; a sequence of ticks; the totals from
+-- the set-up on.
 use mathlib.Core.Path.{_≡_, refl}
 use mathlib.Core.Bool.{Bool, true, false, cond, _&&_}
 use mathlib.Core.List.{List, [], _∷_, _++_}
@@ -27,6 +29,7 @@ pub advance : (c k : ℕ) → c ≤ k → k < c + 65536 → pulsesOf (k % 65536)
 unfolding pulsesOf
 advance c k h l = omega arith
 
+-- The pulses are the advance modulo 65,536, however far it goes.
 pub advance-round : (c k : ℕ) → (pulsesOf (k % 65536) (c % 65536) + c) % 65536 ≡ k % 65536
 unfolding pulsesOf
 advance-round c k = omega arith
@@ -39,6 +42,7 @@ pub data MeterTurned (station totals : List ℕ) (register : ℕ) : MeterAnswer 
       (record { answer = gives y; station = withStation station s register; totals = risen totals on (pulsesOf register (lastReading station)) })
 
 module _ (reading : ℕ) (file marks station totals : List ℕ) (register x y : ℕ) where
+  -- The second half refuses and all stays, or it goes on: nothing else.
   pub turned : MeterTurned station totals register (meterOutputOf reading file marks station totals register x y)
   unfolding meterOutputOf settled
   turned = first (meterRefusal reading file)
@@ -78,6 +82,7 @@ turned-stays : {station totals : List ℕ} {register n : ℕ} (a : MeterAnswer) 
 turned-stays _ stays e = (refl, refl)
 turned-stays _ (moves on s f h) e = let z : _≡_ {A = ℕ} 0 1 = cc in absurd (omega arith)
 
+-- A tick that the second half refuses changes neither the station nor the totals.
 pub refused-stays : (reading : ℕ) (file marks station totals : List ℕ) (register x y : ℕ) {n : ℕ} →
     let a = meterOutputOf reading file marks station totals register x y in
     a .answer ≡ refused n → (a .station ≡ station) × (a .totals ≡ totals)
@@ -97,6 +102,7 @@ FewerOne (gives y) c k = (c ≤ k) × (k < c + 65536)
 after-four : (station cs : List ℕ) (r : ℕ) → length cs ≡ 4 → getD (cs ++ (r ∷ drop 6 station)) 4 0 ≡ r
 after-four station cs r e = getD-at cs r (drop 6 station) 0 4 e
 
+-- The two totals together.
 abbrev pub both : List ℕ → ℕ
 both totals = billed totals + unbilled totals
 
@@ -146,6 +152,7 @@ pub record Turn : Type 0 where
 
 -- "The first reading is given when the totals are set up, both at 0": from there on, where c is the first count.
 module _ (station totals : List ℕ) (granted : newRefusal station totals ≡ 0) (c : ℕ) where
+  -- The meter that is set up.
   abbrev pub fresh : Meter
   fresh = record { station = newStation station totals (c % 65536); totals = newTotals station totals }
 
@@ -157,10 +164,12 @@ module _ (station totals : List ℕ) (granted : newRefusal station totals ≡ 0)
       go true e = refl
       go false e = absurd (omega arith)
 
+  -- The last reading of a meter that is set up shows the first count.
   pub fresh-last : lastReading (fresh .station) ≡ c % 65536
   unfolding newStation
   fresh-last = rw good
 
+  -- The totals of a meter that is set up are 0.
   pub fresh-both : both (fresh .totals) ≡ 0
   unfolding newTotals
   fresh-both = rw good
@@ -179,9 +188,11 @@ round-on a b d c k l h g =
     same-round (a + c) (d + l) ((b + l) / 65536 + (d + k) / 65536) ((a + k) / 65536 + (b + c) / 65536) (omega arith)
 
 module _ (reading : ℕ) (file marks : List ℕ) where
+  -- What the second half answers to a tick.
   abbrev pub answered : Meter → Turn → MeterAnswer
   answered m t = meterOutputOf reading file marks (m .station) (m .totals) (t .count % 65536) (t .x) (t .y)
 
+  -- The meter after a tick.
   abbrev pub after : Meter → Turn → Meter
   after m t = record { station = answered m t .station; totals = answered m t .totals }
 
@@ -190,6 +201,7 @@ module _ (reading : ℕ) (file marks : List ℕ) where
   meterOf m [] = m
   meterOf m (t ∷ ts) = meterOf (after m t) ts
 
+  -- The count at the last accepted tick; c, if none is accepted.
   unfoldable pub lastAccepted : Meter → ℕ → List Turn → ℕ
   lastAccepted m c [] = c
   lastAccepted m c (t ∷ ts) = lastAccepted (after m t) (reached (answered m t .answer) c (t .count)) ts
@@ -250,6 +262,7 @@ module _ (reading : ℕ) (file marks : List ℕ) where
 
   -- So it is from a station that is set up with the count c.
   module _ (station totals : List ℕ) (granted : newRefusal station totals ≡ 0) (c : ℕ) where
+    -- With the proviso the totals together are the advance from the first count to the last accepted one.
     pub totals-are-the-advance :
         (ts : List Turn) →
         let m = fresh station totals granted c in Fewer m c ts → both (meterOf m ts .totals) ≡ lastAccepted m c ts - c
@@ -258,6 +271,7 @@ module _ (reading : ℕ) (file marks : List ℕ) where
         let z = fresh-both station totals granted c in
         omega arith
 
+    -- Without the proviso they are that advance modulo 65,536.
     pub totals-round :
         (ts : List Turn) →
         let m = fresh station totals granted c in (both (meterOf m ts .totals) + c) % 65536 ≡ lastAccepted m c ts % 65536

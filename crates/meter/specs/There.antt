@@ -20,10 +20,12 @@ past-some zero (suc m) refusal a e = absurd (omega arith)
 past-some (suc n) m refusal a e = ap refusal e
 
 module _ (reading : ℕ) (file marks station : List ℕ) where
+  -- Without P or D the first half gives the refusal of the file, or else 26.
   pub input-lacks : (register x : ℕ) → Lacks file → meterInputOf reading file marks station register x ≡ refused (refusalUnder reading file orElse 26)
   unfolding meterInputOf
   input-lacks register x h = past-some (meterRefusal reading file) (refusalUnder reading file) refused _ (lacks reading file h)
 
+  -- Without P or D the second half gives the same refusal, and nothing changes.
   pub output-lacks : (totals : List ℕ) (register x y : ℕ) → Lacks file →
       meterOutputOf reading file marks station totals register x y ≡ kept station totals (refusalUnder reading file orElse 26)
   unfolding meterOutputOf
@@ -36,6 +38,7 @@ module _ (reading : ℕ) (file marks station : List ℕ) where
     odd-bad : (two : Bool) (n : ℕ) → refusalUnder reading file ≡ suc n → oddRefusal reading file marks two ≡ suc n
     odd-bad two n e = odd-first reading file marks two (some-bad n e) ∙ e
 
+    -- With fewer than six numbers the first half refuses: by the file or the marks, or else by 16.
     pub input-odd : (register x : ℕ) → isStation station ≡ false →
         meterInputOf reading file marks station register x ≡ refused (oddRefusal reading file marks true)
     unfolding meterInputOf
@@ -46,6 +49,7 @@ module _ (reading : ℕ) (file marks station : List ℕ) where
         go zero e = refl
         go (suc n) e = rw (odd-bad true n e)
 
+    -- With a station the first half is the input half, with P set or cleared in x.
     pub input-there : (register x : ℕ) → isStation station ≡ true →
         meterInputOf reading file marks station register x
         ≡ inputOf reading file marks (stationState station) (withPulse (inputWeight file tagP) (pulsesOf register (lastReading station)) x)
@@ -62,6 +66,7 @@ module _ (reading : ℕ) (file marks station : List ℕ) where
         go (suc n) e = rw (input-first reading file marks (some-bad n e) (stationState station) (given (inputWeight file tagP)), e)
 
     module _ (totals : List ℕ) (register x y : ℕ) where
+      -- With a slice too short the second half refuses: by the file or the marks, or else by 14. Nothing changes.
       pub output-odd : (isStation station && areTotals totals) ≡ false →
           meterOutputOf reading file marks station totals register x y ≡ kept station totals (oddRefusal reading file marks false)
       unfolding meterOutputOf
@@ -73,6 +78,7 @@ module _ (reading : ℕ) (file marks station : List ℕ) where
           go zero e = refl
           go (suc n) e = rw (odd-bad false n e)
 
+      -- With both slices long enough the second half is the output half, and what follows from its answer.
       pub output-there : (isStation station && areTotals totals) ≡ true →
           let o = outputOf reading file marks (stationState station) x y in
           meterOutputOf reading file marks station totals register x y

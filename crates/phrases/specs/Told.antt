@@ -26,9 +26,11 @@ no-bounds (suc (suc (suc (suc (suc n))))) h = absurd (omega arith)
 
 -- What the words from `at` on make of what was said before.
 module _ (s : Scope) (n : ℕ) (l : List ℕ) where
+  -- The answer to the words from `at` on: a refusal, or the rule as it stands after the last.
   unfoldable pub fromThere : ℕ → Parsed → Answer Begun
   fromThere at p = through (ruleWord s) (begunOf n p) (wordsOf (drop at l))
 
+  -- From the first word on it is the answer to the whole line.
   pub from-first : (p : Parsed) → begunOf n p ≡ bare n → fromThere 0 p ≡ through (ruleWord s) (bare n) (wordsOf l)
   unfolding fromThere
   from-first p e = ap (λ (b : Begun). through (ruleWord s) b (wordsOf l)) e
@@ -39,6 +41,7 @@ module _ (s : Scope) (n : ℕ) (l : List ℕ) where
   from-end at p h = rw (drop-of-length-le l h)
 
   module _ (at : ℕ) (p : Parsed) (start end : ℕ) (next : Next l at start end) where
+    -- No word was found from there on: the rule stands as it is.
     pub from-none : end ≤ start → gives (begunOf n p) ≡ fromThere at p
     unfolding fromThere through
     from-none h = rw (next .words, le-ltb start end h)
@@ -53,9 +56,11 @@ module _ (s : Scope) (n : ℕ) (l : List ℕ) where
       refusing zero b go z = absurd (z refl)
       refusing (suc r) b go z = refl
 
+      -- The next word is refused, and that is the answer.
       pub from-refused : (step .refusal ≡ 0 → ⊥) → stepSaid n step ≡ fromThere at p
       from-refused z = refusing (step .refusal) (begunOf n (step .parsed)) (λ t. through (ruleWord s) t (wordsOf (drop end l))) z ∙ sym here
 
+      -- The next word is taken, and the answer is that to the words after it.
       pub from-on : step .refusal ≡ 0 → fromThere at p ≡ fromThere end (step .parsed)
       unfolding fromThere
       from-on z = here ∙ ap (λ (r : ℕ). answer r (begunOf n (step .parsed)) andThen λ t. through (ruleWord s) t (wordsOf (drop end l))) z

@@ -27,6 +27,7 @@ sectionRefusal f at width n low high size =
 abbrev pub isCapital : ℕ → Bool
 isCapital t = leb 65 t && leb t 90
 
+-- The tag is one of the list.
 unfoldable pub among : ℕ → List ℕ → Bool
 among t [] = false
 among t (a ∷ rest) = eqb a t || among t rest
@@ -49,6 +50,7 @@ locationGood b = leb b 1
 unfoldable pub maskGood : ℕ → ℕ → ℕ → Bool
 maskGood signals care value = ltb care (2 ^ signals) && eqb (bitAnd value care) value
 
+-- All of 6 for one rule; `before` is the source of the rule before it.
 unfoldable pub headGood : (inputs outputs clocks locations before : ℕ) → Rule → Bool
 headGood inputs outputs clocks locations before r =
     leb before (r .source) && (ltb (r .source) locations
@@ -59,6 +61,7 @@ headGood inputs outputs clocks locations before r =
 unfoldable pub boundGood : ℕ → Bound → Bool
 boundGood c b = leb (b .low) (b .high) && (leb (b .low) c && (ltb (b .high) c || eqb (b .high) 65535))
 
+-- There is a bound for each ceiling, and each is good.
 unfoldable pub boundsGood : List ℕ → List Bound → Bool
 boundsGood [] [] = true
 boundsGood [] (b ∷ bs) = false
@@ -70,6 +73,7 @@ unfoldable pub ruleRefusal : (inputs outputs : ℕ) → List ℕ → (locations 
 ruleRefusal inputs outputs cs locations before r =
     unless (headGood inputs outputs (length cs) locations before r) 6 orElse unless (boundsGood cs (r .bounds)) 7
 
+-- The refusal of the first rule that has one.
 unfoldable pub rulesRefusal : (inputs outputs : ℕ) → List ℕ → (locations before : ℕ) → List Rule → ℕ
 rulesRefusal inputs outputs cs locations before [] = 0
 rulesRefusal inputs outputs cs locations before (r ∷ rs) =
@@ -80,20 +84,24 @@ module _ (f : List ℕ) where
   unfoldable pub inputsRefusal : ℕ
   inputsRefusal = sectionRefusal f 0 1 (File.inputCount f) 0 4 1 orElse unless (tagsGood [] (File.inputTags f)) 3
 
+  -- The outputs: at most four, each tag A to Z and new among inputs and outputs.
   unfoldable pub outputsRefusal : ℕ
   outputsRefusal =
       sectionRefusal f (File.outputsAt f) 1 (File.outputCount f) 0 4 1
       orElse unless (tagsGood (File.inputTags f) (File.outputTags f)) 3
 
+  -- The clocks: at most four, each with a ceiling of 1 to 1,001.
   unfoldable pub clocksRefusal : ℕ
   clocksRefusal =
       sectionRefusal f (File.clocksAt f) 1 (File.clockCount f) 0 4 2 orElse unless (allPass ceilingGood (File.ceilingsOf f)) 4
 
+  -- The locations: 1 to 64, each with a byte of 0 or 1.
   unfoldable pub locationsRefusal : ℕ
   locationsRefusal =
       sectionRefusal f (File.locationsAt f) 1 (File.locationCount f) 1 64 1
       orElse unless (allPass locationGood (File.locationBytes f)) 5
 
+  -- The rules: at most 256, none with a refusal.
   unfoldable pub rulesSectionRefusal : ℕ
   rulesSectionRefusal =
       sectionRefusal f (File.rulesAt f) 2 (File.ruleCount f) 0 256 (File.ruleSize (File.clockCount f))

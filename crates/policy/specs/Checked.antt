@@ -1,4 +1,5 @@
 -- What holds of the policy of a file that is not refused: of its tags and ceilings, and of each rule.
+-- In order: the policy is well formed; passed tests as facts; what the check makes sure of in one rule, and in all; the same of a well-formed policy.
 use mathlib.Core.Path.{_≡_, refl, ap}
 use mathlib.Core.Bool.{Bool, true, and-eq-true-iff, false≢true}
 use mathlib.Core.List.{List, [], _∷_, _++_}
@@ -19,6 +20,7 @@ use Rattle.policy.specs.Check.{allPass, ceilingGood, maskGood, headGood,
 use Rattle.policy.specs.Sound.{WellFormed, Each, each-none, each-more, each-weak, Formed, Sound}
 use Rattle.policy.specs.Frame.{pairs-length, rules-length, passed, inputs-length, outputs-length, locations-length}
 
+-- The policy of a file that passes the check is well formed.
 pub checked-file : (reading : ℕ) (f : List ℕ) → refusalOf f ≡ 0 → WellFormed (policyOf reading f)
 unfolding policyOf
 checked-file reading f e =
@@ -50,6 +52,7 @@ all-at test [] e i h = absurd (omega arith)
 all-at test (a ∷ rest) e zero h = and-eq-true-iff (test a) _ .0 e .0
 all-at test (a ∷ rest) e (suc i) h = all-at test rest (and-eq-true-iff (test a) _ .0 e .1) i (omega arith)
 
+-- If all of xs and all of ys pass, all of the two together do.
 pub all-append : (test : ℕ → Bool) (xs ys : List ℕ) → allPass test xs ≡ true → allPass test ys ≡ true → allPass test (xs ++ ys) ≡ true
 unfolding allPass
 all-append test [] ys g h = h
@@ -57,6 +60,7 @@ all-append test (x ∷ xs) ys g h =
     let t = and-eq-true-iff (test x) (allPass test xs) .0 g in
     and-eq-true-iff (test x) _ .1 (t .0, all-append test xs ys (t .1) h)
 
+-- Each ceiling that passes is 1 to 1,001.
 pub ceiling-at : (cs : List ℕ) → allPass ceilingGood cs ≡ true → (i : ℕ) → i < length cs → (1 ≤ getD cs i 0) × (getD cs i 0 ≤ 1001)
 ceiling-at cs e i h =
     let k = and-eq-true-iff (leb 1 (getD cs i 0)) _ .0 (all-at ceilingGood cs e i h) in (leb-true _ _ (k .0), leb-true _ _ (k .1))
@@ -139,6 +143,7 @@ module _ (inputs outputs : ℕ) (cs : List ℕ) (locations : ℕ) where
         },
       )
 
+  -- Where no rule is refused, sources never fall, and each rule has all that the check makes sure of.
   pub rules-good : (before : ℕ) (rs : List Rule) → rulesRefusal inputs outputs cs locations before rs ≡ 0 →
       Rising before rs × Each (Ruled inputs outputs cs locations) rs
   unfolding rulesRefusal
@@ -157,17 +162,22 @@ module _ (p : Policy) (k : WellFormed p) where
   well-rules : Rising 0 (p .rules) × Each (Ruled (length (p .inputs)) (length (p .outputs)) (p .ceilings) (p .locations)) (p .rules)
   well-rules = rules-good (length (p .inputs)) (length (p .outputs)) (p .ceilings) (p .locations) 0 (p .rules) (k .rules)
 
+  -- The sources of a well-formed policy never fall from one rule to the next.
   pub well-rising : Rising 0 (p .rules)
   well-rising = well-rules .0
 
+  -- Each rule of a well-formed policy has all that the check makes sure of.
   pub well-ruled : Each (Ruled (length (p .inputs)) (length (p .outputs)) (p .ceilings) (p .locations)) (p .rules)
   well-ruled = well-rules .1
 
+  -- A well-formed policy is sound.
   pub well-sound : Sound p
   well-sound = record { start = k .start; rules = each-weak (λ r g. g .formed) well-ruled }
 
+  -- Its bounds are lawful, so that stopped clocks change no answer.
   pub well-checked : LawfulRules (p .ceilings) (p .rules)
   well-checked = each-checked (length (p .inputs)) (length (p .outputs)) (p .ceilings) (p .locations) well-ruled
 
+  -- Each of its ceilings is 1 to 1,001.
   pub well-ceiling : (i : ℕ) → i < length (p .ceilings) → (1 ≤ getD (p .ceilings) i 0) × (getD (p .ceilings) i 0 ≤ 1001)
   well-ceiling = ceiling-at (p .ceilings) (k .ceilings)

@@ -9,6 +9,7 @@ use Rattle.policy.specs.Rules.{Bound, Rule, Policy}
 abbrev pub byteAt : List ℕ → ℕ → ℕ
 byteAt f at = getD f at 0
 
+-- The number in the two bytes at a position, the high byte first.
 abbrev pub pairAt : List ℕ → ℕ → ℕ
 pairAt f at = getD f at 0 * 256 + getD f (at + 1) 0
 
@@ -30,6 +31,7 @@ boundsFrom f at (suc k) = record { low = pairAt f at; high = pairAt f (at + 2) }
 abbrev pub ruleSize : ℕ → ℕ
 ruleSize clocks = 7 + 4 * clocks
 
+-- The rule that begins at a position, with a bound for each clock.
 unfoldable pub ruleFrom : ℕ → List ℕ → ℕ → Rule
 ruleFrom clocks f at =
     record {
@@ -50,30 +52,39 @@ rulesFrom clocks f at (suc n) = ruleFrom clocks f at ∷ rulesFrom clocks f (at 
 
 -- The counts, and where they stand.
 module _ (f : List ℕ) where
+  -- How many inputs there are.
   abbrev pub inputCount : ℕ
   inputCount = byteAt f 0
 
+  -- Where the count of outputs stands: after the tags of the inputs.
   unfoldable pub outputsAt : ℕ
   outputsAt = 1 + inputCount
 
+  -- How many outputs there are.
   abbrev pub outputCount : ℕ
   outputCount = byteAt f outputsAt
 
+  -- Where the count of clocks stands: after the tags of the outputs.
   unfoldable pub clocksAt : ℕ
   clocksAt = outputsAt + 1 + outputCount
 
+  -- How many clocks there are.
   abbrev pub clockCount : ℕ
   clockCount = byteAt f clocksAt
 
+  -- Where the count of locations stands: after the ceilings.
   unfoldable pub locationsAt : ℕ
   locationsAt = clocksAt + 1 + clockCount * 2
 
+  -- How many locations there are.
   abbrev pub locationCount : ℕ
   locationCount = byteAt f locationsAt
 
+  -- Where the two-byte count of rules stands: after the bytes of the locations.
   unfoldable pub rulesAt : ℕ
   rulesAt = locationsAt + 1 + locationCount
 
+  -- How many rules there are.
   abbrev pub ruleCount : ℕ
   ruleCount = pairAt f rulesAt
 
@@ -81,6 +92,7 @@ module _ (f : List ℕ) where
   unfoldable pub rulesStart : ℕ
   rulesStart = rulesAt + 2
 
+  -- Where the last rule ends.
   unfoldable pub rulesEnd : ℕ
   rulesEnd = rulesStart + ruleCount * ruleSize clockCount
 
@@ -92,15 +104,19 @@ module _ (f : List ℕ) where
   abbrev pub inputTags : List ℕ
   inputTags = part f 1 inputCount
 
+  -- The tags of the outputs.
   abbrev pub outputTags : List ℕ
   outputTags = part f (outputsAt + 1) outputCount
 
+  -- The ceiling of each clock.
   abbrev pub ceilingsOf : List ℕ
   ceilingsOf = pairsFrom f (clocksAt + 1) clockCount
 
+  -- The byte of each location.
   abbrev pub locationBytes : List ℕ
   locationBytes = part f (locationsAt + 1) locationCount
 
+  -- The rules in file order.
   abbrev pub rulesOf : List Rule
   rulesOf = rulesFrom clockCount ruleSection 0 ruleCount
 

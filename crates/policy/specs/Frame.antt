@@ -34,16 +34,19 @@ section f at width n low high size contents e =
 pub part-length : (f : List ℕ) (at n : ℕ) → at + n ≤ length f → length (part f at n) ≡ n
 part-length f at n h = simp (length-take, length-drop) (omega arith)
 
+-- Two-byte numbers: as many as asked for, wherever they are read.
 pub pairs-length : (f : List ℕ) (at n : ℕ) → length (pairsFrom f at n) ≡ n
 unfolding pairsFrom
 pairs-length f at zero = refl
 pairs-length f at (suc n) = ap suc (pairs-length f (at + 2) n)
 
+-- Bounds: as many as asked for.
 pub bounds-length : (f : List ℕ) (at k : ℕ) → length (boundsFrom f at k) ≡ k
 unfolding boundsFrom
 bounds-length f at zero = refl
 bounds-length f at (suc k) = ap suc (bounds-length f (at + 4) k)
 
+-- Rules: as many as asked for.
 pub rules-length : (clocks : ℕ) (f : List ℕ) (at n : ℕ) → length (rulesFrom clocks f at n) ≡ n
 unfolding rulesFrom
 rules-length clocks f at zero = refl
@@ -75,6 +78,7 @@ pub record Passed (f : List ℕ) : Type 0 where
   pub rules : rulesRefusal (inputCount f) (outputCount f) (ceilingsOf f) (locationCount f) 0 (rulesOf f) ≡ 0
   pub states : statesOf (ceilingsOf f) (clockCount f) (locationCount f) ≤ 65536
 
+-- A file that is not refused passes each part of the check.
 pub passed : (f : List ℕ) → refusalOf f ≡ 0 → Passed f
 unfolding refusalOf inputsRefusal outputsRefusal clocksRefusal locationsRefusal rulesSectionRefusal outputsAt clocksAt locationsAt rulesAt rulesStart rulesEnd
 passed f e =
@@ -115,6 +119,7 @@ passed f e =
       states = leb-true _ _ (none-unless _ 8 .0 (h .1));
     }
 
+-- A file that is not refused has its counts within their limits and its sections in their places.
 pub frame : (f : List ℕ) → refusalOf f ≡ 0 → Framed f
 frame f e = passed f e .frame
 
@@ -127,14 +132,18 @@ in-order f k = omega arith
 pub longest : (f : List ℕ) → Framed f → length f ≤ 5974
 longest f k = let s : ruleSize (clockCount f) ≤ 23 = omega arith in omega (arith, mul-le-mul (k .rules) s)
 
+-- There are as many input tags as the count of inputs says.
 pub inputs-length : (f : List ℕ) → Framed f → length (inputTags f) ≡ inputCount f
 inputs-length f k = part-length f 1 (inputCount f) (omega arith)
 
+-- There are as many output tags as the count of outputs says.
 pub outputs-length : (f : List ℕ) → Framed f → length (outputTags f) ≡ outputCount f
 outputs-length f k = part-length f (outputsAt f + 1) (outputCount f) (omega arith)
 
+-- There are as many location bytes as the count of locations says.
 pub locations-length : (f : List ℕ) → Framed f → length (locationBytes f) ≡ locationCount f
 locations-length f k = part-length f (locationsAt f + 1) (locationCount f) (omega arith)
 
+-- The rule section has room for exactly as many rules as their count says.
 pub section-length : (f : List ℕ) → Framed f → length (ruleSection f) ≡ ruleCount f * ruleSize (clockCount f)
 section-length f k = part-length f (rulesStart f) (ruleCount f * ruleSize (clockCount f)) (omega arith)

@@ -8,6 +8,7 @@ use Rattle.policy.specs.Check.{refusalOf, refusalUnder}
 use Rattle.policy.specs.declared.Layout.{Layout}
 use Rattle.policy.specs.declared.Checked.{Checked}
 
+-- The layout of a file that passes: its counts, where its rules stand, its ceilings, and how many states it has.
 abbrev pub layoutOf : ℕ → List ℕ → Layout
 layoutOf reading f =
     record {
@@ -23,6 +24,7 @@ layoutOf reading f =
       states = statesOf (File.ceilingsOf f) (File.clockCount f) (File.locationCount f);
     }
 
+-- What stands for the layout of a file that is refused: all 0.
 abbrev pub noLayout : Layout
 noLayout =
     record {
@@ -38,6 +40,7 @@ noLayout =
       states = 0;
     }
 
+-- The answer for a refusal n: the layout if n is 0, else none.
 abbrev pub checkedFrom : ℕ → Layout → Checked
 checkedFrom zero l = record { refusal = 0; layout = l }
 checkedFrom (suc n) l = record { refusal = suc n; layout = noLayout }
@@ -46,6 +49,7 @@ checkedFrom (suc n) l = record { refusal = suc n; layout = noLayout }
 unfoldable pub checkedOf : List ℕ → Checked
 checkedOf f = checkedFrom (refusalOf f) (layoutOf 1 f)
 
+-- What the check answers for a file under a reading.
 unfoldable pub checkedUnder : ℕ → List ℕ → Checked
 checkedUnder reading f = checkedFrom (refusalUnder reading f) (layoutOf reading f)
 
@@ -53,5 +57,6 @@ checkedUnder reading f = checkedFrom (refusalUnder reading f) (layoutOf reading 
 pub record CheckPromise (f : List ℕ) (r : Checked) : Type 0 where
   pub said : r ≡ checkedOf f
 
+-- One answer alone meets it.
 pub check-one : {f : List ℕ} {r s : Checked} → CheckPromise f r → CheckPromise f s → r ≡ s
 check-one p q = p .said ∙ sym (q .said)

@@ -25,28 +25,34 @@ from-number (suc n) l = refl
 
 -- The refusal is the file's. Without one the layout is the file's too, and with one there is none.
 module _ (f : List ℕ) where
+  -- A file that passes gets its layout, under reading 1.
   pub checked-passed : refusalOf f ≡ 0 → checkedOf f ≡ record { refusal = refusalOf f; layout = layoutOf 1 f }
   unfolding checkedOf
   checked-passed = from-none (refusalOf f) (layoutOf 1 f)
 
+  -- A file that is refused gets its refusal, and no layout.
   pub checked-refused : (refusalOf f ≡ 0 → ⊥) → checkedOf f ≡ record { refusal = refusalOf f; layout = noLayout }
   unfolding checkedOf
   checked-refused = from-some (refusalOf f) (layoutOf 1 f)
 
+  -- Either way the refusal is the file's, and without one the layout is too.
   pub checked-says : (checkedOf f .refusal ≡ refusalOf f) × (refusalOf f ≡ 0 → checkedOf f .layout ≡ layoutOf 1 f)
   unfolding checkedOf
   checked-says = (from-number (refusalOf f) (layoutOf 1 f), λ e. ap (λ (c : Checked). c .layout) (checked-passed e))
 
 -- Under a reading too.
 module _ (reading : ℕ) (f : List ℕ) where
+  -- A file that passes under the reading gets its layout under it.
   pub under-passed : refusalUnder reading f ≡ 0 → checkedUnder reading f ≡ record { refusal = 0; layout = layoutOf reading f }
   unfolding checkedUnder
   under-passed e = from-none _ _ e ∙ ap (λ (n : ℕ). record { refusal = n; layout = layoutOf reading f }) e
 
+  -- A file that is refused under the reading gets its refusal, and no layout.
   pub under-refused : (refusalUnder reading f ≡ 0 → ⊥) → checkedUnder reading f ≡ record { refusal = refusalUnder reading f; layout = noLayout }
   unfolding checkedUnder
   under-refused = from-some _ _
 
+  -- Either way the refusal is the one under the reading, and without one the layout is too.
   pub under-says : (checkedUnder reading f .refusal ≡ refusalUnder reading f) × (refusalUnder reading f ≡ 0 → checkedUnder reading f .layout ≡ layoutOf reading f)
   unfolding checkedUnder
   under-says = (from-number _ _, λ e. ap (λ (c : Checked). c .layout) (under-passed e))

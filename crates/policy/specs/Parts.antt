@@ -10,12 +10,15 @@ use Rattle.policy.specs.File.{byteAt, pairAt, part, boundsFrom, ruleSize
 
 -- What is read within a part of the file is what stands there in the file: at i in the part, at j in the file.
 module _ (f : List ℕ) (at len : ℕ) where
+  -- A byte within the part is that byte of the file.
   pub byte-part : (i j : ℕ) → at + i ≡ j → i < len → byteAt (part f at len) i ≡ byteAt f j
   byte-part i j e h = getD-take len (drop at f) i 0 h ∙ getD-drop at f i 0 ∙ ap (byteAt f) e
 
+  -- A two-byte number within the part is that number of the file.
   pub pair-part : (i j : ℕ) → at + i ≡ j → i + 2 ≤ len → pairAt (part f at len) i ≡ pairAt f j
   pair-part i j e h = ap₂ (λ (a b : ℕ). a * 256 + b) (byte-part i j e (omega arith)) (byte-part (i + 1) (j + 1) (omega arith) (omega arith))
 
+  -- Bounds within the part are those bounds of the file.
   pub bounds-part : (i j n : ℕ) → at + i ≡ j → i + 4 * n ≤ len → boundsFrom (part f at len) i n ≡ boundsFrom f j n
   unfolding boundsFrom
   bounds-part i j zero e h = refl
@@ -25,6 +28,7 @@ module _ (f : List ℕ) (at len : ℕ) where
       let rest = bounds-part (i + 4) (j + 4) n (omega arith) (omega arith) in
       λ d. record { low = low d; high = high d } ∷ rest d
 
+  -- A rule within the part is that rule of the file.
   pub rule-part : (clocks i j : ℕ) → at + i ≡ j → i + ruleSize clocks ≤ len → ruleFrom clocks (part f at len) i ≡ ruleFrom clocks f j
   unfolding ruleFrom
   rule-part clocks i j e h =
@@ -41,6 +45,7 @@ module _ (f : List ℕ) (at len : ℕ) where
         bounds = bounds-part (i + 7) (j + 7) clocks (omega arith) (omega arith) d;
       }
 
+  -- Rules within the part, from any place in it, are those rules of the file.
   pub rules-within : (clocks i j n : ℕ) → at + i ≡ j → i + n * ruleSize clocks ≤ len → rulesFrom clocks (part f at len) i n ≡ rulesFrom clocks f j n
   unfolding rulesFrom
   rules-within clocks i j zero e h = refl
@@ -60,6 +65,7 @@ rules-take clocks f at zero n h = refl
 rules-take clocks f at (suc j) zero h = absurd (omega arith)
 rules-take clocks f at (suc j) (suc n) h = ap (λ (z : List Rule). ruleFrom clocks f at ∷ z) (rules-take clocks f (at + ruleSize clocks) j n (omega arith))
 
+-- The rules after the first j stand where those end.
 pub rules-drop : (clocks : ℕ) (f : List ℕ) (at j n : ℕ) → j ≤ n → drop j (rulesFrom clocks f at n) ≡ rulesFrom clocks f (at + j * ruleSize clocks) (n - j)
 unfolding rulesFrom
 rules-drop clocks f at zero n h =

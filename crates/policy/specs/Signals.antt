@@ -22,17 +22,21 @@ weightOf tag (t ∷ ts) = cond (eqb t tag) 1 (2 * weightOf tag ts)
 abbrev pub tagsAt : List ℕ → ℕ → List ℕ
 tagsAt f at = take 4 (part f (at + 1) (byteAt f at))
 
+-- What the signal with this tag adds to a value, among the signals of that section.
 abbrev pub weightAt : List ℕ → ℕ → ℕ → ℕ
 weightAt f at tag = weightOf tag (tagsAt f at)
 
+-- What the input with this tag adds; 0 where no input has it.
 unfoldable pub inputWeight : List ℕ → ℕ → ℕ
 inputWeight f tag = weightAt f 0 tag
 
+-- What the output with this tag adds; 0 where no output has it.
 unfoldable pub outputWeight : List ℕ → ℕ → ℕ
 outputWeight f tag = weightAt f (outputsAt f) tag
 
 -- In a policy file there are no more than four, so these are the weights of the policy's own signals.
 module _ (reading : ℕ) (f : List ℕ) (ok : refusalUnder reading f ≡ 0) (tag : ℕ) where
+  -- An input's weight is the one that the policy gives it.
   pub own-input : inputWeight f tag ≡ weightOf tag (policyOf reading f .inputs)
   unfolding policyOf inputWeight
   own-input =
@@ -40,6 +44,7 @@ module _ (reading : ℕ) (f : List ℕ) (ok : refusalUnder reading f ≡ 0) (tag
       let l : length (inputTags f) ≤ 4 = omega (arith, inputs-length f k, k .inputs) in
       ap (weightOf tag) (take-all 4 (inputTags f) l)
 
+  -- An output's weight is the one that the policy gives it.
   pub own-output : outputWeight f tag ≡ weightOf tag (policyOf reading f .outputs)
   unfolding policyOf outputWeight
   own-output =
@@ -57,6 +62,7 @@ weight-none tag (t ∷ ts) e = go (eqb t tag) (weight-none tag ts) e
     go true h e = absurd (omega arith)
     go false h e = h (omega arith)
 
+-- so that a tag with a weight is among them,
 pub weight-some : (tag : ℕ) (ts : List ℕ) → (weightOf tag ts ≡ 0 → ⊥) → among tag ts ≡ true
 unfolding weightOf among
 weight-some tag [] h = absurd (h refl)

@@ -40,6 +40,7 @@ pub record NearlyFormed (p : Policy) : Type 0 where
   pub ruleCount : length (p .rules) ≤ 256
   pub rules : rulesRefusal (length (p .inputs)) (length (p .outputs)) (p .ceilings) (p .locations) 0 (p .rules) ≡ 0
 
+-- A well-formed policy is nearly formed.
 pub nearly : {p : Policy} → WellFormed p → NearlyFormed p
 nearly w =
     record {
@@ -56,6 +57,7 @@ nearly w =
       rules = w .rules;
     }
 
+-- A nearly formed policy with a location and at most 65,536 states is well formed.
 pub wholly : {p : Policy} → NearlyFormed p → 0 < p .locations → states p ≤ 65536 → WellFormed p
 wholly w start states =
     record {
@@ -79,6 +81,7 @@ pub data Each (P : Rule → Type 0) : List Rule → Type 0 where
   each-none : Each P []
   each-more : {r : Rule} {rs : List Rule} → P r → Each P rs → Each P (r ∷ rs)
 
+-- If Q holds wherever P does, and P of each rule, Q holds of each.
 pub each-weak : {P Q : Rule → Type 0} → ((r : Rule) → P r → Q r) → {rs : List Rule} → Each P rs → Each Q rs
 each-weak f each-none = each-none
 each-weak f (each-more {r = r} p h) = each-more (f r p) (each-weak f h)
@@ -91,6 +94,7 @@ pub record Formed (clocks locations : ℕ) (r : Rule) : Type 0 where
   pub bounds : length (r .bounds) ≡ clocks
   pub target : (r .target < locations) ⊎ (r .target ≡ 255)
 
+-- There is a location to start at, and each rule is formed for the policy's clocks and locations.
 pub record Sound (p : Policy) : Type 0 where
   pub start : 0 < p .locations
   pub rules : Each (Formed (length (p .ceilings)) (p .locations)) (p .rules)

@@ -1,4 +1,6 @@
 -- What stays true from tick to tick: a place stays in its policy, and what may follow a stream depends on the place alone, as the stopped clocks show it.
+-- In order: what holds of the next place; places over clocks without limit; places over clocks that stop; streams joined and split; what may follow a
+-- stream; places that are shown alike.
 use mathlib.Core.Path.{_≡_, refl, ap, ap₂, sym, _∙_, subst}
 use mathlib.Core.Bool.{Bool, true, false, cond}
 use mathlib.Core.List.{List, [], _∷_, _++_}
@@ -22,6 +24,7 @@ abbrev pub Of : {A : Type 0} → (A → Type 0) → Option A → Type 0
 Of P none = Unit {0}
 Of P (some a) = P a
 
+-- What holds if there is one holds of the one that there is.
 pub of-some : {A : Type 0} (P : A → Type 0) {d : Option A} {a : A} → d ≡ some a → Of P d → P a
 of-some P e = subst (Of P) e
 
@@ -40,6 +43,7 @@ pub is-location : (a l : ℕ) → (a < l) ⊎ (a ≡ 255) → eqb a 255 ≡ fals
 is-location a l p e = ⊎-elim (λ (h : a < l). h) (λ h. absurd (eqb-false _ _ e h)) p
 
 module _ (on : ℕ → ℕ → ℕ) where
+  -- After a tick there are as many clocks as before.
   pub advance-length : (mask : ℕ) (cs vs : List ℕ) → length vs ≡ length cs → length (advance on mask cs vs) ≡ length cs
   unfolding advance
   advance-length mask [] vs e = refl
@@ -82,13 +86,16 @@ module _ (on : ℕ → ℕ → ℕ) where
         go ih none h = tt
         go ih (some t) h = ih t h
 
+    -- A place in a sound policy is followed by one in it, or by a violation.
     pub step-in : Sound p → (s : Place) → In p s → (e : Event) → Of (In p) (step on p s e)
     step-in k s h =
         step-of (In p) k s (λ to mask l. record { location = l; clocks = advance-length mask (p .ceilings) (s .clocks) (h .clocks) })
 
+    -- So it is at the end of a stream.
     pub steps-in : Sound p → (s : Place) → In p s → (w : Stream) → Of (In p) (steps on p s w)
     steps-in k = steps-of (In p) (step-in k)
 
+    -- Two streams, one after the other, lead where the second leads from the end of the first.
     pub steps-append : (s : Place) (w v : Stream) → steps on p s (w ++ v) ≡ bind (steps on p s w) (λ t. steps on p t v)
     unfolding steps bind
     steps-append s [] v = refl
@@ -99,6 +106,7 @@ module _ (on : ℕ → ℕ → ℕ) where
         go ih none = refl
         go ih (some t) = ih t
 
+-- The start of a sound policy is in it.
 pub start-in : (p : Policy) → Sound p → In p (start p)
 start-in p k = record { location = k .start; clocks = length-replicate {A = ℕ} (length (p .ceilings)) 0 }
 
@@ -141,6 +149,7 @@ mins-twice (c ∷ cs) [] = refl
 mins-twice (c ∷ cs) (v ∷ vs) = ap₂ {C = List ℕ} _∷_ (omega arith) (mins-twice cs vs)
 
 module _ (p : Policy) where
+  -- Over clocks that stop, a place inside a sound policy is followed by one inside it, or by a violation.
   pub step-inside : Sound p → (s : Place) → Inside p s → (e : Event) → Of (Inside p) (step stopped p s e)
   step-inside k s h =
       step-of stopped p (Inside p) k s (λ to mask l.
@@ -150,6 +159,7 @@ module _ (p : Policy) where
         stopped = advance-stopped mask (p .ceilings) (s .clocks);
       })
 
+  -- A place in the policy, as the stopped clocks show it, is inside it.
   pub stop-inside : (s : Place) → In p s → Inside p (stop p s)
   stop-inside s h =
       record {
@@ -158,6 +168,7 @@ module _ (p : Policy) where
         stopped = mins-below (p .ceilings) (s .clocks);
       }
 
+  -- The start of a sound policy is inside it.
   pub start-inside : Sound p → Inside p (start p)
   start-inside k = subst (Inside p) (start-stops p) (stop-inside (start p) (start-in p k))
 
@@ -165,19 +176,23 @@ module _ (p : Policy) where
   pub stop-same : (s : Place) → Inside p s → stop p s ≡ s
   stop-same s h = ap (λ (z : List ℕ). record { location = s .location; clocks = z }) (mins-same (p .ceilings) (s .clocks) (h .clocks) (h .stopped))
 
+  -- To stop the clocks twice is to stop them once.
   pub stop-twice : (s : Place) → stop p (stop p s) ≡ stop p s
   stop-twice s = ap (λ (z : List ℕ). record { location = s .location; clocks = z }) (mins-twice (p .ceilings) (s .clocks))
 
+  -- Two streams that fit the signals do so one after the other.
   pub fits-append : {w v : Stream} → Fits p w → Fits p v → Fits p (w ++ v)
   fits-append fits-none k = k
   fits-append (fits-more h f) k = fits-more h (fits-append f k)
 
+  -- Where two streams, one after the other, fit the signals, each does.
   pub fits-split : (w : Stream) {v : Stream} → Fits p (w ++ v) → Fits p w × Fits p v
   fits-split [] f = (fits-none, f)
   fits-split (e ∷ w) (fits-more h f) = let k = fits-split w f in (fits-more h (k .0), k .1)
 
   -- What may follow a stream is what may leave the place that it leads to.
   module _ (s t : Place) (w : Stream) (e : steps unlimited p s w ≡ some t) (f : Fits p w) where
+    -- After w a stream runs exactly if it runs from t.
     pub runs-append : (v : Stream) → Runs p s (w ++ v) ↔ Runs p t v
     unfolding Runs bind
     runs-append v = (λ r. (fits-split w (r .0) .1, (r .1 .0, sym k ∙ r .1 .1)), λ r. (fits-append f (r .0), (r .1 .0, k ∙ r .1 .1)))
@@ -185,6 +200,7 @@ module _ (p : Policy) where
         k : steps unlimited p s (w ++ v) ≡ steps unlimited p t v
         k = steps-append unlimited p s w v ∙ ap (λ (d : Option Place). bind d (λ u. steps unlimited p u v)) e
 
+    -- After w a stream rests exactly if it rests from t.
     pub rests-append : (v : Stream) → Rests p s (w ++ v) ↔ Rests p t v
     unfolding Rests bind
     rests-append v = (λ r. (r .0, sym k ∙ r .1, r .2), λ r. (r .0, k ∙ r .1, r .2))
@@ -198,10 +214,12 @@ module _ (p : Policy) where
     there-after : from p t narrows from p s after w
     there-after = record { permits = λ v. runs-append v .1; rests = λ v. rests-append v .1 }
 
+    -- The stream w can go on for ever exactly if t is live.
     pub goes-on-live : GoesOn (from p s) w ↔ Live p t
     unfolding GoesOn
     goes-on-live = (goes-on (from p s after w) (from p t) after-there [], goes-on (from p t) (from p s after w) there-after [])
 
+    -- It ends exactly if t is dead.
     pub ends-dead : Ends (from p s) w ↔ Dead p t
     unfolding Ends
     ends-dead = (ends (from p t) (from p s after w) there-after [], ends (from p s after w) (from p t) after-there [])
@@ -229,6 +247,7 @@ module _ (p : Policy) where
           shown-some (steps unlimited p s w) (steps unlimited p t w)
           (sym (steps-same p ok s w) ∙ ap (λ (z : Place). steps stopped p z w) k ∙ steps-same p ok t w) u
 
+      -- What runs or rests from s does so from t.
       pub alike : from p s narrows from p t
       unfolding Runs Rests
       alike =
@@ -240,8 +259,10 @@ module _ (p : Policy) where
     stop-alike : (s : Place) → (from p s narrows from p (stop p s)) × (from p (stop p s) narrows from p s)
     stop-alike s = (alike s (stop p s) (sym (stop-twice s)), alike (stop p s) s (stop-twice s))
 
+    -- A place is live exactly if it is so as the stopped clocks show it.
     pub live-stop : (s : Place) → Live p s ↔ Live p (stop p s)
     live-stop s = let h = stop-alike s in (goes-on (from p s) (from p (stop p s)) (h .0) [], goes-on (from p (stop p s)) (from p s) (h .1) [])
 
+    -- A place is dead exactly if it is so as the stopped clocks show it.
     pub dead-stop : (s : Place) → Dead p s ↔ Dead p (stop p s)
     dead-stop s = let h = stop-alike s in (ends (from p (stop p s)) (from p s) (h .1) [], ends (from p s) (from p (stop p s)) (h .0) [])

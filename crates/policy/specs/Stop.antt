@@ -14,6 +14,7 @@ mins (c ∷ cs) (v ∷ vs) = min v c ∷ mins cs vs
 abbrev pub stop : Policy → Place → Place
 stop p s = record { location = s .location; clocks = mins (p .ceilings) (s .clocks) }
 
+-- What the stopped clocks show of a place, or of a violation.
 unfoldable pub shown : Policy → Option Place → Option Place
 shown p none = none
 shown p (some s) = some (stop p s)

@@ -18,10 +18,12 @@ pub record Lawful (c : ℕ) (b : Bound) : Type 0 where
   pub low : b .low ≤ c
   pub high : (b .high < c) ⊎ (b .high ≡ 65535)
 
+-- There is a bound for each ceiling, and each is lawful.
 pub data AllLawful : List ℕ → List Bound → Type 0 where
   lawful-none : AllLawful [] []
   lawful-more : {c : ℕ} {cs : List ℕ} {b : Bound} {bs : List Bound} → Lawful c b → AllLawful cs bs → AllLawful (c ∷ cs) (b ∷ bs)
 
+-- The bounds of each rule are lawful.
 pub data LawfulRules (cs : List ℕ) : List Rule → Type 0 where
   checked-none : LawfulRules cs []
   checked-more : {r : Rule} {rs : List Rule} → AllLawful cs (r .bounds) → LawfulRules cs rs → LawfulRules cs (r ∷ rs)
@@ -53,6 +55,7 @@ within-same c v b l =
     way (_⊎_.inl h) = _⊎_.inr (below (b .high) v c h)
     way (_⊎_.inr e) = _⊎_.inl (eq-eqb _ _ e)
 
+-- Lawful bounds hold of stopped clocks exactly if they hold without limit.
 pub hold-same : {cs : List ℕ} {bs : List Bound} → AllLawful cs bs → (vs : List ℕ) → hold bs (mins cs vs) ≡ hold bs vs
 unfolding hold mins
 hold-same lawful-none vs = refl
@@ -112,6 +115,7 @@ module _ (p : Policy) where
       go none = refl
       go (some r) = taken-same s r
 
+  -- A stream with stopped clocks shows what it shows without limit.
   pub steps-same : LawfulRules (p .ceilings) (p .rules) → (s : Place) (es : Stream) → steps stopped p (stop p s) es ≡ shown p (steps unlimited p s es)
   unfolding steps shown bind
   steps-same ok s [] = refl
@@ -122,6 +126,7 @@ module _ (p : Policy) where
       go ih none = refl
       go ih (some t) = ih t
 
+  -- The start is shown as it is.
   pub start-stops : stop p (start p) ≡ start p
   unfolding mins
   start-stops = ap (λ (z : List ℕ). record { location = 0; clocks = z }) (zeros (p .ceilings))

@@ -88,6 +88,7 @@ module _ (p : Policy) (w : WellFormed p) where
       let clocks = mask-small _ (w .clocks) in
       (omega arith, (omega arith, (omega arith, (omega arith, (omega arith, (omega arith, (omega arith, bounds-bytes (w .ceilings) (q .lawful))))))))
 
+  -- The file of a well-formed policy consists of bytes.
   pub all-bytes : AllBytes (bytesOf p)
   all-bytes =
       let rules = rules-bytes (each-weak rule-bytes (well-ruled p w)) in
@@ -97,5 +98,6 @@ module _ (p : Policy) (w : WellFormed p) where
       let inputs = bytes-append (p .inputs) (fromOutputs p) (tags-bytes [] (p .inputs) (w .inputTags)) (omega arith, outputs) in
       rw (at-inputs p) (omega arith, inputs)
 
+  -- Each element of it is below 256; past the end stands 0.
   pub bytes-are-bytes : (i : ℕ) → getD (bytesOf p) i 0 < 256
   bytes-are-bytes = bytes-at (bytesOf p) all-bytes

@@ -94,6 +94,7 @@ module _ (p : Policy) (w : NearlyFormed p) where
         w .rules,
       )
 
+  -- The file of a nearly formed policy is refused by 2 without a location, else by 9 with too many states, else not at all.
   pub written-refusal : refusalOf (bytesOf p) ≡ (unless (leb 1 (p .locations)) 2 orElse unless (leb (states p) 65536) 9)
   unfolding refusalOf
   written-refusal =
@@ -109,5 +110,6 @@ module _ (p : Policy) (w : NearlyFormed p) where
         count-locations p,
       )
 
+-- The file of a well-formed policy passes the check.
 pub written-passes : (p : Policy) → WellFormed p → refusalOf (bytesOf p) ≡ 0
 written-passes p w = written-refusal p (nearly w) ∙ rw (le-leb 1 (p .locations) (w .start), le-leb (states p) 65536 (w .states))

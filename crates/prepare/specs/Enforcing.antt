@@ -21,6 +21,7 @@ use Rattle.trimming.specs.Table.{marksOf}
 abbrev pub ins : Policy → ℕ
 ins p = length (p .inputs)
 
+-- How many outputs there are.
 abbrev pub outs : Policy → ℕ
 outs p = length (p .outputs)
 

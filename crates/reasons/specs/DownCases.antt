@@ -97,6 +97,7 @@ later-end = ended (down 2) (waits 2) later-two
 later-left : TicksLeft (down 2) (waits 1) 1
 later-left = one-more (down 2) (down-quiet 2) (waits 1) (waits 2) later-one later-end
 
+-- Under reading 2, at the clock values 0, 1, 2 and 3, the count is 1, 0, 0 and 0.
 pub later-cases : Tells (down 2) (idle 0) 1 0 (ticks 1) kept × Tells (down 2) (idle 1) 1 0 (ticks 0) kept × Tells (down 2) (idle 2) 1 0 (ticks 0) kept × Tells (down 2) (idle 3) 1 0 (ticks 0) kept
 unfolding a-step the-marks the-run atRest statesOf
 later-cases =

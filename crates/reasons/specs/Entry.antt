@@ -23,6 +23,7 @@ module _ (reading : ℕ) (file marks : List ℕ) (s : State) (x y : ℕ) where
       marksRefusal reading file marks orElse stateRefusal reading file marks s orElse unless (not (otherMarks (policyOf reading file) marks)) 20
       orElse unless (xGood reading file x && yGood reading file y) 15
 
+  -- The refusal, if there is one; without one the reasons that explain the tick.
   pub data WhyAnswers : Answer Reasons → Type 0 where
     refuses : {n : ℕ} → whyRefusal ≡ suc n → WhyAnswers (refused (suc n))
     explains : {i o : Reason} → whyRefusal ≡ 0 → Explained (policyOf reading file) marks (placeIn (policyOf reading file) s) x y i o →
@@ -40,6 +41,7 @@ module _ (reading : ℕ) (file marks : List ℕ) (s : State) (x y : ℕ) where
   unfolding whyRefusal stateRefusal
   refusal-le = let m = marks-le reading file marks in search (else-le, unless-le) depth 9
 
+  -- A refusal is one of the numbers 1 to 22.
   pub answers-up-to : {r : Answer Reasons} → WhyAnswers r → UpTo 22 r
   answers-up-to (refuses e) = (omega arith, omega (arith, refusal-le))
   answers-up-to (explains e h) = tt

@@ -15,10 +15,12 @@ use Rattle.reasons.specs.declared.entry.WhyAnswer.{WhyAnswer}
 use Rattle.reasons.specs.declared.entry.WhyAnswer.the-variants as WhyAnswer
 use Rattle.explaining.specs.CodeReasons.{bothSaid, reasonSaid}
 
+-- The answer of the code, as the definitions say it.
 abbrev pub answerSaid : WhyAnswer → Said.Answer EachHalf.Reasons
 answerSaid (WhyAnswer.Gives r) = gives (bothSaid r)
 answerSaid (WhyAnswer.Refused n) = refused n
 
+-- What `why` promises for any reading, file, marks, state, x and y.
 pub record WhyPromise (reading : ℕ) (file marks : List ℕ) (s : State) (x y : ℕ) (r : WhyAnswer) : Type 0 where
   pub answers : WhyAnswers reading file marks s x y (answerSaid r)
 
@@ -45,6 +47,7 @@ answer-back : (r : WhyAnswer) → answerAs (answerSaid r) ≡ r
 answer-back (WhyAnswer.Gives r) = λ i. WhyAnswer.Gives (record { input = reason-back (r .input) i; output = reason-back (r .output) i })
 answer-back (WhyAnswer.Refused n) = refl
 
+-- Two answers of the code that meet the promise are the same.
 pub why-one : {reading : ℕ} {file marks : List ℕ} {s : State} {x y : ℕ} {r q : WhyAnswer} → WhyPromise reading file marks s x y r → WhyPromise reading file marks s x y q → r ≡ q
 why-one {reading} {file} {marks} {s} {x} {y} {r} {q} h g =
     sym (answer-back r) ∙ ap answerAs (answers-one reading file marks s x y (h .answers) (g .answers)) ∙ answer-back q

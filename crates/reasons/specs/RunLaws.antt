@@ -1,4 +1,5 @@
 -- The walk of `why_run` over the events: where its loop stands, a turn, and its end; what no refusal makes sure of, and what is answered then.
+-- In order: a run from a marked place; the loop over the events (`Walking`); the slices to work in; the refusals one after the other; the answer.
 use mathlib.Core.Path.{_≡_, refl, sym, ap, subst, _∙_}
 use mathlib.Core.Bool.{Bool, true, false, _&&_, and-eq-true-iff}
 use mathlib.Core.List.{List, [], _∷_, _++_, map, map-append}
@@ -44,6 +45,7 @@ use Rattle.reasons.specs.Runs.{Room, shortestOf, roomRefusal, earlyRefus
 
 -- With the marks of prepare a run from a marked place goes on for every event, and stands in a marked place.
 module _ (p : Policy) (ok : WellFormed p) (marks : List ℕ) (by : AsPrepared p marks) where
+  -- After any events the run stands in a marked place.
   pub ran-ready : {s : Place} → MarkedPlace p marks s → (es : Stream) → MarkedPlace p marks (ran p marks s es .place)
   unfolding ran
   ran-ready k [] = k
@@ -83,6 +85,7 @@ pub record Walking (f : List ℕ) (l : Layout) (marks events out₀ : List ℕ) 
   pub each : (j : ℕ) → j < i → WordThere (policyOf (l .reading) f) marks (place (l .clocks) s₀) events j (getD out j 0)
   pub rest : drop i out ≡ drop i out₀
 
+-- Before the first event nothing is explained or written, and the run stands where it began.
 pub walking-starts : {f : List ℕ} {l : Layout} {marks : List ℕ} (events out : List ℕ) {s : State} → Standing f l marks s →
     isMarked marks (numberOf (policyOf (l .reading) f) (place (l .clocks) s)) ≡ true → stateOf (place (l .clocks) s) ≡ s →
     Walking f l marks events out s 0 out s
@@ -102,6 +105,7 @@ walking-starts events out k m w =
 
 module _ {f : List ℕ} {l : Layout} {marks events out₀ : List ℕ} {s₀ : State} {i : ℕ} {out : List ℕ} {s : State}
     (g : Walking f l marks events out₀ s₀ i out s) where
+  -- When no event is left, all are explained.
   pub walking-ends : length events ≤ i → Walking f l marks events out₀ s₀ (length events) out s
   walking-ends h = let e : i ≡ length events = omega (arith, g .most) in subst (λ (n : ℕ). Walking f l marks events out₀ s₀ n out s) e g
 
@@ -180,6 +184,7 @@ pub record Fits (m : Room) (n : ℕ) : Type 0 where
 below-both : (n a b : ℕ) → n ≤ min a b → (n ≤ a) × (n ≤ b)
 below-both n a b h = (omega arith, omega arith)
 
+-- If the shortest slice has n entries or more, each has.
 pub room-fits : (m : Room) (n : ℕ) → n ≤ shortestOf m → Fits m n
 room-fits m n h =
     let a = below-both n _ _ h in
@@ -199,15 +204,18 @@ module _ (reading : ℕ) (file marks : List ℕ) (work events words : ℕ) where
   room-first {r = suc r} e n = rw (← e)
 
   module _ (m : marksRefusal reading file marks ≡ 0) where
+    -- A work slice has fewer entries than there are states: 23.
     pub room-23 : work < states (policyOf reading file) → roomRefusal reading file marks work events words ≡ 23
     unfolding roomRefusal lentRefusal
     room-23 h = rw (m, lt-leb (states (policyOf reading file)) work h)
 
     module _ (h : states (policyOf reading file) ≤ work) where
+      -- The work slices are long enough, but the slice for the words is shorter than the events: 14.
       pub room-14 : words < events → roomRefusal reading file marks work events words ≡ 14
       unfolding roomRefusal lentRefusal
       room-14 l = rw (m, le-leb (states (policyOf reading file)) work h, lt-leb events words l)
 
+      -- Every slice is long enough: none of these refusals is given.
       pub room-0 : events ≤ words → roomRefusal reading file marks work events words ≡ 0
       unfolding roomRefusal lentRefusal
       room-0 l = rw (m, le-leb (states (policyOf reading file)) work h, le-leb events words l)
@@ -222,35 +230,42 @@ module _ (reading : ℕ) (file marks : List ℕ) (work events words : ℕ) where
       (b .0, leb-true _ _ (none-unless _ 22 .0 (b .1)), leb-true _ _ (none-unless _ 13 .0 (a .1)))
 
 module _ (reading : ℕ) (file marks : List ℕ) (s : State) (events words : List ℕ) (work : ℕ) where
+  -- No early refusal: none for file, marks or slices, and none for the state.
   pub early-none : earlyRefusal reading file marks s events words work ≡ 0 →
       (roomRefusal reading file marks work (length events) (length words) ≡ 0) × (stateRefusal reading file marks s ≡ 0)
   unfolding earlyRefusal
   early-none z = none-refused (roomRefusal reading file marks work (length events) (length words)) (stateRefusal reading file marks s) .0 z
 
+  -- A refusal for file, marks or slices is the early one.
   pub early-room : {r : ℕ} → r ≡ roomRefusal reading file marks work (length events) (length words) → (r ≡ 0 → ⊥) →
       earlyRefusal reading file marks s events words work ≡ r
   unfolding earlyRefusal
   early-room e n = rw (← e) (first-refused _ _ n)
 
+  -- Without such a refusal, the early one is that of the state.
   pub early-state : {r : ℕ} → roomRefusal reading file marks work (length events) (length words) ≡ 0 → r ≡ stateRefusal reading file marks s →
       earlyRefusal reading file marks s events words work ≡ r
   unfolding earlyRefusal
   early-state z e = rw (z, ← e)
 
+  -- An early refusal is the one that is answered.
   pub run-early : {r : ℕ} → earlyRefusal reading file marks s events words work ≡ r → (r ≡ 0 → ⊥) → whyRunRefusal reading file marks s events words work ≡ r
   unfolding whyRunRefusal
   run-early e n = rw e (first-refused _ _ n)
 
   module _ (z : earlyRefusal reading file marks s events words work ≡ 0) where
+    -- The marks are not those of prepare: 20.
     pub run-20 : otherMarks (policyOf reading file) marks ≡ true → whyRunRefusal reading file marks s events words work ≡ 20
     unfolding whyRunRefusal
     run-20 o = rw (z, o)
 
+    -- The marks are those of prepare, but some event has a bit beyond its signals: 15.
     pub run-15 : otherMarks (policyOf reading file) marks ≡ false → allPass (eventGood reading file) events ≡ false →
         whyRunRefusal reading file marks s events words work ≡ 15
     unfolding whyRunRefusal
     run-15 o a = rw (z, o, a)
 
+    -- The marks are those of prepare, and every event fits: nothing is refused.
     pub run-0 : otherMarks (policyOf reading file) marks ≡ false → allPass (eventGood reading file) events ≡ true →
         whyRunRefusal reading file marks s events words work ≡ 0
     unfolding whyRunRefusal

@@ -89,6 +89,7 @@ pub record WhyRunPromise (reading : ℕ) (file marks : List ℕ) (s : State) (ev
   pub answers : WhyRunAnswers reading file marks s events before (shortestOf room) (ranSaid r after)
   pub scratch : (earlyRefusal reading file marks s events before (shortestOf room) ≡ 0 → ⊥) → left ≡ room
 
+-- Two results of the code that meet the promise have the same answer and leave the same words.
 pub why-run-one : {reading : ℕ} {file marks : List ℕ} {s : State} {events before after also : List ℕ} {room left right : Room} {r q : Ran} →
     WhyRunPromise reading file marks s events before room r after left → WhyRunPromise reading file marks s events before room q also right →
     (r ≡ q) × (after ≡ also)

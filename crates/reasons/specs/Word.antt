@@ -11,6 +11,7 @@ use Rattle.reasons.specs.Promise.{SmallReasons}
 abbrev pub reasonsWord : Reasons → ℕ
 reasonsWord r = kindOf (r .input) * 256 + countOf (r .input) * 65536 + kindOf (r .output) * 4294967296 + countOf (r .output) * 1099511627776
 
+-- The whole answer as one number: the refusal, or the word of the reasons.
 abbrev pub whyWord : Answer Reasons → ℕ
 whyWord (refused n) = n
 whyWord (gives r) = reasonsWord r
@@ -23,6 +24,7 @@ pub record WhyFields (r : Reasons) (w : ℕ) : Type 0 where
   pub output-kind : w / 4294967296 % 256 ≡ kindOf (r .output)
   pub output-number : w / 1099511627776 ≡ countOf (r .output)
 
+-- A kind is a number below 5.
 pub kind-few : (r : Reason) → kindOf r < 5
 kind-few kept = omega arith
 kind-few (rule i) = omega arith
@@ -30,6 +32,7 @@ kind-few unmatched = omega arith
 kind-few (ticks k) = omega arith
 kind-few (rests k) = omega arith
 
+-- The header's macros read the two kinds and the two numbers back from the word.
 pub why-fields : (r : Reasons) → SmallReasons (gives r) → WhyFields r (whyWord (gives r))
 why-fields r h =
     let i = kind-few (r .input) in

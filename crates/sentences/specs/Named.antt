@@ -39,10 +39,12 @@ module _ (reading : ℕ) (f : List ℕ) where
   given-named h (forwarded e) = tt
   given-named h (edited {r = r} n s) = h r s
 
+  -- The rules that the reasons of a tick name are among those of the file.
   pub explained-named : {marks : List ℕ} {s : Place} {x y : ℕ} {i o : Reason} → Explained (policyOf reading f) marks s x y i o →
       Named (ruleCount f) i × Named (ruleCount f) o
   explained-named h = (given-named (λ r s. in-named s) (h .for-input), given-named (λ r s. says-named s) (h .for-output))
 
+  -- The policy has as many rules as the file counts.
   pub rules-count : length (policyOf reading f .rules) ≡ ruleCount f
   unfolding policyOf
   rules-count = rules-length (clockCount f) (ruleSection f) 0 (ruleCount f)
@@ -65,6 +67,7 @@ module _ {f : List ℕ} {l : Layout} (k : Laid f l) (i : ℕ) (h : i < ruleCount
       let m : i + 1 ≤ l .rules = omega (arith, k .rules) in
       omega (arith, mul-le-mul-right (ruleSize (l .clocks)) m, laid-section k, laid-limits k)
 
+  -- The bytes of the rule with the number i.
   abbrev pub bytes : List ℕ
   bytes = part f (l .«rules_start» + i * ruleSize (l .clocks)) (ruleSize (l .clocks))
 
@@ -93,6 +96,7 @@ module _ {f : List ℕ} {l : Layout} (k : Laid f l) (i : ℕ) (h : i < ruleCount
   unfolding policyOf
   inputs-taken = part-between f 1 (inputCount f) {start = 1} {end = 1 + l .inputs} refl (omega (arith, k .inputs))
 
+  -- The tags of the outputs, as the code takes them out of the file.
   pub outputs-taken : take (1 + l .inputs + 1 + l .outputs - (1 + l .inputs + 1)) (drop (1 + l .inputs + 1) f) ≡ policyOf (l .reading) f .outputs
   unfolding policyOf
   outputs-taken =
@@ -102,12 +106,15 @@ module _ {f : List ℕ} {l : Layout} (k : Laid f l) (i : ℕ) (h : i < ruleCount
   abbrev from : ℕ
   from = l .«rules_start» + i * ruleSize (l .clocks)
 
+  -- The rule's bytes, as the code takes them out of the file.
   pub rule-taken : take (from + ruleSize (l .clocks) - from) (drop from f) ≡ bytes
   rule-taken = part-between f from (ruleSize (l .clocks)) {start = from} {end = from + ruleSize (l .clocks)} refl refl
 
+  -- A rule's bytes are as many as a rule takes with so many clocks.
   pub rule-long : length bytes ≡ ruleSize (l .clocks)
   rule-long = part-length f from (ruleSize (l .clocks)) rule-fits
 
+  -- From these parts of the file the code says what the rule asks.
   pub asks-taken :
       asks (take (1 + l .inputs - 1) (drop 1 f)) (take (1 + l .inputs + 1 + l .outputs - (1 + l .inputs + 1)) (drop (1 + l .inputs + 1) f))
       (ruleFrom (l .clocks) (take (from + ruleSize (l .clocks) - from) (drop from f)) 0)

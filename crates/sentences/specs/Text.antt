@@ -1,4 +1,5 @@
 -- The lines of the reasons, as bytes.
+-- In order: the words for a rule, for ticks and for rests; the line of a reason, of each half and of a tick; how long they are.
 use mathlib.Core.Path.{_≡_}
 use mathlib.Core.Bool.{Bool, true, false, cond}
 use mathlib.Core.List.{List, [], _++_}
@@ -60,9 +61,11 @@ reasonLine p broken half (rests k) = half ++ restsWords k
 abbrev pub inputLine : Policy → Reason → List ℕ
 inputLine p q = reasonLine p (ascii "input: no output will do; with none on, ") (ascii "input: ") q
 
+-- The line of an output: both beginnings are the same.
 abbrev pub outputLine : Policy → Reason → List ℕ
 outputLine p q = reasonLine p (ascii "output: ") (ascii "output: ") q
 
+-- The lines of both halves, the input's first.
 unfoldable pub reasonLines : Policy → Reasons → List ℕ
 reasonLines p q = inputLine p (q .input) ++ outputLine p (q .output)
 
@@ -84,6 +87,7 @@ Named n (ticks k) = Unit {0}
 Named n (rests k) = Unit {0}
 
 module _ (p : Policy) (i : ℕ) where
+  -- How long the words of a violation by a rule are.
   pub rule-length : length (ruleWords p i) ≡ 19 + length (decimal i) + length (asksOf p i)
   unfolding ruleWords
   rule-length =
@@ -99,10 +103,12 @@ module _ (p : Policy) (i : ℕ) where
   rule-short k l = omega (arith, rule-length, decimal-short i 2 (omega (arith, k .ruleCount)), asks-short p k noRule i l)
 
 module _ (one more : List ℕ) (k : ℕ) where
+  -- For 1, what follows the number is `one`.
   pub most-one : k ≡ 1 → mostWords one more k ≡ ascii "after it at most " ++ decimal k ++ one
   unfolding mostWords
   most-one e = rw (eq-eqb k 1 e)
 
+  -- For any other number it is `more`.
   pub most-more : (k ≡ 1 → ⊥) → mostWords one more k ≡ ascii "after it at most " ++ decimal k ++ more
   unfolding mostWords
   most-more h = rw (ne-eqb k 1 h)
@@ -119,10 +125,12 @@ module _ (one more : List ℕ) (k : ℕ) where
       go false = counted more g
 
 module _ (k : ℕ) where
+  -- For 0 the words are that it is never at rest again.
   pub rests-none : k ≡ 0 → restsWords k ≡ ascii "after it never at rest again\n"
   unfolding restsWords
   rests-none e = rw (eq-eqb k 0 e)
 
+  -- For any other number they are how many more times it rests at most.
   pub rests-some : (k ≡ 0 → ⊥) → restsWords k ≡ mostWords (ascii " more time at rest\n") (ascii " more times at rest\n") k
   unfolding restsWords
   rests-some h = rw (ne-eqb k 0 h)

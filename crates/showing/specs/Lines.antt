@@ -1,4 +1,6 @@
 -- The text line by line: a line for each signal, clock, location and rule, in this order. A location's first rule has its `at` before it.
+-- In order: the layout; lines that follow other lines; what is left of the text from its i-th line on; the source of the rule before; each kind of
+-- line in its turn; where the code finds a rule.
 use mathlib.Core.Path.{_≡_, refl, ap, ap₂, sym, _∙_}
 use mathlib.Core.List.{List, [], _++_, append-assoc}
 use Prim.Native.Nat.{ℕ, zero, suc, _+_, _-_, _*_, _≤_, _<_}
@@ -29,6 +31,7 @@ pub record LaidOut (f : List ℕ) (x : Layout) : Type 0 where
   pub rules : x .rules ≡ ruleCount f
   pub start : x .«rules_start» ≡ rulesStart f
 
+-- The layout that the check gives for a file that passes is the file's.
 pub laid-out : {f : List ℕ} {x : Layout} → refusalOf f ≡ 0 → x ≡ layoutOf 1 f → LaidOut f x
 laid-out h e =
     record {
@@ -41,6 +44,7 @@ laid-out h e =
       start = ap (λ (k : Layout). k .«rules_start») e;
     }
 
+-- The sections of such a file stand where they should.
 pub framed : {f : List ℕ} {x : Layout} → LaidOut f x → Framed f
 framed {f} l = frame f (l .passes)
 
@@ -73,6 +77,7 @@ module _ (f : List ℕ) where
   abbrev pub ruleAt : ℕ → ℕ
   ruleAt i = rulesStart f + i * ruleSize (clockCount f)
 
+  -- The source of the rule before the i-th, and 255 before the first.
   unfoldable pub sourceBefore : ℕ → ℕ
   sourceBefore zero = 255
   sourceBefore (suc i) = byteAt f (ruleAt i)
@@ -110,6 +115,7 @@ module _ (f : List ℕ) where
   unfoldable pub textFrom : ℕ → List ℕ
   textFrom i = followed (inputCount f) inputsLeft fromOutputs i
 
+  -- How many lines there are, where an `at` is not counted.
   abbrev pub lineCount : ℕ
   lineCount = inputCount f + outputCount f + clockCount f + locationCount f + ruleCount f
 
@@ -125,10 +131,12 @@ line-long {f} {i} l = omega (arith, l .wrote .next, ap length (l .turn), length-
 
 -- The source of the rule before.
 module _ (f : List ℕ) where
+  -- Before the first rule it is 255.
   pub first-source : (i : ℕ) → i ≡ 0 → 255 ≡ sourceBefore f i
   unfolding sourceBefore
   first-source i e = rw e
 
+  -- Before a later rule it is the first byte of the one before.
   pub later-source : (i : ℕ) → (i ≡ 0 → ⊥) → byteAt f (ruleAt f (i - 1)) ≡ sourceBefore f i
   unfolding sourceBefore
   later-source zero h = absurd (h refl)
@@ -184,6 +192,7 @@ module _ (f : List ℕ) (k : Framed f) where
   no-places : (i : ℕ) → locationCount f ≤ i → placesLeft f i ≡ []
   no-places i h = places-end (locationBytes f) i (omega (arith, locations-length f k))
 
+  -- Past the last line nothing is left.
   pub text-end : (i : ℕ) → lineCount f ≤ i → textFrom f i ≡ []
   unfolding textFrom
   text-end i h =
@@ -198,6 +207,7 @@ module _ (f : List ℕ) (k : Framed f) where
       (rules-end (inputTags f) (outputTags f) f (clockCount f) (sourceBefore f o) (ruleAt f o) (ruleCount f) o (omega arith)))))
 
   module _ (i : ℕ) where
+    -- The first lines are those of the inputs.
     pub input-line : {p : ℕ} → 1 + i ≡ p → i < inputCount f → textFrom f i ≡ tagPiece (ascii "input") (byteAt f p) ++ textFrom f (i + 1)
     unfolding textFrom
     input-line {p} e h =
@@ -210,6 +220,7 @@ module _ (f : List ℕ) (k : Framed f) where
     after-inputs j line e t = in-rest (inputCount f) (inputsLeft f) (fromOutputs f) i j line e (no-inputs i (omega arith)) (no-inputs (i + 1) (omega arith)) t
 
     module _ (j : ℕ) (past : inputCount f + j ≡ i) where
+      -- After the inputs come the outputs.
       pub output-line : {p : ℕ} → outputsAt f + 1 + j ≡ p → j < outputCount f → textFrom f i ≡ tagPiece (ascii "output") (byteAt f p) ++ textFrom f (i + 1)
       output-line {p} e h =
           after-inputs j (tagPiece (ascii "output") (byteAt f p)) past
@@ -223,6 +234,7 @@ module _ (f : List ℕ) (k : Framed f) where
           (in-rest (outputCount f) (outputsLeft f) (fromClocks f) j m line e (no-outputs j (omega arith)) (no-outputs (j + 1) (omega arith)) t)
 
       module _ (m : ℕ) (further : outputCount f + m ≡ j) where
+        -- After the outputs come the clocks.
         pub clock-line : {c : ℕ} → c ≡ pairAt f (clocksAt f + 1 + 2 * m) → m < clockCount f → textFrom f i ≡ clockPiece m c ++ textFrom f (i + 1)
         clock-line {c} e h =
             after-outputs m (clockPiece m c) further (in-first (clockCount f) (clocksLeft f) (fromPlaces f) m (clockPiece m c) h (clocks-turn f (clocksAt f + 1) (clockCount f) m h e))
@@ -233,6 +245,7 @@ module _ (f : List ℕ) (k : Framed f) where
             (in-rest (clockCount f) (clocksLeft f) (fromPlaces f) m n line e (no-clocks m (omega arith)) (no-clocks (m + 1) (omega arith)) t)
 
         module _ (n : ℕ) (on : clockCount f + n ≡ m) where
+          -- After the clocks come the locations.
           pub place-line : {p : ℕ} → locationsAt f + 1 + n ≡ p → n < locationCount f → textFrom f i ≡ placePiece n (byteAt f p) ++ textFrom f (i + 1)
           place-line {p} e h =
               after-clocks n (placePiece n (byteAt f p)) on
@@ -240,6 +253,7 @@ module _ (f : List ℕ) (k : Framed f) where
               (places-turn (locationBytes f) n (omega (arith, locations-length f k))
               ∙ ap (λ (b : ℕ). placePiece n b ++ placesLeft f (n + 1)) (byte-part f (locationsAt f + 1) (locationCount f) n p e h)))
 
+          -- After the locations come the rules.
           pub rule-line : (o : ℕ) → locationCount f + o ≡ n → o < ruleCount f → textFrom f i ≡ ruleLine f o ++ textFrom f (i + 1)
           rule-line o e h =
               after-clocks n (ruleLine f o) on
@@ -249,8 +263,10 @@ module _ (f : List ℕ) (k : Framed f) where
 pub rule-position : {f : List ℕ} {x : Layout} → LaidOut f x → (i : ℕ) → x .«rules_start» + i * ruleSize (x .clocks) ≡ ruleAt f i
 rule-position l i = ap₂ (λ (s c : ℕ). s + i * ruleSize c) (l .start) (l .clocks)
 
+-- The i-th rule ends within the file.
 pub rule-within : (f : List ℕ) → Framed f → (i : ℕ) → i < ruleCount f → ruleAt f i + ruleSize (clockCount f) ≤ length f
 rule-within f k i h = omega (arith, k .lastEnd, k .ends, mul-le-mul-right (ruleSize (clockCount f)) h)
 
+-- Up to 256 rules over up to four clocks take at most 5,888 bytes.
 pub few-bytes : (i n : ℕ) → i ≤ 256 → n ≤ 4 → i * ruleSize n ≤ 5888
 few-bytes i n h l = let s : ruleSize n ≤ 23 = omega arith in omega (arith, mul-le-mul h s)

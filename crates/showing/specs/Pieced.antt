@@ -1,4 +1,6 @@
 -- The writer's text is its pieces one after another.
+-- In order: the lines of signals, clocks and locations; the line of a rule, its condition, target and resets; the `at` of a location; the whole
+-- text, of a policy and of a file.
 use mathlib.Core.Path.{_≡_, refl, ap, ap₂, sym, _∙_}
 use mathlib.Core.Bool.{Bool, true, false, cond, _||_}
 use mathlib.Core.List.{List, [], _∷_, _++_, append-assoc}
@@ -150,6 +152,7 @@ abbrev pub linesText : (inputs outputs ceilings left : List ℕ) (clocks : ℕ) 
 linesText inputs outputs ceilings left clocks rules =
     tagText (ascii "input") inputs ++ tagText (ascii "output") outputs ++ clockText 0 ceilings ++ placeText 0 left ++ ruleText inputs outputs clocks 255 rules
 
+-- Five parts, grouped from the right and from the left.
 pub five : (a b c d e : List ℕ) → a ++ (b ++ (c ++ (d ++ e))) ≡ a ++ b ++ c ++ d ++ e
 five a b c d e = simp append-assoc
 
@@ -161,6 +164,7 @@ output-lines : (ts : List ℕ) → laid margin (signalLines (ascii "output") ts)
 unfolding isPlain same
 output-lines ts = tag-lines (ascii "output") refl ts
 
+-- The text of a checked policy is its signals, clocks, locations and rules, one after another.
 pub text-pieces : (p : Policy) → WellFormed p → textOf p ≡ linesText (p .inputs) (p .outputs) (p .ceilings) (p .left) (length (p .ceilings)) (p .rules)
 unfolding textOf policyLines
 text-pieces p w =

@@ -15,11 +15,13 @@ use Rattle.wording.specs.Writer.{textOfFile}
 use Rattle.showing.specs.Entry.{writtenOver, lengthUnless, writeRefusal}
 use Rattle.showing.specs.declared.writer.Written.{Written}
 
+-- What the writer answers, and what its slice holds `before` and `after`.
 pub record WriteTextPromise (file before : List ℕ) (r : Written) (after : List ℕ) : Type 0 where
   pub refuses : r .refusal ≡ writeRefusal file before
   pub long : r .length ≡ lengthUnless (writeRefusal file before) (length (textOfFile file))
   pub writes : after ≡ writtenOver (textOfFile file) before (writeRefusal file before)
 
+-- One answer and one later slice alone meet the promise.
 pub write-one : {file before after other : List ℕ} {r s : Written} → WriteTextPromise file before r after → WriteTextPromise file before s other → (r ≡ s) × (after ≡ other)
 write-one {r = r} {s = s} w v =
     let refusal : r .refusal ≡ s .refusal = w .refuses ∙ sym (v .refuses) in
@@ -43,6 +45,7 @@ module _ (f before : List ℕ) where
   none-first zero e h = absurd (h refl)
   none-first (suc n) e h = rw e
 
+  -- A file that does not pass is refused by its number, and nothing is written.
   pub write-refused : {n : ℕ} → n ≡ refusalOf f → (n ≡ 0 → ⊥) → WriteTextPromise f before (record { refusal = n; length = 0 }) before
   write-refused {n} e h = refused-by n (none-first n (sym e) h) h
 
@@ -54,9 +57,11 @@ module _ (f before : List ℕ) where
   unfolding writeRefusal
   fits e h = rw (e, le-leb (length (textOfFile f)) (length before) h)
 
+  -- A slice that is too short is refused by 14, and nothing is written.
   pub write-short : refusalOf f ≡ 0 → length before < length (textOfFile f) → WriteTextPromise f before (record { refusal = 14; length = 0 }) before
   write-short e h = refused-by 14 (short e h) (λ z. omega arith)
 
+  -- Where the text fits, it is written whole.
   pub write-whole : refusalOf f ≡ 0 → length (textOfFile f) ≤ length before → {r : ℕ} {after : List ℕ} → Wrote before 0 (textOfFile f) r after →
       WriteTextPromise f before (record { refusal = 0; length = r }) after
   write-whole e h {r} {after} w =

@@ -15,6 +15,7 @@ use Rattle.stepping.specs.declared.matcher.Found.{Found}
 use Rattle.stepping.specs.declared.matcher.Found.the-variants as Found
 use Rattle.stepping.specs.State.{stateOf}
 
+-- The event with the input x and the output y.
 abbrev pub eventXY : ℕ → ℕ → Event
 eventXY x y = record { x = x; y = y }
 
@@ -39,6 +40,7 @@ unfoldable pub decider : List Rule → Place → Event → Option ℕ
 decider [] s e = none
 decider (r ∷ rs) s e = cond (fires r s e) (some 0) (Option·map suc (decider rs s e))
 
+-- The number of the rule that the code found, if it found one.
 abbrev pub foundSaid : Found → Option ℕ
 foundSaid (Found.Rule i) = some i
 foundSaid Found.Nothing = none

@@ -13,6 +13,7 @@ use Rattle.stepping.specs.declared.state.State.{State}
 use Rattle.stepping.specs.declared.next.DecidedBy.{DecidedBy}
 use Rattle.stepping.specs.declared.next.DecidedBy.the-variants as DecidedBy
 
+-- The rule at the position that the code found, if it found one.
 abbrev pub ruleSaid : ℕ → List ℕ → DecidedBy → Option Rule
 ruleSaid clocks f (DecidedBy.At at) = some (ruleFrom clocks f at)
 ruleSaid clocks f DecidedBy.Nothing = none

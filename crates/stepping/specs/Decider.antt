@@ -24,6 +24,7 @@ module _ (k : ℕ) (f : List ℕ) (s : Place) (e : Event) where
           let m = map-eq-some-iff suc (decider (rulesFrom k f (at + ruleSize k) n) s e) .0 q in
           omega (arith, h (m .0) (m .1), m .2)
 
+  -- The rule that decides stands as many rules behind the first as its number says.
   pub decider-decides : (n at : ℕ)
       → decides (rulesFrom k f at n) s e ≡ Option·map (λ i. ruleFrom k f (at + i * ruleSize k)) (decider (rulesFrom k f at n) s e)
   unfolding decider decides rulesFrom

@@ -1,4 +1,6 @@
 -- What the layout of a checked file makes sure of: its counts are the policy's, and a location's own rules lie within the file.
+-- In order: clocks that are not used; where a layout comes from; its counts and limits; the rules, and a location's own; states, places and their
+-- numbers; one step.
 use mathlib.Core.Path.{_≡_, refl, sym, ap, _∙_, subst}
 use mathlib.Core.Bool.{Bool, true, false, cond, false≢true}
 use mathlib.Core.List.{List}
@@ -121,6 +123,7 @@ module _ {f : List ℕ} {l : Layout} (k : Laid f l) where
   pub laid-well : WellFormed (policyOf (l .reading) f)
   laid-well = checked-file (l .reading) f (k .passes)
 
+  -- At most 4 inputs, 4 outputs, 4 clocks and 256 rules, in a section that ends within the file.
   pub laid-limits : (l .inputs ≤ 4) × (l .outputs ≤ 4) × (l .clocks ≤ 4) × (l .rules ≤ 256) × (l .«rules_start» ≤ l .«rules_end») × (l .«rules_end» ≤ length f)
   laid-limits = omega (arith, framed, k)
 
@@ -133,18 +136,22 @@ module _ {f : List ℕ} {l : Layout} (k : Laid f l) where
   unfolding policyOf
   laid-inputs = rw (k .inputs) (sym (ap (λ (n : ℕ). 2 ^ n) (inputs-length f framed)), pow-le-pow-right {n = 2} (omega arith) (framed .inputs))
 
+  -- Of outputs there are as many values as the code counts, at most 16.
   pub laid-outputs : (2 ^ l .outputs ≡ outputValues (policyOf (l .reading) f)) × (2 ^ l .outputs ≤ 16)
   unfolding policyOf
   laid-outputs = rw (k .outputs) (sym (ap (λ (n : ℕ). 2 ^ n) (outputs-length f framed)), pow-le-pow-right {n = 2} (omega arith) (framed .outputs))
 
+  -- The layout has as many clocks as the policy has ceilings.
   pub laid-clocks : l .clocks ≡ length (policyOf (l .reading) f .ceilings)
   unfolding policyOf
   laid-clocks = k .clocks ∙ sym (pairs-length f (clocksAt f + 1) (clockCount f))
 
+  -- The ceilings of the clocks in use are those of the policy.
   pub laid-ceilings : take (l .clocks) (l .ceilings) ≡ policyOf (l .reading) f .ceilings
   unfolding policyOf
   laid-ceilings = rw (k .ceilings) (take-at (ceilingsOf f) _ (l .clocks) (sym laid-clocks))
 
+  -- The layout has four ceilings: those of the clocks in use, then zeros.
   pub laid-four : l .ceilings ≡ four (take (l .clocks) (l .ceilings))
   unfolding policyOf
   laid-four = k .ceilings ∙ sym (ap four laid-ceilings)
@@ -161,6 +168,7 @@ module _ {f : List ℕ} {l : Layout} (k : Laid f l) where
   pub laid-locations : l .locations ≤ 64
   laid-locations = omega (arith, k .locations, framed .locations)
 
+  -- No ceiling of the layout is above 1,001.
   pub laid-most : (i : ℕ) → getD (l .ceilings) i 0 ≤ 1001
   laid-most i = go (ltb i (l .clocks)) refl
     where
@@ -207,6 +215,7 @@ module _ {f : List ℕ} {l : Layout} (k : Laid f l) where
           (advance-take stopped 0 (l .clocks) (l .ceilings) (s .clocks) ∙ ap (λ (cs : List ℕ). advance stopped 0 cs (take (l .clocks) (s .clocks))) laid-ceilings)
       go false = refl
 
+  -- The state seen that is kept with a state's own rules stands for the place looked at.
   pub here-seen : {s : State} {h : Here} → HereOf f l s h → place (l .clocks) (h .seen) ≡ looked stopped (policyOf (l .reading) f) (place (l .clocks) s)
   here-seen {s} o = ap (place (l .clocks)) (o .seen) ∙ laid-seen s
 
@@ -214,6 +223,7 @@ module _ {f : List ℕ} {l : Layout} (k : Laid f l) where
   pub laid-place : (s : State) → place (l .clocks) s ≡ placeIn (policyOf (l .reading) f) s
   laid-place s = rw laid-clocks
 
+  -- The number that the code works out for a state is that of its place.
   pub laid-number : (s : State) → stateNumber l s ≡ numberOf (policyOf (l .reading) f) (place (l .clocks) s)
   laid-number s =
       rw (← number-take (l .ceilings) (l .clocks) (s .location) (s .clocks), ← laid-clocks)
@@ -223,6 +233,7 @@ module _ {f : List ℕ} {l : Layout} (k : Laid f l) where
   pub place-back : {t : Place} → Inside (policyOf (l .reading) f) t → place (l .clocks) (stateOf t) ≡ t
   place-back {t} h = laid-place (stateOf t) ∙ placeIn-stateOf (policyOf (l .reading) f) h
 
+  -- The state that a place is has the number of that place.
   pub next-number : {t : Place} → Inside (policyOf (l .reading) f) t → stateNumber l (stateOf t) ≡ numberOf (policyOf (l .reading) f) t
   next-number {t} h = laid-number (stateOf t) ∙ ap (numberOf (policyOf (l .reading) f)) (place-back h)
 
@@ -260,6 +271,7 @@ module _ {f : List ℕ} {l : Layout} (k : Laid f l) where
   -- By the answer r of a step that has a next state: whether the event reaches a marked place is said by the mark of that state's number.
   module _ (marks : List ℕ) (s : State) (x y : ℕ) {r : Step}
       (e : r ≡ stepFrom s (step stopped (policyOf (l .reading) f) (place (l .clocks) s) (eventXY x y))) where
+    -- The number of the next state is below that of the states, and its mark is the answer.
     pub reaches-next : Inside (policyOf (l .reading) f) (place (l .clocks) s) → r .permitted ≡ true →
         Numbered (l .reading) f marks (numberFrom (l .ceilings) 4 (r .state .location) (r .state .clocks)) (reaches (policyOf (l .reading) f) marks (place (l .clocks) s) x y)
     unfolding reaches

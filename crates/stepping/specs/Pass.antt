@@ -1,4 +1,6 @@
 -- One pass over a location's own rules, as the code makes it: what each rule takes, and what is known before and after it.
+-- In order: what a rule takes, by its bytes (`Parts`, `Parted`, `Took`); whether it leads to a marked place (`Went`), and what all rules find
+-- (`Gathers`, `Gathering`); where it leads, whatever is marked (`Led`, `Held`, `RuleTurned`), and which states the rules have found (`Passing`).
 use mathlib.Core.Path.{_≡_, refl, sym, ap, ap₂, _∙_, subst}
 use mathlib.Core.Bool.{Bool, true, false, cond, _&&_, and-eq-true-iff, or-true, false≢true}
 use mathlib.Core.List.{List, [], _∷_}
@@ -29,6 +31,7 @@ none-any n = some-fails _ n (λ z h. refl)
 
 -- What a rule takes, by care bits and a value of the input and a set of outputs.
 module _ (s : Place) where
+  -- These care bits, this value and this set say what the rule r takes, whatever the input.
   pub record Parts (r : Rule) (care value set : ℕ) : Type 0 where
     pub few : care < 16
     pub within : bitAnd value care ≡ value
@@ -81,14 +84,17 @@ module _ (s : Place) where
     parted-so few within d = record { says = rw e d; parts = λ q. parts-so e few within; its-care = refl; its-value = refl; its-set = refl }
 
   module _ {r : Rule} {n : ℕ} {left : List ℕ} {care value set : ℕ} (k : Parted r n left false care value set) where
+    -- Where the answer is no, the rule takes nothing of any of the first n sets.
     pub parted-none : (x : ℕ) → x < n → takes s r x (getD left x 0) ≡ 0
     parted-none x h =
         let m : takes s r x (getD left x 0) ≤ 0 = ltb-false _ _ (some-none _ n (sym (k .says)) x h) in
         omega arith
 
+    -- Where the answer is no, the sets stay as they are.
     pub parted-not : Changed (λ x. bitXor (getD left x 0) (takes s r x (getD left x 0))) n left left
     parted-not = changed-not (λ x h. rw (parted-none x h, xor-zero-r))
 
+  -- Sets that lose what the parts say lose what the rule takes.
   pub parts-taken : {r : Rule} {n : ℕ} {left rest : List ℕ} {care value set : ℕ} → Parts r care value set →
       Changed (λ x. bitXor (getD left x 0) (agreed care value set x (getD left x 0))) n left rest →
       Changed (λ x. bitXor (getD left x 0) (takes s r x (getD left x 0))) n left rest
@@ -103,13 +109,16 @@ module _ (s : Place) where
   pub took-one : {r : Rule} {n : ℕ} {left rest also : List ℕ} {a b : Bool} → Took r n left rest a → Took r n left also b → (rest ≡ also) × (a ≡ b)
   took-one k j = (changed-one (k .changed) (j .changed), k .says ∙ sym (j .says))
 
+  -- Where the answer is no, the rule takes nothing and leaves the sets as they are.
   pub took-not : {r : Rule} {n : ℕ} {left : List ℕ} {care value set : ℕ} → Parted r n left false care value set → Took r n left left false
   took-not k = record { changed = parted-not k; says = k .says }
 
+  -- Where the answer is yes, the rule takes something: what its parts say.
   pub took-so : {r : Rule} {n : ℕ} {left rest : List ℕ} {care value set : ℕ} → Parted r n left true care value set →
       Changed (λ x. bitXor (getD left x 0) (agreed care value set x (getD left x 0))) n left rest → Took r n left rest true
   took-so k c = record { changed = parts-taken (k .parts refl) c; says = k .says }
 
+  -- `Took` holds for an equal number of sets too.
   pub took-as : {r : Rule} {n m : ℕ} {left rest : List ℕ} {some : Bool} → n ≡ m → Took r n left rest some → Took r m left rest some
   took-as {r} {left = left} {rest = rest} {some = some} e w = subst (λ (k : ℕ). Took r k left rest some) e w
 
@@ -119,12 +128,15 @@ module _ (s : Place) (p : Policy) (marks : List ℕ) where
     pub changed : Changed (λ x. bitXor (getD left x 0) (takes (looked stopped p s) r x (getD left x 0))) n left rest
     pub says : found ≡ (someBelow (λ x. ltb 0 (takes (looked stopped p s) r x (getD left x 0))) n && leads s p marks r)
 
+  -- `Went` holds for an equal number of sets and an equal answer too.
   pub went-as : {r : Rule} {n m : ℕ} {left rest : List ℕ} {found t : Bool} → n ≡ m → found ≡ t → Went r n left rest found → Went r m left rest t
   went-as {r} {n} {left = left} {rest = rest} {t = t} e d w = subst (λ (k : ℕ). Went r k left rest t) e (subst (λ (b : Bool). Went r n left rest b) d w)
 
+  -- A rule that takes nothing is not found to lead to a marked place.
   pub went-not : {r : Rule} {n : ℕ} {left rest : List ℕ} → Took (looked stopped p s) r n left rest false → Went r n left rest false
   went-not k = record { changed = k .changed; says = rw (← k .says) }
 
+  -- A rule that takes something is found exactly if it leads to a marked place.
   pub went-took : {r : Rule} {n : ℕ} {left rest : List ℕ} {found : Bool} → Took (looked stopped p s) r n left rest true → found ≡ leads s p marks r → Went r n left rest found
   went-took k e = record { changed = k .changed; says = rw (← k .says) e }
 
@@ -133,9 +145,11 @@ module _ (s : Place) (p : Policy) (marks : List ℕ) where
     pub taken : Changed (λ x. bitXor (getD left x 0) (takes (looked stopped p s) r x (getD left x 0))) n left rest
     pub gained : Changed (λ x. cond (leads s p marks r) (bitOr (getD found x 0) (takes (looked stopped p s) r x (getD left x 0))) (getD found x 0)) n found more
 
+  -- `Gathers` holds for an equal number of sets too.
   pub gathers-as : {r : Rule} {n m : ℕ} {left rest found more : List ℕ} → n ≡ m → Gathers r n left rest found more → Gathers r m left rest found more
   gathers-as {r} {left = left} {rest = rest} {found = found} {more = more} e w = subst (λ (k : ℕ). Gathers r k left rest found more) e w
 
+  -- A rule that takes nothing changes neither what is left nor what is found.
   pub gathers-not : {r : Rule} {n : ℕ} {left : List ℕ} (found : List ℕ) {care value set : ℕ} → Parted (looked stopped p s) r n left false care value set → Gathers r n left left found found
   gathers-not {r} {n} {left} found k =
       record {
@@ -263,9 +277,11 @@ module _ (s : Place) (p : Policy) where
   pub held-one : {r : Rule} {a b : Bool} {m n : ℕ} → Held r a m → Held r b n → (a ≡ b) × (m ≡ n)
   held-one {a = a} {b = b} w v = marked-one a b (λ marks. sym (w .mark marks) ∙ v .mark marks) (w .nowhere) (v .nowhere)
 
+  -- A rule whose bounds do not hold leads nowhere.
   pub held-not : {r : Rule} → holds (looked stopped p s) r ≡ false → Held r false 0
   held-not e = record { mark = λ marks. rw e; below = λ q. absurd (false≢true q); nowhere = λ q. refl }
 
+  -- A rule whose bounds hold leads where `Led` says.
   pub held-led : {r : Rule} {some : Bool} {to : ℕ} → holds (looked stopped p s) r ≡ true → Led r some to → Held r some to
   held-led e w = record { mark = λ marks. rw e (w .mark marks); below = w .below; nowhere = w .nowhere }
 
@@ -282,12 +298,15 @@ module _ (s : Place) (p : Policy) where
       let e = marked-one a b (λ marks. w .went marks .says ∙ sym (v .went marks .says)) (w .nowhere) (v .nowhere) in
       (changed-one (w .went [] .changed) (v .went [] .changed), e .0, e .1)
 
+  -- `RuleTurned` holds for an equal number of sets too.
   pub turned-as : {r : Rule} {n m : ℕ} {left rest : List ℕ} {some : Bool} {to : ℕ} → n ≡ m → RuleTurned r n left rest some to → RuleTurned r m left rest some to
   turned-as {r} {left = left} {rest = rest} {some = some} {to = to} e w = subst (λ (k : ℕ). RuleTurned r k left rest some to) e w
 
+  -- A rule that takes nothing leads nowhere.
   pub turned-not : {r : Rule} {n : ℕ} {left rest : List ℕ} → Took (looked stopped p s) r n left rest false → RuleTurned r n left rest false 0
   turned-not k = record { went = λ marks. went-not s p marks k; below = λ q. absurd (false≢true q); nowhere = λ q. refl }
 
+  -- A rule that takes something leads where `Led` says.
   pub turned-took : {r : Rule} {n : ℕ} {left rest : List ℕ} {some : Bool} {to : ℕ} → Took (looked stopped p s) r n left rest true → Led r some to → RuleTurned r n left rest some to
   turned-took k w = record { went = λ marks. record { changed = k .changed; says = rw (← k .says, w .mark marks) }; below = w .below; nowhere = w .nowhere }
 

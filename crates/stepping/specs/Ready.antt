@@ -43,6 +43,7 @@ pub record HereOf (f : List ℕ) (l : Layout) (s : State) (h : Here) : Type 0 wh
 pub here-one : {f : List ℕ} {l : Layout} {s : State} {h g : Here} → HereOf f l s h → HereOf f l s g → h ≡ g
 here-one k j = ap₂ (λ (o : Own) (v : State). record { own = o; seen = v }) (k .own ∙ sym (j .own)) (k .seen ∙ sym (j .seen))
 
+-- A mark for each state, a state in range, and the state's own rules known.
 pub record Ready (f : List ℕ) (l : Layout) (h : Here) (marks : List ℕ) (s : State) : Type 0 where
   pub standing : Standing f l marks s
   pub here : HereOf f l s h

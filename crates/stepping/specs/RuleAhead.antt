@@ -30,6 +30,7 @@ well-cared p k =
     each-weak (λ r g. let l = pow-le-pow-right {n = 2} (omega arith) (k .inputs) in record { formed = g .formed; care = omega (arith, g .inCare) })
     (well-ruled p k)
 
+-- A rule of the location a that passes the check, with care bits for at most four inputs.
 pub record Ours (clocks locations a : ℕ) (r : Rule) : Type 0 where
   pub source : r .source ≡ a
   pub formed : Formed clocks locations r
@@ -62,14 +63,17 @@ pub record RuleAt (f : List ℕ) (l : Layout) (a at : ℕ) : Type 0 where
   pub short : length f < 65536
 
 module _ {f : List ℕ} {l : Layout} (k : Laid f l) where
+  -- A file that passes the check has fewer than 65,536 bytes.
   pub laid-short : length f < 65536
   laid-short = let g = frame f (k .passes) in omega (arith, mul-le-mul-right (ruleSize (clockCount f)) (g .rules))
 
   module _ (a : ℕ) {o : Own} (e : o ≡ ownOf (l .clocks) a (rulesOf f)) where
+    -- The rules from the location's first on, as many as it has, are its own.
     pub own-here : rulesFrom (l .clocks) f (l .«rules_start» + o .start) (o .count) ≡ own a (policyOf (l .reading) f .rules)
     unfolding policyOf
     own-here = sym (rules-part f (l .clocks) (l .«rules_start» + o .start) (o .count)) ∙ own-rules k a e
 
+    -- Before the first of them all the location's own rules are ahead.
     pub own-ahead : Ahead f l a (l .«rules_start» + o .start) (o .count)
     unfolding policyOf
     own-ahead =
@@ -79,9 +83,11 @@ module _ {f : List ℕ} {l : Layout} (k : Laid f l) where
         }
 
   module _ {a at n : ℕ} (h : Ahead f l a at n) (m : 0 < n) where
+    -- With a rule ahead, n is n - 1 and one more.
     pub left : n ≡ suc (n - 1)
     left = omega arith
 
+    -- The rules ahead are the one at `at` and those behind it.
     pub ahead-first : rulesFrom (l .clocks) f at n ≡ ruleFrom (l .clocks) f at ∷ rulesFrom (l .clocks) f (at + ruleSize (l .clocks)) (n - 1)
     unfolding rulesFrom
     ahead-first = ap (rulesFrom (l .clocks) f at) left
@@ -96,9 +102,11 @@ module _ {f : List ℕ} {l : Layout} (k : Laid f l) where
         go : {r : Rule} {rs : List Rule} → Each (Ours (l .clocks) (l .locations) a) (r ∷ rs) → Ours (l .clocks) (l .locations) a r × Each (Ours (l .clocks) (l .locations) a) rs
         go (each-more p q) = (p, q)
 
+    -- The rule at `at` is the location's, and lies within the file.
     pub ahead-rule : RuleAt f l a at
     ahead-rule = record { ours = split .0; ends = omega (arith, room-left); short = laid-short }
 
+    -- Behind the rule at `at` one rule less is ahead.
     pub ahead-rest : Ahead f l a (at + ruleSize (l .clocks)) (n - 1)
     ahead-rest = record { each = split .1; ends = room-left }
 
@@ -111,6 +119,7 @@ module _ {f : List ℕ} {l : Layout} (k : Laid f l) where
       let e : at + ruleSize (l .clocks) + i * ruleSize (l .clocks) ≡ at + suc i * ruleSize (l .clocks) = omega (arith, suc-mul i (ruleSize (l .clocks))) in
       subst (RuleAt f l a) e (ahead-at (n - 1) i (ahead-rest h (omega arith)) (omega arith))
 
+-- No rules ahead are an empty list.
 pub none-ahead : (clocks : ℕ) (f : List ℕ) (at n : ℕ) → n ≡ 0 → rulesFrom clocks f at n ≡ []
 unfolding rulesFrom
 none-ahead clocks f at n e = rw e

@@ -14,9 +14,11 @@ use Rattle.stepping.specs.declared.state.State.{State}
 abbrev pub place : ℕ → State → Place
 place clocks s = record { location = s .location; clocks = take clocks (s .clocks) }
 
+-- The state that a place is: the clocks that it does not have are 0.
 abbrev pub stateOf : Place → State
 stateOf t = record { location = t .location; clocks = four (t .clocks) }
 
+-- The place that a state is in the policy p.
 abbrev pub placeIn : Policy → State → Place
 placeIn p s = place (length (p .ceilings)) s
 
@@ -26,9 +28,11 @@ clocksGood [] vs = allPass (eqb 0) vs
 clocksGood (c ∷ cs) [] = false
 clocksGood (c ∷ cs) (v ∷ vs) = leb v c && clocksGood cs vs
 
+-- The location is one of so many, and no clock is out of range.
 abbrev pub inRange : ℕ → List ℕ → State → Bool
 inRange locations ceilings s = ltb (s .location) locations && clocksGood ceilings (s .clocks)
 
+-- The state is in the range of the policy p.
 unfoldable pub stateGood : Policy → State → Bool
 stateGood p s = inRange (p .locations) (p .ceilings) s
 

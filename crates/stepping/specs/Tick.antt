@@ -52,9 +52,11 @@ module _ (p : Policy) (marks : List ℕ) where
     unfoldable pub outputTick : ℕ → ℕ → Option ReleasedTick
     outputTick x y = bind (outputChoice x y) (λ z. moved x z)
 
+    -- Both halves: the output half gets the input that was chosen.
     unfoldable pub tick : Event → Option ReleasedTick
     tick e = bind (inputChoice (e .x)) (λ x. outputTick x (e .y))
 
+  -- A tick in front of what the run has released after it.
   abbrev pub put : ReleasedTick → Progress → Progress
   put t r = record { released = t .event ∷ r .released; place = r .place; stuck = r .stuck }
 

@@ -19,6 +19,7 @@ pub record TickedBy (p : Policy) (marks : List ℕ) (s : Place) (e : Event) (r :
   pub moves : step stopped p s (r .event) ≡ some (r .place)
 
 module _ (p : Policy) (marks : List ℕ) (s : Place) where
+  -- A tick that releases r has these parts.
   pub ticked : (e : Event) (r : ReleasedTick) → tick p marks s e ≡ some r → TickedBy p marks s e r
   unfolding tick outputTick moved
   ticked e r h =
@@ -32,10 +33,12 @@ module _ (p : Policy) (marks : List ℕ) (s : Place) where
   unfolding inputChoice
   input-stands x z h = nearest-is (mayStand p marks s) x (inputValues p) h .may
 
+  -- The output that is chosen is one of the values, and with the input leads to a marked place.
   pub output-stands : (x y z : ℕ) → outputChoice p marks s x y ≡ some z → Among (reaches p marks s x) (outputValues p) z
   unfolding outputChoice
   output-stands x y z h = nearest-is (reaches p marks s x) y (outputValues p) h .may
 
+  -- An event that is released has no bit beyond the signals.
   pub ticked-fits : {e : Event} {r : ReleasedTick} → TickedBy p marks s e r → FitsOne p (r .event)
   ticked-fits t = record { x = input-stands _ _ (t .input) .0; y = output-stands _ _ _ (t .output) .0 }
 
@@ -44,6 +47,7 @@ module _ (p : Policy) (marks : List ℕ) (s : Place) where
   unfolding ran
   ran-on e es r h = rw (h, ran)
 
+  -- Where there is no tick the run ends at that place and is stuck.
   pub ran-none : (e : Event) (es : Stream) → tick p marks s e ≡ none → ran p marks s (e ∷ es) ≡ record { released = []; place = s; stuck = true }
   unfolding ran
   ran-none e es h = rw (h, ran)

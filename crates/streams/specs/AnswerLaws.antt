@@ -13,6 +13,7 @@ pub none-refused : (a b : ℕ) → (a orElse b ≡ 0) ↔ ((a ≡ 0) × (b ≡ 0
 none-refused zero b = (λ e. (refl, e), λ k. k .1)
 none-refused (suc a) b = (λ e. absurd (omega arith), λ k. k .0)
 
+-- A test gives no refusal exactly if it passes.
 pub none-unless : (t : Bool) (n : ℕ) → (unless t (suc n) ≡ 0) ↔ (t ≡ true)
 none-unless true n = (λ e. refl, λ e. refl)
 none-unless false n = (λ e. absurd (omega arith), λ e. absurd (false≢true e))
@@ -22,6 +23,7 @@ pub first-refused : (a b : ℕ) → (a ≡ 0 → ⊥) → (a orElse b) ≡ a
 first-refused zero b h = absurd (h refl)
 first-refused (suc a) b h = refl
 
+-- Where the first refusal is not given, the next one decides.
 pub next-refused : (a b : ℕ) → a ≡ 0 → (a orElse b) ≡ b
 next-refused zero b e = refl
 next-refused (suc a) b e = absurd (omega arith)
@@ -37,10 +39,12 @@ pub unless-le : (t : Bool) (n k : ℕ) → leb n k ≡ true → unless t n ≤ k
 unless-le true n k h = zero-le
 unless-le false n k h = leb-true n k h
 
+-- Of two refusals that are at most k, the one given is at most k.
 pub else-le : {a b k : ℕ} → a ≤ k → b ≤ k → (a orElse b) ≤ k
 else-le {a = zero} h g = g
 else-le {a = suc a} h g = h
 
+-- An answer whose refusal is at most k refuses by 1 to k, if it does.
 pub answer-up-to : {A : Type 0} (n : ℕ) (a : A) {k : ℕ} → n ≤ k → UpTo k (answer n a)
 answer-up-to zero a h = tt
 answer-up-to (suc n) a h = (omega arith, h)

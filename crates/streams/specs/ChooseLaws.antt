@@ -1,4 +1,5 @@
 -- The choice that is computed is the nearest.
+-- In order: what `someBelow` says; what `nearest` computes, and when nothing; the choice by another test, and with more bits in the wanted value.
 use mathlib.Core.Path.{_≡_, refl, sym, ap, ap₂, _∙_, subst}
 use mathlib.Core.Logic.{_↔_, ⊎-elim}
 use mathlib.Core.Bool.{Bool, true, false, cond, _||_, true≢false, false≢true}
@@ -16,6 +17,7 @@ use Rattle.streams.specs.Choose.{Among, someBelow, better, nearest}
 below : (P : ℕ → Type 0) (n : ℕ) → ((z : ℕ) → z < n → P z) → P n → (z : ℕ) → z < suc n → P z
 below P n f p z h = ⊎-elim (λ (e : z ≡ n). rw e p) (f z) (eq-or-lt-of-le (le-of-suc-le-suc h))
 
+-- If `someBelow` says yes, a number below n that passes.
 pub some-from : (p : ℕ → Bool) (n : ℕ) → someBelow p n ≡ true → (z : ℕ) × (z < n) × (p z ≡ true)
 unfolding someBelow
 some-from p zero e = absurd (false≢true e)
@@ -25,6 +27,7 @@ some-from p (suc n) e = go (someBelow p n) (some-from p n) e
     go true f e = let r = f refl in (r .0, omega arith, r .2)
     go false f e = (n, lt-suc-self n, e)
 
+-- If `someBelow` says no, every number below n fails.
 pub some-none : (p : ℕ → Bool) (n : ℕ) → someBelow p n ≡ false → (z : ℕ) → z < n → p z ≡ false
 unfolding someBelow
 some-none p zero e z h = absurd (not-suc-le-zero h)
@@ -34,6 +37,7 @@ some-none p (suc n) e z h = go (someBelow p n) (some-none p n) e
     go true f e = absurd (true≢false e)
     go false f e = below (λ z. p z ≡ false) n (f refl) e z h
 
+-- One number below n that passes is enough for `someBelow` to say yes.
 pub some-has : (p : ℕ → Bool) (n z : ℕ) → z < n → p z ≡ true → someBelow p n ≡ true
 some-has p n z h e = go (someBelow p n) refl
   where
@@ -41,6 +45,7 @@ some-has p n z h e = go (someBelow p n) refl
     go true d = refl
     go false d = sym (some-none p n d z h) ∙ e
 
+-- If every number below n fails, `someBelow` says no.
 pub some-fails : (p : ℕ → Bool) (n : ℕ) → ((z : ℕ) → z < n → p z ≡ false) → someBelow p n ≡ false
 some-fails p n f = go (someBelow p n) refl
   where
@@ -48,6 +53,7 @@ some-fails p n f = go (someBelow p n) refl
     go true d = let r = some-from p n d in sym (r .2) ∙ f (r .0) (r .1)
     go false d = refl
 
+-- `someBelow` says the same of two tests that agree below n.
 pub some-ext : (p q : ℕ → Bool) (n : ℕ) → ((z : ℕ) → z < n → p z ≡ q z) → someBelow p n ≡ someBelow q n
 unfolding someBelow
 some-ext p q zero f = refl
@@ -84,12 +90,15 @@ module _ (may : ℕ → Bool) (w : ℕ) where
   best zero = λ z h. absurd (not-suc-le-zero h)
   best (suc n) = best-more n (may n) refl (nearest may w n) (best n)
 
+  -- The value computed is the nearest of those below n that may stand.
   pub nearest-is : (n : ℕ) {a : ℕ} → nearest may w n ≡ some a → Nearest corrections (Among may n) w a
   nearest-is n e = subst (Best n) e (best n)
 
+  -- If no value is computed, none below n may stand.
   pub nearest-none : (n : ℕ) → nearest may w n ≡ none → (z : ℕ) → z < n → may z ≡ false
   nearest-none n e = subst (Best n) e (best n)
 
+  -- If no value below n may stand, none is computed.
   pub nearest-nothing : (n : ℕ) → ((z : ℕ) → z < n → may z ≡ false) → nearest may w n ≡ none
   nearest-nothing n f = go (nearest may w n) refl
     where
@@ -97,6 +106,7 @@ module _ (may : ℕ → Bool) (w : ℕ) where
       go none d = refl
       go (some a) d = let r = nearest-is n d in absurd (true≢false (sym (r .may .1) ∙ f a (r .may .0)))
 
+  -- If some value below n may stand, one is computed.
   pub nearest-some : (n : ℕ) → someBelow may n ≡ true → (a : ℕ) × (nearest may w n ≡ some a)
   nearest-some n e = go (nearest may w n) refl
     where
@@ -110,6 +120,7 @@ module _ (may : ℕ → Bool) (w : ℕ) where
       let r = nearest-some n (some-has may n a (p .may .0) (p .may .1)) in
       r .1 ∙ ap some (nearest-one corrections {May = Among may n} (nearest-is n (r .1)) p)
 
+  -- A wanted value that may stand is the one computed.
   pub nearest-kept : (n : ℕ) → w < n → may w ≡ true → nearest may w n ≡ some w
   nearest-kept n h m = nearest-found n (kept-nearest corrections {May = Among may n} (h, m))
 
@@ -122,6 +133,7 @@ nearest-may may n May e wanted a = (
   λ h. nearest-found may wanted n (nearest-same corrections {May = May} {Also = Among may n} (λ z. e z .1) (λ z. e z .0) h),
 )
 
+-- The value computed is the same for two tests that agree below n.
 pub nearest-ext : (may also : ℕ → Bool) (w n : ℕ) → ((z : ℕ) → z < n → may z ≡ also z) → nearest may w n ≡ nearest also w n
 unfolding nearest
 nearest-ext may also w zero f = refl

@@ -53,6 +53,7 @@ nearer-apart w a b e d = go (eqb (distance w a) (distance w b)) refl e
     go true f e = let p = spares-true (a + b) w a b e in p .changed (subst (λ (z : ℕ). signal z (p .at) ≡ signal w (p .at)) d (p .left))
     go false f e = eqb-false (distance w a) (distance w b) f same
 
+-- If the test says that a is nearer than b, a is no farther than b in the order.
 pub nearer-true : (w a b : ℕ) → nearer w a b ≡ true → corrections .NoFarther w a b
 unfolding corrections nearer
 nearer-true w a b e = go (eqb (distance w a) (distance w b)) refl e
@@ -61,6 +62,7 @@ nearer-true w a b e = go (eqb (distance w a) (distance w b)) refl e
     go true d e = inr (eqb-true (distance w a) (distance w b) d, inr (spares-true (a + b) w a b e))
     go false d e = inl (ltb-true (distance w a) (distance w b) e)
 
+-- If it says that a is not nearer, b is no farther than a.
 pub nearer-false : (w a b : ℕ) → nearer w a b ≡ false → corrections .NoFarther w b a
 unfolding corrections nearer
 nearer-false w a b e = go (eqb (distance w a) (distance w b)) refl e
@@ -77,10 +79,12 @@ nearer-false w a b e = go (eqb (distance w a) (distance w b)) refl e
         let f : distance w a ≡ distance w b → ⊥ = eqb-false (distance w a) (distance w b) d in
         inl (omega (arith, ltb-false (distance w a) (distance w b) e))
 
+-- Every value is no farther than itself.
 pub corrections-reflexive : (w a : ℕ) → corrections .NoFarther w a a
 unfolding corrections
 corrections-reflexive w a = inr (refl, inl refl)
 
+-- If a is no farther than b, and b no farther than c, a is no farther than c.
 pub corrections-transitive : (w a b c : ℕ) → corrections .NoFarther w a b → corrections .NoFarther w b c → corrections .NoFarther w a c
 unfolding corrections
 corrections-transitive w a b c (inl p) (inl q) = inl (omega arith)
@@ -90,6 +94,7 @@ corrections-transitive w a b c (inr (d, inl e)) (inr q) = rw e (inr q)
 corrections-transitive w a b c (inr (d, inr p)) (inr (f, inl e)) = rw (← e) (inr (d, inr p))
 corrections-transitive w a b c (inr (d, inr p)) (inr (f, inr q)) = inr (d ∙ f, inr (spares-transitive p q))
 
+-- Of any two values one is no farther than the other.
 pub corrections-total : (w a b : ℕ) → corrections .NoFarther w a b ⊎ corrections .NoFarther w b a
 corrections-total w a b = go (nearer w a b) refl
   where
@@ -132,6 +137,7 @@ ltb-plus c d e = go (ltb d e) refl
     go true p = lt-ltb (c + d) (c + e) (omega (arith, ltb-true d e p))
     go false p = le-ltb (c + d) (c + e) (omega (arith, ltb-false d e p))
 
+-- Bits of the wanted value above those of a and b make no difference to the test.
 pub nearer-high : (k q r a b : ℕ) → r < 2 ^ k → a < 2 ^ k → b < 2 ^ k → nearer (q * 2 ^ k + r) a b ≡ nearer r a b
 unfolding nearer
 nearer-high k q r a b l h m =

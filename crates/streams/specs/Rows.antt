@@ -1,4 +1,6 @@
 -- The values in the order of corrections, written down in rows: the first of a row that may stand is the nearest.
+-- In order: the tests of a row and of a table; k different values below k are all of them; a row that passes is in order and within k; its first
+-- value that may stand is the nearest (`first-nearest`).
 use mathlib.Core.Path.{_≡_, refl, sym, _∙_, subst}
 use mathlib.Core.Logic.{_⊎_, inl, inr, ⊎-elim, dite}
 use mathlib.Core.Bool.{Bool, true, false, cond, _&&_, true≢false, and-eq-true-iff}
@@ -28,6 +30,7 @@ abbrev pub leads : ℕ → ℕ → List ℕ → Bool
 leads wanted a [] = true
 leads wanted a (b ∷ row) = nearer wanted a b
 
+-- The whole row passes: each value is below k, and nearer to the wanted one than the next.
 unfoldable pub rising : ℕ → ℕ → List ℕ → Bool
 rising k wanted [] = true
 rising k wanted (a ∷ row) = ltb a k && leads wanted a row && rising k wanted row
@@ -44,6 +47,7 @@ rising-parts k w a row e =
     let q = and-eq-true-iff (ltb a k) (leads w a row) .0 (p .0) in
     (ltb-true a k (q .0), q .1, p .1)
 
+-- In a table that passes, row i passes for the wanted value w + i.
 pub row-at : (k m w : ℕ) (table : List ℕ) → rows k m w table ≡ true → (i : ℕ) → i < m → rising k (w + i) (take k (drop (i * k) table)) ≡ true
 unfolding rows
 row-at k zero w table e i h = absurd (not-suc-le-zero h)
@@ -176,6 +180,7 @@ module _ (w : ℕ) where
         let p = rising-parts k w a row e in
         ⊎-elim (λ (q : b ≡ a). rw q (p .0)) (in-range row (p .2) b) (List·Memᴰ·cases-cons m)
 
+    -- Every value of a row that passes is below k.
     pub rising-below : (row : List ℕ) → rising k w row ≡ true → (i : ℕ) → i < length row → getD row i 0 < k
     rising-below [] e i h = absurd (not-suc-le-zero h)
     rising-below (a ∷ row) e zero h = rising-parts k w a row e .0

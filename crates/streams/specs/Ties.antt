@@ -46,6 +46,7 @@ module _ {w a b : ℕ} where
 not-both : {w a b : ℕ} → Spares w a b → Spares w b a → ⊥
 not-both p q = dite (decLe (p .at) (q .at)) (not-later p q) (λ h. not-later q p (omega arith))
 
+-- If a wins over b at the first signal in which they differ, and b over c, a wins over c.
 pub spares-transitive : {w a b c : ℕ} → Spares w a b → Spares w b c → Spares w a c
 spares-transitive {w} {a} {b} {c} p q = dite (decLe (q .at) (p .at)) no-later (λ h. sooner (omega arith))
   where
@@ -70,6 +71,7 @@ spares-transitive {w} {a} {b} {c} p q = dite (decLe (q .at) (p .at)) no-later (�
         })
         (eq-or-lt-of-le h)
 
+-- Two values, each no farther than the other, are one.
 pub no-tie : (w a b : ℕ) → NoFarther w a b → NoFarther w b a → a ≡ b
 no-tie w a b (inl p) (inl q) = absurd (omega arith)
 no-tie w a b (inl p) (inr q) = absurd (omega arith)
@@ -78,6 +80,7 @@ no-tie w a b (inr (d, inl e)) (inr q) = e
 no-tie w a b (inr (d, inr p)) (inr (f, inl e)) = sym e
 no-tie w a b (inr (d, inr p)) (inr (f, inr q)) = absurd (not-both p q)
 
+-- The wanted value is no farther than any other.
 pub wanted-first : (w a : ℕ) → NoFarther w w a
 wanted-first w a =
     ⊎-elim (λ (e : distance w a ≡ 0). inr (distance-self w ∙ sym e, inl (distance-none w a e)))

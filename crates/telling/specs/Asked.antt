@@ -57,6 +57,7 @@ module _ {f : List ℕ} {l : Layout} {marks : List ℕ} {s : State} (k : Asked f
         ticked-ready (policyOf (l .reading) f) marks (place (l .clocks) s) (eventXY x y) (r .tick)
         (well-sound (policyOf (l .reading) f) (laid-well (k .standing .laid))) (k .standing .inside) parts
 
+    -- The next state is the place after the tick.
     pub released-moves : place (l .clocks) next ≡ r .tick .place
     released-moves = ap (place (l .clocks)) (r .state) ∙ place-back (k .standing .laid) (after .inside)
 
@@ -80,15 +81,18 @@ module _ {f : List ℕ} {l : Layout} {marks : List ℕ} {s : State} (k : Asked f
     abbrev found : (t : ReleasedTick) × (tick (policyOf (l .reading) f) marks (place (l .clocks) s) (eventXY x y) ≡ some t) × MarkedPlace (policyOf (l .reading) f) marks (t .place)
     found = tick-ready (policyOf (l .reading) f) (laid-well (k .standing .laid)) marks (k .prepared) ready (eventXY x y)
 
+    -- The tick for x and y.
     abbrev pub it : ReleasedTick
     it = found .0
 
     its : TickedBy (policyOf (l .reading) f) marks (place (l .clocks) s) (eventXY x y) it
     its = ticked (policyOf (l .reading) f) marks (place (l .clocks) s) (eventXY x y) it (found .1)
 
+    -- The input half passes on the x' of that tick.
     pub passed-on : (a : Given) → answerSaid a ≡ inputPast (l .reading) f marks (place (l .clocks) s) x → valueOr (answerSaid a) x ≡ it .event .x
     passed-on a e = ap (λ (q : Answer ℕ). valueOr q x) (e ∙ input-answer (l .reading) f marks (place (l .clocks) s) x u (its .input))
 
+    -- The output half, given that x', releases its y' and hands back the state after it.
     pub given-out : (o : Output) → outputSaid o ≡ outputPast (l .reading) f marks s (place (l .clocks) s) (it .event .x) y →
         (valueOr (answerSaid (o .answer)) y ≡ it .event .y) × (o .state ≡ stateOf (it .place))
     given-out o e =
@@ -100,5 +104,6 @@ module _ {f : List ℕ} {l : Layout} {marks : List ℕ} {s : State} (k : Asked f
           ap (λ (a : OutputAnswer). record { location = a .state .location; clocks = a .state .clocks }) q,
         )
 
+    -- What has the numbers and the state of that tick is released by it.
     pub released-by : {x' y' : ℕ} {next : State} → x' ≡ it .event .x → y' ≡ it .event .y → next ≡ stateOf (it .place) → ReleasedBy f l marks s x y x' y' next
     released-by a b c = record { tick = it; ticks = found .1; is-x = a; is-y = b; state = c }

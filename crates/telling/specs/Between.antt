@@ -22,6 +22,7 @@ linesBetween p from (e ∷ events) (r ∷ released) (q ∷ qs) = (eventLine from
 abbrev pub releasedOf : Policy → List ℕ → Place → List ℕ → List ℕ
 releasedOf p marks s events = map byteOf (ran p marks s (map eventOf events) .released)
 
+-- What is told is the lines of what the run releases, with those of some reasons between them.
 pub told-between : {p : Policy} {marks : List ℕ} {from : ℕ} {s : Place} {events bytes : List ℕ} → Told p marks from s events bytes →
     (qs : List Reasons) × (bytes ≡ linesBetween p from events (releasedOf p marks s events) qs)
 told-between nothing = ([], refl)

@@ -23,6 +23,7 @@ why-violation (by-ticks h t) v = absurd (Option·none-ne-some _ (sym v ∙ h))
 why-violation (by-rests h t) v = absurd (Option·none-ne-some _ (sym v ∙ h))
 
 module _ {p : Policy} {s : Place} {n x : ℕ} where
+  -- If the reason for an input is a violation, every output is one, and it is the reason for the output 0.
   pub none-will-do : {q : Reason} → SaysIn p s n x q → IsViolation q → NoneWillDo p s n x × SaysWhy p s (eventXY x 0) q
   none-will-do (most-rests l h m) v = absurd (omega (arith, v .1))
   none-will-do (most-ticks l h m o) v = absurd (omega (arith, v .1))

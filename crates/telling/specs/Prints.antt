@@ -79,6 +79,7 @@ from-none : (s : State) (out : List ℕ) (n : ℕ) (r : Progress) → runFrom s 
 from-none s out zero r z = refl
 from-none s out (suc n) r z = absurd (omega arith)
 
+-- All of this holds of the policy and the events of an input that passes its checks.
 pub run-startable : {reading : ℕ} {input : List ℕ} {s : Summary} → Passes reading input s →
     Startable reading (policyPart input) (marksOf (policyOf reading (policyPart input))) (eventsPart input)
 unfolding runOf runRefusal
@@ -103,9 +104,11 @@ run-startable {reading} {input} h =
 -- Where `enforce` releases the events, by the slices that the code has.
 module _ {reading : ℕ} {input : List ℕ} {s : Summary} {marks released : List ℕ} (k : Enforces reading input s marks released)
     {file events : List ℕ} (policy : file ≡ policyPart input) (all : events ≡ eventsPart input) where
+  -- All of this holds of the code's own slices, with the marks that stand in front.
   pub enforced-startable : Startable reading file (take (s .states) marks) events
   enforced-startable = rw (policy, all, k .marked) (run-startable (k .passes))
 
+  -- The verdict's line and what is told of the events are what `why` prints.
   pub enforced-tells : {bytes : List ℕ} → Told (policyOf reading file) (take (s .states) marks) 1 (start (policyOf reading file)) events bytes →
       Prints reading input (verdictLine (s .verdict) (s .states) (s .live) ++ bytes)
   enforced-tells t = tells (sym (k .said)) (rw (policy, all, k .marked) at t)
@@ -120,12 +123,15 @@ module _ {reading : ℕ} {file marks events : List ℕ} {l : Layout} (k : Grante
       laid-place (k .laid) startState ∙ ap (placeIn p) (sym (start-is p (laid-well (k .laid) .clocks)))
       ∙ placeIn-stateOf p (start-inside p (well-sound p (laid-well (k .laid))))
 
+  -- The marks are those of the policy under the layout's reading.
   pub start-marks : marks ≡ marksOf p
   start-marks = subst (λ (r : ℕ). marks ≡ marksOf (policyOf r file)) (sym (k .named)) (h .marked)
 
+  -- The events are in range under the layout's reading.
   pub start-good : allPass (eventGood (l .reading) file) events ≡ true
   start-good = subst (λ (r : ℕ). allPass (eventGood r file) events ≡ true) (sym (k .named)) (h .good)
 
+  -- The start state may be asked about.
   pub start-asked : Asked file l marks startState
   start-asked =
       record {
@@ -136,6 +142,7 @@ module _ {reading : ℕ} {file marks events : List ℕ} {l : Layout} (k : Grante
             ∙ subst (λ (r : ℕ). isMarked marks (numberOf (policyOf r file) (placeIn (policyOf r file) startState)) ≡ true) (sym (k .named)) (h .live);
       }
 
+  -- What is told from the start state is told from the start of the policy.
   pub start-told : {before after : List ℕ} {at r : ℕ} → ToldFrom p marks (place (l .clocks) startState) events before at r after →
       ToldFrom (policyOf reading file) marks (start (policyOf reading file)) events before at r after
   start-told {before} {after} {at} {r} t =

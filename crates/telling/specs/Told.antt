@@ -31,6 +31,7 @@ pub data Told (p : Policy) (marks : List ℕ) : (from : ℕ) (s : Place) (events
       Spec.tick p marks s (eventOf e) ≡ some t → Explained p marks s (e % 16) (e / 16) (q .input) (q .output) →
       Told p marks (from + 1) (t .place) events rest → Told p marks from s (e ∷ events) (tickText p from e t q ++ rest)
 
+-- One text alone tells the events from a place.
 pub told-one : {p : Policy} {marks : List ℕ} {from : ℕ} {s : Place} {events a b : List ℕ} → Told p marks from s events a → Told p marks from s events b → a ≡ b
 told-one nothing nothing = refl
 told-one {p} {marks} {from} {s} (one {e = e} {events = events} {rest = rest} {t = t} {q = q} h g m) (one {t = u} {q = v} k l n) =
@@ -51,6 +52,7 @@ pub record ToldTick (f : List ℕ) (l : Layout) (marks : List ℕ) (s : State) (
   pub wrote : Wrote before at (tickText (policyOf (l .reading) f) number event tick reasons) r after
   pub few : r ≤ at + tickRoom
 
+-- Once the tick's line and the lines of its reasons are written, the tick is told.
 pub told-tick : {f : List ℕ} {l : Layout} {marks : List ℕ} {s next : State} {number event x y at r : ℕ} {q : Reasons} {before after : List ℕ} →
     Asked f l marks s → (k : ReleasedBy f l marks s (event % 16) (event / 16) x y next) →
     Explained (policyOf (l .reading) f) marks (place (l .clocks) s) (event % 16) (event / 16) (q .input) (q .output) →
@@ -84,12 +86,14 @@ pub record Telling (f : List ℕ) (l : Layout) (marks events before : List ℕ) 
   pub rest : (bytes : List ℕ) → Told (policyOf (l .reading) f) marks (i + 1) (place (l .clocks) s) (drop i events) bytes →
       Told (policyOf (l .reading) f) marks 1 (place (l .clocks) s₀) events (written ++ bytes)
 
+-- Before the first event nothing is told.
 pub telling-starts : {f : List ℕ} {l : Layout} {marks : List ℕ} (events before : List ℕ) (at : ℕ) {s : State} → Asked f l marks s → Telling f l marks events before at s 0 before at s
 telling-starts events before at k =
     record { most = omega arith; long = refl; room = omega arith; asked = k; written = []; wrote = wrote-none before at; rest = λ bytes t. t }
 
 module _ {f : List ℕ} {l : Layout} {marks events before : List ℕ} {at : ℕ} {s₀ : State} {i : ℕ} {text : List ℕ} {next : ℕ} {s : State}
     (g : Telling f l marks events before at s₀ i text next s) where
+  -- After the last event all are told.
   pub telling-ends : length events ≤ i → ToldFrom (policyOf (l .reading) f) marks (place (l .clocks) s₀) events before at next text
   telling-ends h =
       record {
@@ -98,6 +102,7 @@ module _ {f : List ℕ} {l : Layout} {marks events before : List ℕ} {at : ℕ}
         wrote = rw append-nil (g .wrote);
       }
 
+  -- One event more is told.
   pub telling-turn : {s' : State} {r : ℕ} {after : List ℕ} → i < length events → at ≤ length before → length after ≡ length text →
       ToldTick f l marks s (i + 1) (getD events i 0) text next s' r after → Telling f l marks events before at s₀ (i + 1) after r s'
   telling-turn {s'} {r} {after} h b n t =

@@ -2,6 +2,7 @@
 -- releases passes A's enforcer from the start without an edit, and B's too. This holds for both readings and with locations that must be left, and for
 -- any number of policies joined one after another. It is proved over demand 2's definition, not by two enforcers in a row." For a lawyer:
 -- docs/ANNEX.md. What two enforcers in a row do is in specs/InARow.antt.
+-- In order: what a join keeps of a policy that went into it, by the definition, of the code and in C; that it does; of two parts; of any number.
 use mathlib.Core.Path.{_≡_, refl, sym, ap, subst, _∙_}
 use mathlib.Core.Bool.{true}
 use mathlib.Core.List.{List, [], _∷_, _++_, map, List·Memᴰ, List·Memᴰ·append-cases, List·Memᴰ·eq-of-singleton}
@@ -163,6 +164,7 @@ module _ (reading : ℕ) where
         subst (λ (t : List ℕ × List ℕ). Enforced corrections (Permits part) (length (t .0)) (length (t .1)) [] rs rs) (i .signals)
         (passes corrections _ _ (Permits whole) (Permits part) (i .permits) h)
 
+    -- By the definition: where f is not hopeless a is not either, and what f releases passes a's enforcer unedited.
     pub never-loosens : Keeps reading f a
     never-loosens = record { hopeful = λ n d. n (ends (Permits whole) (Permits part) (within w .permits) [] d); unedited = unedited }
 
@@ -206,6 +208,7 @@ module _ (reading : ℕ) where
             out = k .out ∙ ap (λ (l : List ℕ). l ++ drop (length bytes) again) (ap (map byteOf) same ∙ sym (released-bytes h));
           }
 
+    -- The same of the code: of prepare, of the run and of the two halves.
     pub code-keeps : CodeKeeps reading f a
     code-keeps =
         record {
@@ -224,6 +227,7 @@ module _ (reading : ℕ) where
               enforced-one corrections _ _ (Permits part) (ticks-release k j .enforced) (unedited es rs (ticks-release h i .enforced));
         }
 
+    -- The same of the functions in C.
     pub c-keeps : CKeeps reading f a
     c-keeps =
         record {
@@ -253,6 +257,7 @@ module _ (reading : ℕ) where
       CodeKeeps reading (take n after) a × CodeKeeps reading (take n after) b
   code-of-two h = let j = code-joined h in (code-keeps (as-first itself j), code-keeps (as-second itself j))
 
+  -- What groovepawn_join wrote keeps both of its parts.
   pub c-of-two :
       {a b before after : List ℕ} {r : ℕ} → JoinCall a b before r after → r % 256 ≡ 0 →
       CKeeps reading (take (r / 256) after) a × CKeeps reading (take (r / 256) after) b
@@ -274,9 +279,11 @@ way-went (joined {h = h} i j k) a m =
     (List·Memᴰ·append-cases (h ∷ []) m)
 
 module _ (reading : ℕ) {parts : List (List ℕ)} {f : List ℕ} (i : JoinOf parts f) (a : List ℕ) where
+  -- A join of any number keeps each of its parts: by the definition, of the code and in C.
   pub of-parts : List·Memᴰ a parts → Keeps reading f a × CodeKeeps reading f a × CKeeps reading f a
   of-parts m = let w = part-went i a m in (never-loosens reading w, code-keeps reading w, c-keeps reading w)
 
+  -- It keeps each join made on the way, in the same three ways.
   pub of-way : List·Memᴰ a (onTheWay i) → Keeps reading f a × CodeKeeps reading f a × CKeeps reading f a
   of-way m = let w = way-went i a m in (never-loosens reading w, code-keeps reading w, c-keeps reading w)
 

@@ -1,5 +1,7 @@
 -- "Demand 2 is read for each bay alone": from a new list, and whatever the other bays do in between. Over the promises of the code, and over the C
 -- functions.
+-- In order: calls and their replies; demand 2's stream for each bay, and no bay stops; a bay's answers go by its own alone; the order of turns; the
+-- same in C.
 use mathlib.Core.Path.{_≡_, refl, sym, ap, ap₂, subst, _∙_}
 use mathlib.Core.Bool.{Bool, true, false}
 use mathlib.Core.List.{List, [], _∷_, map}
@@ -164,6 +166,7 @@ module _ {reading : ℕ} {file lent marks : List ℕ} {s : Summary} (h : Prepare
     {before fresh : List ℕ} (new : NewPromise before 0 fresh) {bay : ℕ} (is : bay < bayCount fresh)
     {last : List ℕ} {rs : List BayReply} (calls : BayCalls reading file marks fresh rs last)
     {es os : Stream} (ticks : BayTicks (repliesTo bay rs) es os) where
+  -- What was released at the bay is demand 2's stream, and leads to the bay's state.
   pub bays-release : TicksReleased (policyOf reading file) es os (bayState last bay)
   bays-release = ticks-release h (own-ticks reading file marks new is (calls-told reading file marks calls) ticks)
 
@@ -273,9 +276,11 @@ module _ {reading : ℕ} {file lent marks : List ℕ} {v : ℕ} (h : PrepareCall
   summary : (s : Summary) × PreparePromise reading file lent (Prepare.Gives s) marks
   summary = let s = prepare-read h z in (s .0, record { said = sym (s .1); marks = h .marks })
 
+  -- In C, what was released at the bay is demand 2's stream, and leads to the bay's state.
   pub c-bays-release : TicksReleased (policyOf reading file) es os (bayState last bay)
   c-bays-release = bays-release (summary .1) (c-bays-new new) is (c-bay-calls calls) ticks
 
+  -- In C, whatever is read at the bay next gets an input, and whatever the controller answers then gets an output.
   pub c-bays-go-on :
       (x w : ℕ) → x < inputValues (policyOf reading file) → BayInputCall reading file marks last bay x w →
       (w % 256 ≡ 0)
@@ -300,11 +305,13 @@ pub c-bays-alone :
     repliesTo bay rs ≡ repliesTo bay qs
 c-bays-alone h k = bays-alone (c-bay-calls h) (c-bay-calls k)
 
+-- In C, a bay of which nothing was asked has the state that it had.
 pub c-bays-stay :
     {reading : ℕ} {file marks states last : List ℕ} {rs : List BayReply} → CBayCalls reading file marks states rs last →
     (bay : ℕ) → bay < bayCount states → repliesTo bay rs ≡ [] → bayState last bay ≡ bayState states bay
 c-bays-stay h = bays-stay (c-bay-calls h)
 
+-- In C, two halves of different bays, asked in either order, get the same answers and leave the same list.
 pub c-bays-exchange :
     {reading : ℕ} {file marks states last end : List ℕ} (c d : Call) {a b also too : Said.Answer ℕ} → ¬ (c .bay ≡ d .bay) →
     CBayCalls reading file marks states (replied (c .bay) (c .half) a ∷ replied (d .bay) (d .half) b ∷ []) last →
@@ -312,6 +319,7 @@ pub c-bays-exchange :
     (a ≡ also) × (b ≡ too) × (last ≡ end)
 c-bays-exchange c d apart h k = bays-exchange c d apart (c-bay-calls h) (c-bay-calls k)
 
+-- In C, calls in any two orders that keep each bay's own get the same answers and leave the same list.
 pub c-bays-any-order :
     {reading : ℕ} {file marks states last end : List ℕ} {rs qs : List BayReply} →
     CBayCalls reading file marks states rs last → CBayCalls reading file marks states qs end →

@@ -1,5 +1,6 @@
 -- Each function in C is the entry below it: what it returned and left keeps that entry's promise, with the answer that the header's macros read from its word.
 -- So whatever is said of the entries' promises holds of the functions in C.
+-- In order: what a word says; then, function by function: prepare, the two halves, join, clean, bays, the meter, waves, texts.
 use mathlib.Core.Path.{_≡_, refl, sym, ap, ap₂, subst, _∙_}
 use mathlib.Core.Bool.{Bool, true, cond}
 use mathlib.Core.List.{List}
@@ -61,6 +62,7 @@ abbrev asPrepared : Said.Answer Summary → Prepared
 asPrepared (gives s) = Prepared.Gives (record { verdict = s .verdict; states = s .states; live = s .live })
 asPrepared (refused n) = Prepared.Refused n
 
+-- The answer of prepare that a word holds.
 abbrev pub preparedIn : ℕ → Prepared
 preparedIn w = asPrepared (summaryIn w)
 
@@ -68,6 +70,7 @@ abbrev asHalf : Said.Answer ℕ → HalfAnswer
 asHalf (gives v) = Half.Value v
 asHalf (refused n) = Half.Refused n
 
+-- The answer of a half that a word holds.
 abbrev pub halfIn : ℕ → HalfAnswer
 halfIn w = asHalf (answerIn w)
 
@@ -75,6 +78,7 @@ abbrev asJoined : Said.Answer ℕ → Joined
 asJoined (gives n) = Joined.Length n
 asJoined (refused n) = Joined.Refused n
 
+-- The answer of the join that a word holds.
 abbrev pub joinedIn : ℕ → Joined
 joinedIn w = asJoined (answerIn w)
 
@@ -82,6 +86,7 @@ abbrev asCleaned : Said.Answer Lengths → Cleaned
 asCleaned (gives l) = Cleaned.Gives (record { cleaned = l .cleaned; struck = l .struck })
 asCleaned (refused n) = Cleaned.Refused n
 
+-- The answer of clean that a word holds.
 abbrev pub cleanedIn : ℕ → Cleaned
 cleanedIn w = asCleaned (lengthsIn w)
 
@@ -89,6 +94,7 @@ abbrev asWritten : Said.Answer ℕ → Written
 asWritten (gives n) = Written.Length n
 asWritten (refused n) = Written.Refused n
 
+-- The answer of the wave writer that a word holds.
 abbrev pub writtenIn : ℕ → Written
 writtenIn w = asWritten (answerIn w)
 
@@ -96,6 +102,7 @@ abbrev asTaken : Said.Answer ℕ → Taken
 asTaken (gives n) = Taken.Count n
 asTaken (refused n) = Taken.Refused n
 
+-- The answer of the wave reader that a word holds.
 abbrev pub takenIn : ℕ → Taken
 takenIn w = asTaken (answerIn w)
 
@@ -124,6 +131,7 @@ taken-says : (a : Said.Answer ℕ) → takenSaid (asTaken a) ≡ a
 taken-says (gives n) = refl
 taken-says (refused n) = refl
 
+-- Read as a half's answer, a word says what `answerIn` reads in it.
 pub half-read : (w : ℕ) → answerSaid (halfIn w) ≡ answerIn w
 half-read w = half-says (answerIn w)
 
@@ -132,9 +140,11 @@ answer-refused : {A : Type 0} (k n : ℕ) (a : A) → (answer k a ≡ refused (s
 answer-refused zero n a = (λ e. let z : _≡_ {A = ℕ} 0 1 = cc in absurd (omega arith), λ e. absurd (omega arith))
 answer-refused (suc k) n a = (λ e. cc, λ e. ap refused e)
 
+-- A word refuses by a number above 0 exactly if its low eight bits are that number.
 pub word-refused : (w n : ℕ) → (answerIn w ≡ refused (suc n)) ↔ (w % 256 ≡ suc n)
 word-refused w n = answer-refused (w % 256) n (w / 256)
 
+-- A word of prepare refuses by a number above 0 exactly if its low eight bits are that number.
 pub prepared-refused : (w n : ℕ) → (preparedIn w ≡ Prepared.Refused (suc n)) ↔ (w % 256 ≡ suc n)
 prepared-refused w n =
     let k = answer-refused (w % 256) n _ in (
@@ -142,18 +152,23 @@ prepared-refused w n =
       λ e. prepared-one (preparedIn w) (Prepared.Refused (suc n)) (prepared-says (summaryIn w) ∙ k .1 e),
     )
 
+-- A word of prepare that gives a summary has 0 in its low eight bits.
 pub prepared-none : (w : ℕ) {s : Summary} → preparedIn w ≡ Prepared.Gives s → w % 256 ≡ 0
 prepared-none w {s} e = given-only (w % 256) _ s (sym (prepared-says (summaryIn w)) ∙ ap preparedSaid e) .0
 
+-- A word of a half that gives a value has 0 in its low eight bits, and the value above them.
 pub half-given : (w : ℕ) {v : ℕ} → halfIn w ≡ Half.Value v → (w % 256 ≡ 0) × (w / 256 ≡ v)
 half-given w {v} e = given-only (w % 256) (w / 256) v (sym (half-says (answerIn w)) ∙ ap answerSaid e)
 
+-- A word of a half whose low eight bits are a number above 0 refuses by it.
 pub half-refused : (w n : ℕ) → w % 256 ≡ suc n → halfIn w ≡ Half.Refused (suc n)
 half-refused w n e = ap asHalf (answer-refused (w % 256) n (w / 256) .1 e)
 
+-- A word of the wave writer that gives a length has 0 in its low eight bits, and the length above them.
 pub written-given : (w : ℕ) {n : ℕ} → writtenIn w ≡ Written.Length n → (w % 256 ≡ 0) × (w / 256 ≡ n)
 written-given w {n} e = given-only (w % 256) (w / 256) n (sym (written-says (answerIn w)) ∙ ap writtenSaid e)
 
+-- A word of the wave reader that gives a count has 0 in its low eight bits, and the count above them.
 pub taken-given : (w : ℕ) {n : ℕ} → takenIn w ≡ Taken.Count n → (w % 256 ≡ 0) × (w / 256 ≡ n)
 taken-given w {n} e = given-only (w % 256) (w / 256) n (sym (taken-says (answerIn w)) ∙ ap takenSaid e)
 
@@ -162,6 +177,7 @@ pub c-prepare : {reading : ℕ} {file before marks : List ℕ} {v : ℕ} → Pre
 c-prepare {reading} {file} {before} {v = v} h =
     record { said = prepared-says (summaryIn v) ∙ ap summaryIn (h .said) ∙ prepare-fields reading file before; marks = h .marks }
 
+-- groovepawn_prepare_fast keeps the promise of the second engine.
 pub c-fast :
     {reading : ℕ} {file before marks : List ℕ} {work left : Work} {v : ℕ} → FastCall reading file before work v marks left →
     FastPromise reading file before work (preparedIn v) marks left
@@ -177,6 +193,7 @@ is-state state five = eq-eqb (length state) 5 five
 
 -- groovepawn_input, groovepawn_output, over five numbers.
 module _ {reading : ℕ} {file marks state : List ℕ} (five : length state ≡ 5) where
+  -- groovepawn_input keeps the promise of the input half.
   pub c-input : {x r : ℕ} → InputCall reading file marks state x r → InputPromise reading file marks (stateIn state) x (halfIn r)
   c-input {x} {r} h =
       record {
@@ -192,9 +209,11 @@ module _ {reading : ℕ} {file marks state : List ℕ} (five : length state ≡ 
   output-moves {x} {y} h =
       h .next ∙ ap (λ (t : Bool). cond t (stateWords (outputOf reading file marks (stateIn state) x y .state)) state) (is-state state five)
 
+  -- groovepawn_output leaves five numbers again.
   pub output-five : {x y r : ℕ} {after : List ℕ} → OutputCall reading file marks state x y r after → length after ≡ 5
   output-five {x} {y} h = ap length (output-moves h) ∙ ap suc (output-four reading file marks (stateIn state) x y refl)
 
+  -- groovepawn_output keeps the promise of the output half.
   pub c-output :
       {x y r : ℕ} {after : List ℕ} → OutputCall reading file marks state x y r after →
       OutputPromise reading file marks (stateIn state) x y (record { answer = halfIn r; state = stateIn after })
@@ -223,9 +242,11 @@ pub c-bays-new : {before after : List ℕ} {r : ℕ} → NewCall before r after 
 c-bays-new h = record { said = h .said; states = h .states }
 
 module _ {reading : ℕ} {file marks states : List ℕ} {bay x r : ℕ} where
+  -- groovepawn_bay_input keeps the promise of a bay's input half.
   pub c-bay-input : BayInputCall reading file marks states bay x r → BayInputPromise reading file marks states bay x (halfIn r)
   c-bay-input h = record { said = half-says (answerIn r) ∙ ap answerIn (h .said) ∙ bay-input-fields reading file marks states bay x }
 
+  -- groovepawn_bay_output keeps the promise of a bay's output half.
   pub c-bay-output : {y : ℕ} {after : List ℕ} → BayOutputCall reading file marks states bay x y r after → BayOutputPromise reading file marks states bay x y (halfIn r) after
   c-bay-output {y} h =
       let said = half-says (answerIn r) ∙ ap answerIn (h .said) ∙ bay-output-fields reading file marks states bay x y in
@@ -239,9 +260,11 @@ pub c-meter-new :
 c-meter-new h = record { said = h .said; placed = h .placed; cleared = h .cleared }
 
 module _ {reading : ℕ} {file marks station : List ℕ} {register x r : ℕ} where
+  -- groovepawn_meter_input keeps the promise of the meter's input half.
   pub c-meter-input : MeterInputCall reading file marks station register x r → MeterInputPromise reading file marks station register x (halfIn r)
   c-meter-input h = record { said = half-says (answerIn r) ∙ ap answerIn (h .said) ∙ meter-input-fields reading file marks station register x }
 
+  -- groovepawn_meter_output keeps the promise of the meter's output half.
   pub c-meter-output :
       {totals after risen : List ℕ} {y : ℕ} → MeterOutputCall reading file marks station totals register x y r after risen →
       MeterOutputPromise reading file marks station totals register x y (halfIn r) after risen
@@ -256,6 +279,7 @@ pub c-wave-write : {file events before after : List ℕ} {r : ℕ} → WaveWrite
 c-wave-write {file} {events} {before} {r = r} h =
     record { answers = written-says (answerIn r) ∙ ap answerIn (h .said) ∙ wave-write-fields file events before; writes = h .text }
 
+-- groovepawn_wave_read keeps the promise of the wave reader.
 pub c-wave-read : {file text before after : List ℕ} {r : ℕ} → WaveReadCall file text before r after → TakePromise file text before (takenIn r) after
 c-wave-read {file} {text} {before} {after} {r} h =
     record { reads = subst (λ (a : Said.Answer ℕ). Reads file text before a after) (sym (taken-says (answerIn r))) (wave-read-fields h) }
@@ -264,6 +288,7 @@ c-wave-read {file} {text} {before} {after} {r} h =
 pub c-text-read : {text before after : List ℕ} {r : ℕ} → textReadOf text before .line < 2 ^ 32 → TextReadCall text before r after → ReadTextPromise text before (textReadIn r) after
 c-text-read {text} {before} l h = record { says = ap textReadIn (h .said) ∙ text-read-fields text before l; writes = h .file }
 
+-- groovepawn_text_write keeps the promise of writing a policy file's text.
 pub c-text-write :
     {file before after : List ℕ} {r : ℕ} → TextWriteCall file before r after →
     WriteTextPromise file before (record { refusal = r % 256; length = r / 256 }) after
@@ -271,8 +296,10 @@ c-text-write {file} {before} h =
     let k = text-write-numbers file before in
     record { refuses = ap (λ (n : ℕ). n % 256) (h .said) ∙ k .0; long = ap (λ (n : ℕ). n / 256) (h .said) ∙ k .1; writes = h .text }
 
+-- groovepawn_text_line_of_rule keeps the promise of the line of a rule, where that is below 2 ^ 32.
 pub c-text-rule : {text : List ℕ} {i r : ℕ} → textRuleOf text i .line < 2 ^ 32 → TextRuleCall text i r → RuleAtPromise text i (textRuleIn r)
 c-text-rule {text} {i} l h = ap textRuleIn (h .said) ∙ text-rule-fields text i l
 
+-- The three functions for names keep the promise of where a name stands, where that is below 2 ^ 32.
 pub c-text-name : {kind : ℕ} {text : List ℕ} {i r : ℕ} → whereOf (textNameOf kind text i) < 2 ^ 32 → TextNameCall kind text i r → NameAtPromise kind text i (textNameIn r)
 c-text-name {kind} {text} {i} l h = ap textNameIn (h .said) ∙ text-name-fields kind text i l

@@ -27,6 +27,7 @@ pub data Said : Type 0 where
   released : List ℕ → Said
   refusal : ℕ → List ℕ → Said
 
+-- A policy under a reading, what is asked of it, and what is to be said.
 pub record Case : Type 0 where
   pub reading : ℕ
   pub file : List ℕ
@@ -37,24 +38,30 @@ pub record Case : Type 0 where
 abbrev pub lent : ℕ → List ℕ
 lent n = replicate n 99
 
+-- The marks that prepare writes for the policy.
 abbrev pub marks : ℕ → List ℕ → List ℕ
 marks reading file = preparedMarks reading file (lent (states (policyOf reading file)))
 
+-- What prepare says: its summary, or its refusal and what the marks hold then.
 abbrev pub saidOfPrepare : List ℕ → Answer Summary → Said
 saidOfPrepare marks (refused n) = refusal n marks
 saidOfPrepare marks (gives s) = summary (s .verdict) (s .states) (s .live)
 
+-- What a run says: the released events, or its refusal and what the slice holds then.
 abbrev pub saidOfRun : ℕ → List ℕ → Said
 saidOfRun zero out = released out
 saidOfRun (suc n) out = refusal (suc n) out
 
+-- A run from the start with the marks of prepare, into a slice as long as the events.
 abbrev pub run : ℕ → List ℕ → List ℕ → RunAnswer
 run reading file events = runOf reading file (marks reading file) (stateOf (start (policyOf reading file))) events (lent (length events))
 
+-- What is said to a request.
 abbrev pub said : ℕ → List ℕ → Request → Said
 said reading file prepared = saidOfPrepare (marks reading file) (prepareOf reading file (lent (states (policyOf reading file))))
 said reading file (enforced events) = saidOfRun (run reading file events .refusal) (run reading file events .out)
 
+-- The marked cases of 01 in their order, then those of 02.
 unfoldable pub cases : List Case
 cases =
     record { reading = 1; file = S; asked = enforced (0x03 ∷ []); expected = released (0x01 ∷ []) }
@@ -92,6 +99,7 @@ cases =
     ∷ record { reading = 0; file = N; asked = prepared; expected = refusal 22 (99 ∷ []) }
     ∷ record { reading = 3; file = []; asked = enforced (0xFF ∷ []); expected = refusal 22 (99 ∷ []) } ∷ []
 
+-- In each case, what is said is what is expected.
 pub marked-cases : map (λ c. said (c .reading) (c .file) (c .asked)) cases ≡ map (λ c. c .expected) cases
 unfolding the-file the-check a-step the-marks the-run cases
 marked-cases = refl

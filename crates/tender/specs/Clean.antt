@@ -87,12 +87,14 @@ module _ {reading : ℕ} {file policy list : List ℕ} (m : CleanedFrom reading 
       m .written ∙ ap (λ (n : Lengths). take (n .cleaned) (cleanedOut reading file (m .slice) (m .other))) (sym (only .1))
       ∙ rw (only .0) (take-at (cleanedFile reading file) _ _ refl)
 
+  -- The list is the file's, whatever the slice held before.
   pub list-is : list ≡ struckList reading file
   unfolding struckOut
   list-is =
       m .listed ∙ ap (λ (n : Lengths). take (n .struck) (struckOut reading file (m .slice) (m .other))) (sym (only .1))
       ∙ rw (only .0) (take-at (struckList reading file) _ _ refl)
 
+  -- A file that was cleaned passes the check under the reading.
   pub passed : refusalUnder reading file ≡ 0
   unfolding cleanRefusal
   passed = none-refused (refusalUnder reading file) _ .0 (only .0) .0
@@ -101,10 +103,12 @@ module _ {reading : ℕ} {file policy list : List ℕ} (m : CleanedFrom reading 
   pub promised : Cleans reading file
   promised = cleans reading file (under-none reading file .0 passed .1)
 
+  -- The cleaned policy passes it too.
   pub passes : refusalUnder reading policy ≡ 0
   passes =
       under-none reading policy .1 (under-none reading file .0 passed .0, ap refusalOf policy-is ∙ promised .passes)
 
+  -- The cleaned policy reads as the file's policy, cleaned.
   pub says : policyOf reading policy ≡ cleanedOf (policyOf reading file)
   says = ap (policyOf reading) policy-is ∙ promised .says
 
@@ -112,6 +116,7 @@ module _ {reading : ℕ} {file policy list : List ℕ} (m : CleanedFrom reading 
   pub permits-same : Permits (policyOf reading policy) ≋ Permits (policyOf reading file)
   permits-same = rw policy-is (promised .permits)
 
+  -- It has the same signals.
   pub same-tags : tags policy ≡ tags file
   unfolding policyOf
   same-tags =
@@ -123,6 +128,7 @@ module _ {reading : ℕ} {file policy list : List ℕ} (m : CleanedFrom reading 
   pub alike : Alike reading policy file
   alike = permits-alike reading policy file passes passed same-tags permits-same
 
+  -- Prepare refuses the cleaned policy by 11 exactly if it so refuses the file.
   pub hopeless-exactly-when :
       (marks also : List ℕ) → states (policyOf reading policy) ≤ length marks → states (policyOf reading file) ≤ length also →
       (prepareOf reading policy marks ≡ refused 11) ↔ (prepareOf reading file also ≡ refused 11)
@@ -150,6 +156,7 @@ module _ {reading : ℕ} {file policy list : List ℕ} (m : CleanedFrom reading 
       let both = answers reading policy slice other .both passes in
       rw (again-policy, again-list) at (both (rw again-policy long) (rw again-list (omega arith)))
 
+-- Whatever slices the second cleaning had: the same policy, and an empty list.
 pub again-one :
     {reading : ℕ} {file policy list same none : List ℕ} → CleanedFrom reading file policy list → CleanedFrom reading policy same none → (same ≡ policy) × (none ≡ [])
 again-one m n = (policy-is n ∙ again-policy m, list-is n ∙ again-list m)
@@ -173,9 +180,11 @@ cleaned-into reading file slice other passed long enough =
 -- "Joined tables carry locations that can't be entered and rules that never fire." A joined file passes the check, so it is cleaned, and what was said above holds
 -- of it. Of any number of policies, joined two at a time, the cleaned join permits what all its parts permit, and rests where all rest.
 module _ {reading : ℕ} {parts : List (List ℕ)} {f policy list : List ℕ} (i : JoinOf parts f) (m : CleanedFrom reading f policy list) where
+  -- The cleaned join permits what all its parts permit, and rests where all rest.
   pub join-permits : Permits (policyOf reading policy) ≋ AllOf reading parts
   join-permits = ≋-trans (permits-same m) (permits-all reading i)
 
+-- A join that was made is cleaned under each reading, into slices that are long enough.
 pub joined-cleaned :
     {a b f : List ℕ} → JoinMade a b f → (reading : ℕ) → readingRefusal reading ≡ 0 → (slice other : List ℕ) →
     length (cleanedFile reading f) ≤ length slice → length (struckList reading f) ≤ length other →
@@ -208,12 +217,14 @@ module _ {reading : ℕ} {file slice other after otherAfter : List ℕ} {r : ℕ
   abbrev cleanedBytes : List ℕ
   cleanedBytes = take (r / 256 % 16777216) after
 
+  -- groovepawn_prepare refuses both by 11, or it refuses neither and groovepawn_run releases the same for both.
   pub c-same :
       {x m y k : List ℕ} {v w : ℕ} → PrepareCall reading cleanedBytes x v m → PrepareCall reading file y w k →
       states (policyOf reading cleanedBytes) ≤ length x → states (policyOf reading file) ≤ length y →
       ((v % 256 ≡ 11) × (w % 256 ≡ 11)) ⊎ CSameGiven reading cleanedBytes m file k v w
   c-same = c-alike (alike (c-cleaned h z))
 
+  -- groovepawn_clean strikes nothing from a policy that it wrote, and writes the same bytes.
   pub c-again :
       {next last nextAfter lastAfter : List ℕ} {q : ℕ} → CleanCall reading cleanedBytes next last q nextAfter lastAfter →
       length cleanedBytes ≤ length next →

@@ -1,5 +1,6 @@
 -- Demands 2 and 3 over the promises of the code, those that stand in the `ensures` of the entries, and for each reading: nobody has to join a promise
 -- and a theorem over the definitions himself. The two halves are in specs/TickByTick.antt, and the program is in specs/Program.antt.
+-- In order: prepare; never 17; what a run releases; the same in C, and the two halves in C; joins; two files that are alike.
 use mathlib.Core.Path.{_≡_, refl, sym, ap, ap₂, subst, _∙_}
 use mathlib.Core.Bool.{Bool, true, false, cond}
 use mathlib.Core.List.{List, [], _∷_, _++_, map}
@@ -73,11 +74,13 @@ code-otherwise {reading} {file} {before} {r = r} h passed long = (
 -- "With the marks of prepare and a live state, run and the input half never give 17": with the marks that prepare's code wrote, from any state.
 module _ {reading : ℕ} {file before marks : List ℕ} {r : Prepared} (h : PreparePromise reading file before r marks)
     (passed : refusalUnder reading file ≡ 0) (long : states (policyOf reading file) ≤ length before) where
+  -- The code's input half never gives 17.
   pub code-input-never-17 : {s : State} {x : ℕ} {a : HalfAnswer} → InputPromise reading file marks s x a → ¬ (a ≡ Half.Refused 17)
   code-input-never-17 {s} {x} i e =
       input-never-17 reading file before passed long s x
       (subst (λ (m : List ℕ). inputOf reading file m s x ≡ refused 17) (h .marks) (sym (i .said) ∙ ap answerSaid e))
 
+  -- Run's code never gives 17.
   pub code-run-never-17 :
       {s : State} {events out after : List ℕ} {q : Ran} → RunPromise reading file marks s events out q after → ¬ (q .refusal ≡ 17)
   code-run-never-17 {s} {events} {out} k e =
@@ -114,6 +117,7 @@ code-releases {reading} {file} {before} {events = events} {out = out} {s = s} h 
 abbrev pub cStart : List ℕ
 cStart = 0 ∷ 0 ∷ 0 ∷ 0 ∷ 0 ∷ []
 
+-- The five zeros, read as a state, are the start.
 pub c-start : stateIn cStart ≡ startState
 c-start = refl
 
@@ -138,12 +142,14 @@ refused-number e k = cc
 -- "refused as hopeless exactly if", "Otherwise": the word of groovepawn_prepare, of a file that passes its checks and with a slice that is long enough.
 module _ {reading : ℕ} {file before marks : List ℕ} {v : ℕ} (h : PrepareCall reading file before v marks)
     (passed : refusalUnder reading file ≡ 0) (long : states (policyOf reading file) ≤ length before) where
+  -- The word's refusal is 11 exactly if the policy is hopeless.
   pub c-hopeless : (v % 256 ≡ 11) ↔ Hopeless (Permits (policyOf reading file))
   c-hopeless =
       let k = prepared-refused v 10 in
       let d = code-hopeless (c-prepare h) passed long in
       (λ e. d .0 (k .1 e), λ e. k .0 (d .1 e))
 
+  -- The word has no refusal exactly if the policy is not hopeless.
   pub c-otherwise : (¬ Hopeless (Permits (policyOf reading file))) ↔ (v % 256 ≡ 0)
   c-otherwise =
       let d = code-otherwise (c-prepare h) passed long in (
@@ -174,6 +180,7 @@ module _ {reading : ℕ} {file before marks : List ℕ} {v : ℕ} (h : PrepareCa
           let odd : answerIn w ≡ refused (oddRefusal reading file marks true) = rw is at said in
           odd-never true (refused-number odd (answer-17 w e))
 
+  -- groovepawn_run never gives 17.
   pub c-run-never-17 :
       {state events out after written : List ℕ} {w : ℕ} → RunCall reading file marks state events out w after written → ¬ (w % 256 ≡ 17)
   c-run-never-17 {state} {events} {out} {w = w} k e = go (isState state) refl
@@ -218,6 +225,7 @@ c-runs {reading} {file} {before} {marks} {events} {out} {state} {written} {r = r
     let out : q .out ≡ written = sym (k .released) in
     same ∙ (λ i. record { refusal = refusal i; count = count i; state = there i; out = out i })
 
+-- For fewer than 2^56 events within the signals, which the slice can hold, groovepawn_run released demand 2's stream.
 pub c-releases :
     {reading : ℕ} {file before marks events out state written : List ℕ} {v r : ℕ} → PrepareCall reading file before v marks → v % 256 ≡ 0 →
     RunCall reading file marks cStart events out r state written →
@@ -319,6 +327,7 @@ c-ticks-run {reading} {file} {marks} {state} {last} {out} {es = es} {rs} {r} h f
 pub code-joined : {a b before after : List ℕ} {n : ℕ} → JoinPromise a b before (Code.Length n) after → JoinMade a b (take n after)
 code-joined {before = before} {n = n} h = record { slice = before; size = n; given = sym (h .answers); written = ap (take n) (h .writes) }
 
+-- What groovepawn_join wrote without a refusal is a join that was made.
 pub c-joined : {a b before after : List ℕ} {r : ℕ} → JoinCall a b before r after → r % 256 ≡ 0 → JoinMade a b (take (r / 256) after)
 c-joined {a} {b} {before} {r = r} h z =
     let e : answerIn r ≡ gives (r / 256) = rw z in
@@ -336,6 +345,7 @@ pub code-permits :
     Permits (policyOf reading (take n after)) ≋ Permits (policyOf reading a) alongside Permits (policyOf reading b)
 code-permits reading h = permits-exactly reading (code-joined h)
 
+-- What groovepawn_join wrote permits exactly what both its parts permit, and rests where both rest.
 pub c-permits :
     (reading : ℕ) {a b before after : List ℕ} {r : ℕ} → JoinCall a b before r after → r % 256 ≡ 0 →
     Permits (policyOf reading (take (r / 256) after)) ≋ Permits (policyOf reading a) alongside Permits (policyOf reading b)
@@ -343,22 +353,27 @@ c-permits reading h z = permits-exactly reading (c-joined h z)
 
 -- "A with B or B with A", "grouped either way with C", "A with itself", "A with the policy that permits all", on either side: of what join's code wrote,
 module _ (reading : ℕ) (named : readingRefusal reading ≡ 0) where
+  -- A with B and B with A are alike.
   pub code-order :
       {a b x f y g : List ℕ} {n m : ℕ} → JoinPromise a b x (Code.Length n) f → JoinPromise b a y (Code.Length m) g → Alike reading (take n f) (take m g)
   code-order j k = order reading named (code-joined j) (code-joined k)
 
+  -- A with B, and then with C, is like A with the join of B and C.
   pub code-grouping :
       {a b c w f x h y g z k : List ℕ} {n m i j : ℕ} →
       JoinPromise a b w (Code.Length n) f → JoinPromise (take n f) c x (Code.Length m) h →
       JoinPromise b c y (Code.Length i) g → JoinPromise a (take i g) z (Code.Length j) k → Alike reading (take m h) (take j k)
   code-grouping s t u v = grouping reading named (code-joined s) (code-joined t) (code-joined u) (code-joined v)
 
+  -- A with itself is like A.
   pub code-repetition : {a x f : List ℕ} {n : ℕ} → JoinPromise a a x (Code.Length n) f → Alike reading (take n f) a
   code-repetition j = repetition reading named (code-joined j)
 
+  -- A with the policy that permits all is like A.
   pub code-unit : {a x f : List ℕ} {n : ℕ} → JoinPromise a (permitsAll a) x (Code.Length n) f → Alike reading (take n f) a
   code-unit j = unit-law reading named (code-joined j)
 
+  -- The policy that permits all, with A, is like A.
   pub code-unit-first : {a x f : List ℕ} {n : ℕ} → JoinPromise (permitsAll a) a x (Code.Length n) f → Alike reading (take n f) a
   code-unit-first j = unit-law-first reading named (code-joined j)
 
@@ -368,18 +383,22 @@ module _ (reading : ℕ) (named : readingRefusal reading ≡ 0) where
       Alike reading (take (r / 256) f) (take (q / 256) g)
   c-order j z k o = order reading named (c-joined j z) (c-joined k o)
 
+  -- In C: A with B, and then with C, is like A with the join of B and C.
   pub c-grouping :
       {a b c w f x h y g z k : List ℕ} {n m i j : ℕ} →
       JoinCall a b w n f → n % 256 ≡ 0 → JoinCall (take (n / 256) f) c x m h → m % 256 ≡ 0 →
       JoinCall b c y i g → i % 256 ≡ 0 → JoinCall a (take (i / 256) g) z j k → j % 256 ≡ 0 → Alike reading (take (m / 256) h) (take (j / 256) k)
   c-grouping s d t e u f v g = grouping reading named (c-joined s d) (c-joined t e) (c-joined u f) (c-joined v g)
 
+  -- In C: A with itself is like A.
   pub c-repetition : {a x f : List ℕ} {r : ℕ} → JoinCall a a x r f → r % 256 ≡ 0 → Alike reading (take (r / 256) f) a
   c-repetition j z = repetition reading named (c-joined j z)
 
+  -- In C: A with the policy that permits all is like A.
   pub c-unit : {a x f : List ℕ} {r : ℕ} → JoinCall a (permitsAll a) x r f → r % 256 ≡ 0 → Alike reading (take (r / 256) f) a
   c-unit j z = unit-law reading named (c-joined j z)
 
+  -- In C: the policy that permits all, with A, is like A.
   pub c-unit-first : {a x f : List ℕ} {r : ℕ} → JoinCall (permitsAll a) a x r f → r % 256 ≡ 0 → Alike reading (take (r / 256) f) a
   c-unit-first j z = unit-law-first reading named (c-joined j z)
 
@@ -418,6 +437,7 @@ pub record SameGiven (reading : ℕ) (f m g n : List ℕ) (r q : Prepared) : Typ
       RunPromise reading f m startState events out a after → RunPromise reading g n startState events out b also →
       SameRuns reading f g events out (ranSaid a after) (ranSaid b also)
 
+-- Of two files that are alike, prepare's code refuses both by 11, or run's code releases the same for both.
 pub code-alike :
     {reading : ℕ} {f x m g y n : List ℕ} {r q : Prepared} → Alike reading f g → PreparePromise reading f x r m → PreparePromise reading g y q n →
     states (policyOf reading f) ≤ length x → states (policyOf reading g) ≤ length y →
@@ -447,6 +467,7 @@ pub record CSameGiven (reading : ℕ) (f m g n : List ℕ) (v w : ℕ) : Type 0 
       RunCall reading f m cStart events out r state after → RunCall reading g n cStart events out q other also →
       SameRuns reading f g events out (runRead r state after) (runRead q other also)
 
+-- Of two files that are alike, groovepawn_prepare refuses both by 11, or groovepawn_run releases the same for both.
 pub c-alike :
     {reading : ℕ} {f x m g y n : List ℕ} {v w : ℕ} → Alike reading f g → PrepareCall reading f x v m → PrepareCall reading g y w n →
     states (policyOf reading f) ≤ length x → states (policyOf reading g) ≤ length y →

@@ -91,6 +91,7 @@ ComesBack =
     fromStart reading file marks released again
     ≡ record { refusal = 0; count = length events; state = fromStart reading file marks events out .state; out = released ++ drop (length events) again }
 
+-- Demand 2, sentence by sentence.
 pub record Demand2 : Type 0 where
   -- "a policy is refused as hopeless exactly if" it is: "hopeless means that the start is not live". Of a file that passes under the reading, with a
   -- slice for the marks that is long enough.

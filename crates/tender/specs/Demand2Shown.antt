@@ -1,4 +1,6 @@
 -- Demand 2 is shown: what specs/Demand2.antt states holds.
+-- In order: hopeless exactly if, and otherwise; never 17; what a run releases, of which there is one; a released stream comes back; the halves agree
+-- with the run; all of it (`demand-2`).
 use mathlib.Core.Path.{_≡_, refl, sym, ap, subst, _∙_}
 use mathlib.Core.Bool.{true, and-eq-true-iff, true≢false}
 use mathlib.Core.List.{List, [], _∷_, _++_, map}
@@ -57,6 +59,7 @@ module _ (reading : ℕ) (file marks : List ℕ) (passed : refusalUnder reading 
       let z = input-found (policyOf reading file) (well-formed reading file passed) M by (state-ready reading file M s (k .0)) x in
       Option·none-ne-some (z .0) (sym (k .1) ∙ z .1)
 
+  -- With the marks of prepare the run never gives 17, from any state.
   pub run-never-17 : (s : State) (events out : List ℕ) → ¬ (runOf reading file (preparedMarks reading file marks) s events out .refusal ≡ 17)
   run-never-17 s events out e =
       let M = preparedMarks reading file marks in
@@ -65,17 +68,21 @@ module _ (reading : ℕ) (file marks : List ℕ) (passed : refusalUnder reading 
       let ready = state-ready reading file M s (k .0) in
       true≢false (sym (k .1) ∙ never-stuck (policyOf reading file) (well-formed reading file passed) M by ready (map eventOf events))
 
+-- As many events are to be released as were read.
 pub as-many : (p : Policy) (events : List ℕ) {rs : Stream} → ReleasedFor p events rs → length rs ≡ length events
 as-many p events h = instantaneity corrections (Permits p) _ _ h ∙ length-map events eventOf
 
 -- The slice begins with the released events.
 module _ {p : Policy} {events before : List ℕ} {r : RunAnswer} (h : Released p events before r) where
+  -- There are as many released bytes as events read.
   pub released-length : length (map byteOf (h .released)) ≡ length events
   released-length = length-map (h .released) byteOf ∙ as-many p events (h .enforced)
 
+  -- So many bytes at the front of the slice are the released events.
   pub released-bytes : take (length events) (r .out) ≡ map byteOf (h .released)
   released-bytes = ap (take (length events)) (h .out) ∙ take-at (map byteOf (h .released)) _ _ released-length
 
+-- The run, as it is defined, is right: it does what demand 2 asks of a run.
 pub releases : Right runOf
 releases reading file marks s e events out good long =
     let p = policyOf reading file in
@@ -148,6 +155,7 @@ module _ (reading : ℕ) (file marks : List ℕ) (s : Summary) (e : prepareOf re
       }))
 
 module _ (reading : ℕ) (file marks : List ℕ) (s : State) (b : ℕ) (good : eventGood reading file b ≡ true) where
+  -- For an event within the signals the two halves and the run release the same, or refuse by the same number.
   pub halves-agree : Agree reading file marks s b ⊎ Refuse reading file marks s b
   unfolding allPass ran
   halves-agree = go (entryRefusal reading file marks s) refl (inputChoice (policyOf reading file) marks (placeIn (policyOf reading file) s) (b % 16)) refl
@@ -228,6 +236,7 @@ module _ (reading : ℕ) (file marks : List ℕ) (s : State) (b : ℕ) (good : e
       )
       go (inr r) = (λ e. cc (r .run o out), λ e. cc (r .run o out))
 
+-- All of demand 2 holds.
 pub demand-2 : Demand2
 demand-2 =
     record {

@@ -93,6 +93,7 @@ module _ (reading : ℕ) where
     pub permitted : (w : Stream) → Fits (policyOf reading b) w → Permits (policyOf reading b) .permits w
     pub rested : (w : Stream) → Fits (policyOf reading b) w → Permits (policyOf reading b) .rests w
 
+-- Demand 3, sentence by sentence.
 pub record Demand3 : Type 0 where
   -- "Joins carry no reading of their own": the bytes read under any reading are the join of the parts read under it.
   pub joined-reads :

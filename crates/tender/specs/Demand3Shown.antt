@@ -1,4 +1,6 @@
 -- Demand 3 is shown: what specs/Demand3.antt states holds.
+-- In order: what is known of a join that was made; joins of any number; files that permit the same are alike; the policy that permits all; the laws;
+-- all of it (`demand-3`); why forwarding everything does not do.
 use mathlib.Core.Path.{_≡_, refl, sym, ap, ap₂, subst, _∙_}
 use mathlib.Core.Bool.{true, _&&_}
 use mathlib.Core.List.{List, [], _∷_, _++_, map, List·Memᴰ, List·Memᴰ·head, List·Memᴰ·append-cases, List·Memᴰ·eq-of-singleton, Memᴰ·append-left, Memᴰ·append-right}
@@ -65,6 +67,7 @@ pub record Made (a b f : List ℕ) : Type 0 where
   pub tags-second : tags f ≡ tags b
   pub permits : (reading : ℕ) → Permits (policyOf reading f) ≋ Permits (policyOf reading a) alongside Permits (policyOf reading b)
 
+-- All of that is known of every join that was made.
 pub made : {a b f : List ℕ} → JoinMade a b f → Made a b f
 unfolding joinedFile join policyOf
 made {a} {b} {f} j =
@@ -91,6 +94,7 @@ module _ (reading : ℕ) where
   pub to-first : {a b f : List ℕ} → JoinMade a b f → Permits (policyOf reading f) narrows Permits (policyOf reading a)
   to-first j = narrows-trans (permits-exactly j .0) (alongside-first _ _)
 
+  -- The join permits no more than its second part, and rests nowhere else.
   pub to-second : {a b f : List ℕ} → JoinMade a b f → Permits (policyOf reading f) narrows Permits (policyOf reading b)
   to-second j = narrows-trans (permits-exactly j .0) (alongside-second _ _)
 
@@ -107,6 +111,7 @@ module _ (reading : ℕ) where
   fewer : (these those : List (List ℕ)) → ((a : List ℕ) → List·Memᴰ a these → List·Memᴰ a those) → AllOf reading those narrows AllOf reading these
   fewer these those h = all-of these (λ a m. part-of (h a m))
 
+  -- A join of any number permits exactly what all its parts permit, and rests where all rest.
   pub permits-all : {parts : List (List ℕ)} {f : List ℕ} → JoinOf parts f → Permits (policyOf reading f) ≋ AllOf reading parts
   permits-all (alone {a = a}) =
       (all-of (a ∷ []) (λ b m. rw (List·Memᴰ·eq-of-singleton m) (narrows-refl (Permits (policyOf reading a)))), part-of (List·Memᴰ·head refl))
@@ -154,6 +159,7 @@ module _ (reading : ℕ) where
         subst (λ (t : List ℕ × List ℕ). Enforced corrections (Permits (policyOf reading g)) (length (t .0)) (length (t .1)) [] (map eventOf events) rs) same
         (equally .releases corrections _ _ [] (map eventOf events) rs .0 h)
 
+    -- Files that pass, with the same signals and the same permitted streams, are alike.
     pub permits-alike : Alike reading f g
     permits-alike = record { passed = (first, second); signals = same; together = together }
       where
@@ -255,18 +261,22 @@ module _ (reading : ℕ) (named : readingRefusal reading ≡ 0) where
 
   -- "A with the policy that permits all": with any policy that permits all that A permits and rests wherever A rests, on either side.
   module _ {a b f : List ℕ} (more : Permits (policyOf reading a) narrows Permits (policyOf reading b)) where
+    -- A with such a policy is like A.
     pub unit-any : JoinMade a b f → Alike reading f a
     unit-any j =
         let s = made j in alike-by (s .passed) (s .first) (s .tags-first) (to-first reading j, into reading j (narrows-refl _) more)
 
+    -- Such a policy, with A, is like A.
     pub unit-any-first : JoinMade b a f → Alike reading f a
     unit-any-first j =
         let s = made j in alike-by (s .passed) (s .second) (s .tags-second) (to-second reading j, into reading j more (narrows-refl _))
 
+  -- A with any policy that permits all is like A.
   pub unit : {a b f : List ℕ} → PermitsAll reading b → JoinMade a b f → Alike reading f a
   unit {a} {b} free j =
       let s = made j in unit-any (permits-more reading a b (s .second) (sym (s .tags-first) ∙ s .tags-second) free) j
 
+  -- Any policy that permits all, with A, is like A.
   pub unit-first : {a b f : List ℕ} → PermitsAll reading b → JoinMade b a f → Alike reading f a
   unit-first {a} {b} free j =
       let s = made j in unit-any-first (permits-more reading a b (s .first) (sym (s .tags-second) ∙ s .tags-first) free) j
@@ -275,9 +285,11 @@ module _ (reading : ℕ) (named : readingRefusal reading ≡ 0) where
   pub unit-law : {a f : List ℕ} → JoinMade a (permitsAll a) f → Alike reading f a
   unit-law {a} j = unit (is-permits-all reading a (made j .first)) j
 
+  -- The file that permits all, with A, is like A.
   pub unit-law-first : {a f : List ℕ} → JoinMade (permitsAll a) a f → Alike reading f a
   unit-law-first {a} j = unit-first (is-permits-all reading a (made j .second)) j
 
+-- All of demand 3 holds.
 pub demand-3 : Demand3
 demand-3 =
     record {

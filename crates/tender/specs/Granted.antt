@@ -38,6 +38,7 @@ else-none (suc a) b = refl
 
 module _ (reading : ℕ) (file marks : List ℕ) where
   module _ (s : State) where
+    -- A state that is not refused by 16 stands for a place that is marked.
     pub state-ready : stateRefusal reading file marks s ≡ 0 → MarkedPlace (policyOf reading file) marks (placeIn (policyOf reading file) s)
     state-ready e = let k = state-granted reading file marks s .0 e in record { inside = good-inside (policyOf reading file) s (k .0); marked = k .1 }
 
@@ -45,12 +46,14 @@ module _ (reading : ℕ) (file marks : List ℕ) where
     abbrev pub entryRefusal : ℕ
     entryRefusal = marksRefusal reading file marks orElse stateRefusal reading file marks s
 
+    -- For an x within the signals the input half answers its choice, unless it refused before.
     pub input-answer :
         (x : ℕ) → xGood reading file x ≡ true →
         inputOf reading file marks s x ≡ chosen entryRefusal (inputChoice (policyOf reading file) marks (placeIn (policyOf reading file) s) x)
     unfolding inputOf inputRefusal
     input-answer x e = rw (e, else-none)
 
+    -- For x and y within the signals the output half answers its choice, unless it refused before.
     pub output-answer :
         (x y : ℕ) → xGood reading file x ≡ true → yGood reading file y ≡ true →
         outputOf reading file marks s x y
@@ -58,6 +61,7 @@ module _ (reading : ℕ) (file marks : List ℕ) where
     unfolding outputOf outputRefusal
     output-answer x y e k = rw (e, k, else-none)
 
+    -- For events within the signals and a slice that holds as many, the run answers as `ran` goes, unless it refused before.
     pub run-answer :
         (events out : List ℕ) → length events ≤ length out → allPass (eventGood reading file) events ≡ true →
         runOf reading file marks s events out
@@ -65,6 +69,7 @@ module _ (reading : ℕ) (file marks : List ℕ) where
     unfolding runOf runRefusal
     run-answer events out l e = rw (le-leb _ _ l, e, else-none)
 
+  -- The state of a place that is marked is not refused.
   pub ready-state : (t : Place) → MarkedPlace (policyOf reading file) marks t → stateRefusal reading file marks (stateOf t) ≡ 0
   ready-state t k =
       state-granted reading file marks (stateOf t) .1 (
@@ -99,10 +104,12 @@ module _ (reading : ℕ) (file marks : List ℕ) (passed : refusalUnder reading 
   granted : marksRefusal reading file marks ≡ 0
   granted = marks-granted reading file marks .1 (passed, long)
 
+  -- Of each state, prepare's marks say what the policy's own marks say.
   pub prepared-marks : AsPrepared (policyOf reading file) (preparedMarks reading file marks)
   unfolding preparedMarks
   prepared-marks = rw granted (prepared-front (policyOf reading file) (drop (states (policyOf reading file)) marks))
 
+  -- With the marks of prepare, 22 and 1 to 10 are not given.
   pub prepared-granted : marksRefusal reading file (preparedMarks reading file marks) ≡ 0
   unfolding preparedMarks
   prepared-granted = marks-granted reading file (preparedMarks reading file marks) .1 (passed, rw (granted, length-append, marks-length) (omega arith))
@@ -124,12 +131,15 @@ module _ (reading : ℕ) (file marks : List ℕ) (s : Summary) (e : prepareOf re
   given : (refusalUnder reading file ≡ 0) × (states (policyOf reading file) ≤ length marks)
   given = marks-granted reading file marks .0 (gives-past reading file marks s e .0)
 
+  -- The file has passed under the reading.
   pub given-passed : refusalUnder reading file ≡ 0
   given-passed = given .0
 
+  -- The slice has room for a mark of each state.
   pub given-long : states (policyOf reading file) ≤ length marks
   given-long = given .1
 
+  -- The start can go on for ever.
   pub given-goes-on : GoesOn (Permits (policyOf reading file)) []
   given-goes-on =
       ⊎-elim (λ h. let z : _≡_ {A = ℕ} 0 1 = cc in absurd (omega arith)) (λ g. g .0) (judged reading file marks given-passed given-long)

@@ -79,6 +79,7 @@ asRun l out =
       out = map byteOf (l .released) ++ drop (length (l .released)) out;
     }
 
+-- A run's progress, told as a loop: where no input could stand, the refusal is 17.
 abbrev pub ranAs : Run.Progress → Looped
 ranAs r = record { refusal = cond (r .stuck) 17 0; released = r .released; state = stateOf (r .place) }
 
@@ -96,12 +97,14 @@ from-none s zero o e = refl
 from-none s (suc n) o e = let z : _≡_ {A = ℕ} 0 1 = cc in absurd (omega arith)
 
 module _ (reading : ℕ) (file marks : List ℕ) (s : State) where
+  -- If the input half gives an input for x, x is within the signals.
   pub input-fits : (x : ℕ) {z : ℕ} → inputOf reading file marks s x ≡ gives z → xGood reading file x ≡ true
   unfolding inputOf inputRefusal
   input-fits x e =
       let a = none-refused (marksRefusal reading file marks) _ .0 (chosen-none (inputRefusal reading file marks s x) _ e) in
       none-unless _ 14 .0 (none-refused (stateRefusal reading file marks s) _ .0 (a .1) .1)
 
+  -- If the output half gives an output for y, y is within the signals.
   pub output-fits : (x y : ℕ) {z : ℕ} → outputOf reading file marks s x y .answer ≡ gives z → yGood reading file y ≡ true
   unfolding outputOf outputRefusal
   output-fits x y e =
@@ -141,9 +144,11 @@ module _ (reading : ℕ) (file marks : List ℕ) where
     none-here : entryRefusal reading file marks (stateOf t) ≡ 0
     none-here = rw (granted, ready-state reading file marks t k)
 
+    -- The input half answers its choice, or 17 if there is none.
     pub input-here : (x : ℕ) → xGood reading file x ≡ true → inputOf reading file marks (stateOf t) x ≡ chosen 0 (inputChoice p marks t x)
     input-here x f = input-answer reading file marks (stateOf t) x f ∙ rw (none-here, here)
 
+    -- The output half answers its choice, or 17 if there is none.
     pub output-here :
         (x y : ℕ) → xGood reading file x ≡ true → yGood reading file y ≡ true →
         outputOf reading file marks (stateOf t) x y ≡ outputFrom (stateOf t) (chosen 0 (outputTick p marks t x y))

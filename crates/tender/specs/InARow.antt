@@ -26,12 +26,14 @@ pumpWithValve =
     ∷ 0x00 ∷ 0x00 ∷ 0x00 ∷ 0x03 ∷ 0x01 ∷ 0x00 ∷ 0xFF
     ∷ 0x00 ∷ 0x00 ∷ 0x00 ∷ 0x00 ∷ 0x00 ∷ 0x00 ∷ 0x00 ∷ []
 
+-- The pump stays off.
 abbrev pub pumpOff : List ℕ
 pumpOff =
     0x00 ∷ 0x02 ∷ 0x50 ∷ 0x56 ∷ 0x00 ∷ 0x01 ∷ 0x00 ∷ 0x00 ∷ 0x02
     ∷ 0x00 ∷ 0x00 ∷ 0x00 ∷ 0x01 ∷ 0x01 ∷ 0x00 ∷ 0xFF
     ∷ 0x00 ∷ 0x00 ∷ 0x00 ∷ 0x00 ∷ 0x00 ∷ 0x00 ∷ 0x00 ∷ []
 
+-- The valve stays shut.
 abbrev pub valveShut : List ℕ
 valveShut =
     0x00 ∷ 0x02 ∷ 0x50 ∷ 0x56 ∷ 0x00 ∷ 0x01 ∷ 0x00 ∷ 0x00 ∷ 0x02
@@ -47,6 +49,7 @@ withPumpOff =
     ∷ 0x00 ∷ 0x00 ∷ 0x00 ∷ 0x01 ∷ 0x01 ∷ 0x00 ∷ 0xFF
     ∷ 0x00 ∷ 0x00 ∷ 0x00 ∷ 0x00 ∷ 0x00 ∷ 0x00 ∷ 0x00 ∷ []
 
+-- The pump runs only with the valve open, and the valve stays shut.
 abbrev pub withValveShut : List ℕ
 withValveShut =
     0x00 ∷ 0x02 ∷ 0x50 ∷ 0x56 ∷ 0x00 ∷ 0x01 ∷ 0x00 ∷ 0x00 ∷ 0x03
@@ -54,6 +57,7 @@ withValveShut =
     ∷ 0x00 ∷ 0x00 ∷ 0x00 ∷ 0x02 ∷ 0x02 ∷ 0x00 ∷ 0xFF
     ∷ 0x00 ∷ 0x00 ∷ 0x00 ∷ 0x00 ∷ 0x00 ∷ 0x00 ∷ 0x00 ∷ []
 
+-- These bytes are what the join makes of the two pairs.
 pub both-made : JoinMade pumpWithValve pumpOff withPumpOff × JoinMade pumpWithValve valveShut withValveShut
 unfolding the-file the-check the-bytes the-join Rules.rests
 both-made = (
@@ -99,6 +103,7 @@ annexCases reading =
     }
     ∷ []
 
+-- In each of them, what is said is what is expected, under each reading.
 pub annex-cases :
     (reading : ℕ) → readingRefusal reading ≡ 0 →
     map (λ c. said (c .reading) (c .file) (c .asked)) (annexCases reading) ≡ map (λ c. c .expected) (annexCases reading)
@@ -110,6 +115,7 @@ annex-cases =
 abbrev pub alone : (reading : ℕ) (a events : List ℕ) → List ℕ
 alone reading a events = run reading a events .out
 
+-- What B's enforcer releases of what A's released.
 abbrev pub inARow : (reading : ℕ) (a b events : List ℕ) → List ℕ
 inARow reading a b events = alone reading b (alone reading a events)
 
@@ -121,6 +127,7 @@ pub record PumpAlone (reading : ℕ) : Type 0 where
   pub then-valve-shut : inARow reading pumpWithValve valveShut (0x10 ∷ []) ≡ 0x10 ∷ []
   pub joined-valve-shut : alone reading withValveShut (0x10 ∷ []) ≡ 0x00 ∷ []
 
+-- All of `PumpAlone` holds, under each reading.
 pub pump-alone : (reading : ℕ) → readingRefusal reading ≡ 0 → PumpAlone reading
 unfolding the-file the-check a-step the-marks the-run
 pump-alone =

@@ -1,4 +1,5 @@
 -- Sentences of 01 and 02 that the crates below state of an entry, said of its function in C: over the call and its word.
+-- In order: prepare's word and its marks; refusals that leave all as it was; the index, and 28; why; waves; milliseconds to ticks.
 use mathlib.Core.Path.{_≡_, refl, sym, ap, subst, _∙_}
 use mathlib.Core.Bool.{Bool, true, false, cond}
 use mathlib.Core.List.{List, _++_}
@@ -68,9 +69,11 @@ module _ {reading : ℕ} {file before marks : List ℕ} {v : ℕ} (h : PrepareCa
 
   -- "one mark for each state, 1 live and 0 not": of a file that passes its checks and with a slice that is long enough, with refusal 11 too.
   module _ (passed : refusalUnder reading file ≡ 0) (long : states (policyOf reading file) ≤ length before) {n : ℕ} (l : n < states (policyOf reading file)) where
+    -- A mark is 1 exactly if its state is live.
     pub c-live : (getD marks n 0 ≡ 1) ↔ Live (policyOf reading file) (placeOf (policyOf reading file) n)
     c-live = prepare-live (c-prepare h) passed long l
 
+    -- A mark is 0 exactly if its state is dead.
     pub c-dead : (getD marks n 0 ≡ 0) ↔ Dead (policyOf reading file) (placeOf (policyOf reading file) n)
     c-dead = prepare-dead (c-prepare h) passed long l
 
@@ -81,6 +84,7 @@ pub c-output-stays :
 c-output-stays {reading} {file} {marks} {state} {x = x} {y} h some =
     h .next ∙ output-stays reading file marks state x y (λ z. some (ap (λ (n : ℕ). n % 256) (h .said) ∙ z))
 
+-- A run that is refused by another number than 17 leaves the state and the slice as they were.
 pub c-run-stays :
     {reading : ℕ} {file marks state events before after written : List ℕ} {r : ℕ} → RunCall reading file marks state events before r after written →
     ¬ (r % 256 ≡ 0) → ¬ (r % 256 ≡ 17) → (after ≡ state) × (written ≡ before)
@@ -95,11 +99,13 @@ unfolding builtIndex
 code-index {file} {before} h =
     ap (take 128) (h .writes ∙ ap (writtenOver file before) (sym (h .refuses))) ∙ take-at (indexOf file) (drop 128 before) 128 (index-length file)
 
+-- What groovepawn_index wrote without a refusal is the file's index.
 pub c-index : {file before after : List ℕ} → IndexCall file before 0 after → take 128 after ≡ indexOf file
 c-index h = code-index (record { refuses = h .said; writes = h .index })
 
 -- "With it the halves give the same answers as the present ones for every input": with the index that was built they keep the promises of the present halves,
 module _ {file before after : List ℕ} (built : BuildPromise file before 0 after) where
+  -- The input half's two promises, with that index and without one, are the same.
   pub code-input-indexed :
       (reading : ℕ) (marks : List ℕ) (s : State) (x : ℕ) (r : HalfAnswer) →
       InputIndexedPromise reading file (take 128 after) marks s x r ↔ InputPromise reading file marks s x r
@@ -107,6 +113,7 @@ module _ {file before after : List ℕ} (built : BuildPromise file before 0 afte
       subst (λ (index : List ℕ). InputIndexedPromise reading file index marks s x r ↔ InputPromise reading file marks s x r) (sym (code-index built))
       (input-alike reading file marks s x r)
 
+  -- The output half's two promises, with that index and without one, are the same.
   pub code-output-indexed :
       (reading : ℕ) (marks : List ℕ) (s : State) (x y : ℕ) (r : Output) →
       OutputIndexedPromise reading file (take 128 after) marks s x y r ↔ OutputPromise reading file marks s x y r
@@ -116,10 +123,12 @@ module _ {file before after : List ℕ} (built : BuildPromise file before 0 afte
 
 -- and the calls are those of groovepawn_input and groovepawn_output: what is said of these holds of them.
 module _ {file before after : List ℕ} (built : IndexCall file before 0 after) where
+  -- A call of groovepawn_input_indexed with that index is one of groovepawn_input.
   pub c-input-indexed :
       {reading : ℕ} {marks state : List ℕ} {x r : ℕ} → InputIndexedCall reading file (take 128 after) marks state x r → InputCall reading file marks state x r
   c-input-indexed {reading} {marks} {state} {x} h = record { said = h .said ∙ input-call-same reading file (take 128 after) marks state (c-index built) x }
 
+  -- A call of groovepawn_output_indexed with that index is one of groovepawn_output.
   pub c-output-indexed :
       {reading : ℕ} {marks state next : List ℕ} {x y r : ℕ} → OutputIndexedCall reading file (take 128 after) marks state x y r next →
       OutputCall reading file marks state x y r next
@@ -128,6 +137,7 @@ module _ {file before after : List ℕ} (built : IndexCall file before 0 after) 
 
 -- "Any other index is refused": 28 exactly if the check passes and the numbers are not the file's index; of the code,
 module _ {reading : ℕ} {file index marks : List ℕ} {s : State} {x : ℕ} where
+  -- With an index, the code's input half gives 28 exactly if the file passes and the index is not the file's.
   pub code-input-28 :
       {r : HalfAnswer} → InputIndexedPromise reading file index marks s x r →
       (r ≡ Half.Refused 28) ↔ ((refusalUnder reading file ≡ 0) × (¬ (index ≡ indexOf file)))
@@ -135,6 +145,7 @@ module _ {reading : ℕ} {file index marks : List ℕ} {s : State} {x : ℕ} whe
       let k = input-28 reading file index marks s x in
       (λ e. k .0 (sym (h .said) ∙ ap answerSaid e), λ e. answer-one r (Half.Refused 28) (h .said ∙ k .1 e))
 
+  -- With an index, the code's output half gives 28 exactly if the file passes and the index is not the file's.
   pub code-output-28 :
       {y : ℕ} {r : Output} → OutputIndexedPromise reading file index marks s x y r →
       (r .answer ≡ Half.Refused 28) ↔ ((refusalUnder reading file ≡ 0) × (¬ (index ≡ indexOf file)))
@@ -166,11 +177,13 @@ module _ (reading : ℕ) (file index marks state : List ℕ) where
       let w = word-refused r 27 in
       (λ z. odd-28 .0 (refused-same (sym e ∙ w .1 z)), λ z. w .0 (e ∙ ap refused (odd-28 .1 z)))
 
+  -- groovepawn_input_indexed gives 28 exactly if the file passes and the index is not the file's.
   pub c-input-28 : {x r : ℕ} → InputIndexedCall reading file index marks state x r → (r % 256 ≡ 28) ↔ Wrong
   c-input-28 {x} {r} h =
       by-state (isState state) r (ap answerIn (h .said) ∙ input-indexed-fields reading file index marks state x)
       (input-28 reading file index marks (stateIn state) x)
 
+  -- groovepawn_output_indexed gives 28 exactly if the file passes and the index is not the file's.
   pub c-output-28 : {x y r : ℕ} {after : List ℕ} → OutputIndexedCall reading file index marks state x y r after → (r % 256 ≡ 28) ↔ Wrong
   c-output-28 {x} {y} {r} h =
       by-state (isState state) r (ap answerIn (h .said) ∙ output-indexed-fields reading file index marks state x y)
@@ -208,6 +221,7 @@ c-written-reads {file} {events} {before} {after} {r = r} {q} w z t long =
     let k = written-reads (subst (λ (a : Written). WritePromise file events before a after) e (c-wave-write w)) (c-wave-read t) long in
     let g = taken-given q (k .0) in (g .0, g .1, k .1)
 
+-- What groovepawn_wave_read took, groovepawn_wave_write writes as the same text.
 pub c-read-writes :
     {file text out later before after : List ℕ} {q r : ℕ} → WaveReadCall file text out q later → q % 256 ≡ 0 →
     WaveWriteCall file (take (q / 256) later) before r after → length text ≤ length before →
@@ -222,14 +236,17 @@ module _ {time tick up r : ℕ} (h : TicksCall time tick up r) where
   says : answerIn r ≡ ticksOf time tick (isUp up)
   says = ap answerIn (h .said) ∙ ticks-fields time tick up
 
+  -- Without a refusal, the word holds at most 1,000 ticks, within one tick length of the time on the side asked for.
   pub c-within : r % 256 ≡ 0 → Within time tick (isUp up) (r / 256) × (r / 256 ≤ 1000)
   c-within z = let e : answerIn r ≡ gives (r / 256) = rw z in exactly-given time tick (isUp up) (r / 256) .0 (sym says ∙ e)
 
+  -- 18 exactly if the tick length is 0.
   pub c-18 : (r % 256 ≡ 18) ↔ (tick ≡ 0)
   c-18 =
       let k = word-refused r 17 in
       let d = exactly-18 time tick (isUp up) in (λ e. d .0 (sym says ∙ k .1 e), λ e. k .0 (says ∙ d .1 e))
 
+  -- 19 exactly if the tick length is not 0 and there would be more than 1,000 ticks.
   pub c-19 : (r % 256 ≡ 19) ↔ ((0 < tick) × (1000 < rounded time tick (isUp up)))
   c-19 =
       let k = word-refused r 18 in

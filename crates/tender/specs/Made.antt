@@ -1,4 +1,5 @@
 -- The laws of demand 3 are not empty: joins are made.
+-- In order: what nothing refuses is made; A with the policy that permits all, for every A that passes the check; three policies, grouped either way.
 use mathlib.Core.Path.{_≡_, refl, sym, subst}
 use mathlib.Core.Bool.{Bool, true, false, cond}
 use mathlib.Core.List.{List, [], _∷_}
@@ -165,6 +166,7 @@ module _ (a : List ℕ) (passed : refusalOf a ≡ 0) where
         room = room;
       }
 
+  -- A with the policy that permits all is made, in every slice that holds the joined file.
   pub unit-made : (out : List ℕ) → length (joinedFile a (permitsAll a) out) ≤ length out → JoinMade a (permitsAll a) (joinedFile a (permitsAll a) out)
   unit-made out room = made-of a (permitsAll a) out (unit-unrefused out room)
 
@@ -188,12 +190,15 @@ module _ (a : List ℕ) (passed : refusalOf a ≡ 0) where
 abbrev joinedIn : (size : ℕ) (a b : List ℕ) → List ℕ
 joinedIn size a b = take size (joinedOut a b (replicate size 0))
 
+-- K with the credit always off.
 abbrev pub left : List ℕ
 left = joinedIn 54 K alwaysOff
 
+-- The credit always off, with K.
 abbrev pub right : List ℕ
 right = joinedIn 54 alwaysOff K
 
+-- Both ways of joining the three are made.
 pub three-made :
     JoinMade K alwaysOff left × JoinMade left K (joinedIn 132 left K) × JoinMade alwaysOff K right × JoinMade K right (joinedIn 132 K right)
 unfolding the-file the-check the-bytes the-join Rules.rests

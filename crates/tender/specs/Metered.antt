@@ -98,6 +98,7 @@ c-meter-ticks {reading} {file} {marks} (c-meter-more {station = station} {totals
     (subst (λ (a : HalfAnswer). MeterOutputPromise reading file marks station totals (t .register) (r .x) (t .y) a next risen) (word-half (r .y)) (c-meter-output o))
     (c-meter-ticks more)
 
+-- After groovepawn_prepare and groovepawn_meter_new refused nothing: demand 2's stream, and the state that it leads to.
 pub c-meter-release :
     {reading : ℕ} {file lent marks : List ℕ} {v : ℕ} → PrepareCall reading file lent v marks → v % 256 ≡ 0 →
     {before totals fresh zeros : List ℕ} {register : ℕ} → MeterNewCall before totals register 0 fresh zeros →
@@ -160,6 +161,7 @@ code-refused-stays {reading} {file} {marks} {station} {totals} {register = regis
     let k = refused-stays reading file marks station totals register x y (ap (λ (a : MeterAnswer). a .answer) (sym (h .said))) in
     (ap (λ (a : MeterAnswer). a .station) (h .said) ∙ k .0, ap (λ (a : MeterAnswer). a .totals) (h .said) ∙ k .1)
 
+-- A tick that groovepawn_meter_output refuses changes no total, last reading or state.
 pub c-refused-stays :
     {reading : ℕ} {file marks station totals next sums : List ℕ} {register x y r : ℕ} →
     MeterOutputCall reading file marks station totals register x y r next sums → ¬ (r % 256 ≡ 0) → (next ≡ station) × (sums ≡ totals)
@@ -183,12 +185,15 @@ module _ {reading : ℕ} {file marks before totals first zeros : List ℕ} (c : 
   abbrev c-start : Meter
   c-start = fresh before totals (sym (new .said)) c
 
+  -- In C, the two totals together are the register's advance, with fewer than 65,536 pulses between accepted readings.
   pub c-advance : Fewer reading file marks c-start c ts → billed sums + unbilled sums ≡ lastAccepted reading file marks c-start c ts - c
   c-advance = code-advance c (c-meter-new new) (c-turns turns)
 
+  -- Without that, the same modulo 65,536.
   pub c-round : (billed sums + unbilled sums + c) % 65536 ≡ lastAccepted reading file marks c-start c ts % 65536
   c-round = code-round c (c-meter-new new) (c-turns turns)
 
+-- In C, no total ever falls, from any station and totals on.
 pub c-never-falls :
     {reading : ℕ} {file marks station totals last sums : List ℕ} {ts : List Turn} → CTurns reading file marks station totals ts last sums →
     (billed totals ≤ billed sums) × (unbilled totals ≤ unbilled sums)

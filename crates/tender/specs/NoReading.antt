@@ -132,6 +132,7 @@ module _ (reading : ℕ) (not-one : ¬ (reading ≡ 1)) (not-two : ¬ (reading �
   unfolding whyRunRefusal
   why-run-22 file marks s events words work = rw (early-22 file marks s events words work)
 
+  -- Each entry that takes a reading answers 22 where it is neither 1 nor 2, and writes and moves nothing.
   pub entries-22 : Entries22 reading
   entries-22 =
       record {
@@ -238,6 +239,7 @@ module _ (reading : ℕ) (not-one : ¬ (reading ≡ 1)) (not-two : ¬ (reading �
     why-run-left-22 : left ≡ room
     why-run-left-22 = h .scratch (λ t e. omega (arith, early-22 file marks (stateIn state) events before (shortestOf room)))
 
+  -- So does each function in C that takes one.
   pub calls-22 : Calls22 reading
   unfolding prepareWord cleanWord
   calls-22 =

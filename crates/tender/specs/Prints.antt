@@ -193,6 +193,7 @@ printed-eleven input = (
 
 -- What the code of `console::respond` wrote into the text: its first r bytes.
 module _ (input : List ℕ) {before after : List ℕ} {r : ℕ} (k : Replied before (printed input) r after) (framed : policyFrameRefusal input ≡ 0) where
+  -- With events that are all there and within the signals, they are the lines of exactly demand 2's stream.
   pub respond-releases :
       (s : Summary) → prepareOf 1 (policyPart input) (lent 65536) ≡ gives s →
       eventsFrameRefusal input ≡ 0 → allPass (eventGood 1 (policyPart input)) (eventsPart input) ≡ true →
@@ -200,5 +201,6 @@ module _ (input : List ℕ) {before after : List ℕ} {r : ℕ} (k : Replied bef
       take r after ≡ summaryLines s (eventsPart input) (map byteOf rs)
   respond-releases s e b good rs h = replied-front k ∙ printed-releases input framed s e b good rs h
 
+  -- Of a policy that passes its own checks, they are `refused 11` exactly if it is hopeless.
   pub respond-hopeless : refusalOf (policyPart input) ≡ 0 → (take r after ≡ refusedLine 11) ↔ Hopeless (Permits (policyOf 1 (policyPart input)))
   respond-hopeless passed = rw (replied-front k) (printed-hopeless input framed passed)

@@ -49,6 +49,7 @@ turns first second =
     ∷ 0x00 ∷ 0x00 ∷ 0x00 ∷ 0x00 ∷ 0x00 ∷ 0x00 ∷ 0x01
     ∷ 0x01 ∷ 0x00 ∷ 0x00 ∷ 0x00 ∷ 0x00 ∷ 0x00 ∷ 0x00 ∷ []
 
+-- What is asked of these policies, and what is to be said.
 unfoldable pub restCases : List Case
 restCases =
     -- A transfer that can be ended is let in, and its end too.
@@ -69,6 +70,7 @@ restCases =
     ∷ record { reading = 1; file = alone 2; asked = prepared; expected = refusal 5 (99 ∷ []) }
     ∷ []
 
+-- In each case, what is said is what is expected.
 pub rest-cases : map (λ c. said (c .reading) (c .file) (c .asked)) restCases ≡ map (λ c. c .expected) restCases
 unfolding the-file the-check a-step the-marks the-run restCases
 rest-cases = refl

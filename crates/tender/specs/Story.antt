@@ -32,6 +32,7 @@ unfoldable pub sum : List ℕ → ℕ
 sum [] = 0
 sum (d ∷ ds) = d + sum ds
 
+-- In each tick there are some pulses, and fewer than 65,536.
 unfoldable pub Flows : List ℕ → Type 0
 Flows [] = Unit {0}
 Flows (d ∷ ds) = (0 < d) × (d < 65536) × Flows ds
@@ -41,6 +42,7 @@ unfoldable pub transferReads : ℕ → List ℕ → List Read
 transferReads c [] = []
 transferReads c (d ∷ ds) = record { register = (c + d) % 65536; x = 0; y = 1 } ∷ transferReads (c + d) ds
 
+-- A quiet tick: the register stays at the count c, and the controller asks for nothing.
 abbrev pub quiet : ℕ → Read
 quiet c = record { register = c % 65536; x = 0; y = 0 }
 
@@ -137,6 +139,7 @@ module _ {reading : ℕ} {lent marks : List ℕ} {s : Summary} (h : PreparePromi
   unfolding newTotals
   cleared = new .cleared ∙ rw set-up
 
+  -- The story holds of every such transfer, with three quiet ticks or more after it.
   pub story : (ds : List ℕ) → Flows ds → sum ds ≤ 4294967295 → (n : ℕ) → 3 ≤ n → Story reading marks fresh zeros c ds n
   story ds f l n k =
       let reads = transferReads c ds ++ (replicate n (quiet (c + sum ds)) ++ (credit (c + sum ds) ∷ [])) in
@@ -161,6 +164,7 @@ unfolding Flows
 same-flow zero d p l = tt
 same-flow (suc n) d p l = (p, l, same-flow n d p l)
 
+-- A hundred ticks of 1,000 pulses are a transfer, of 100,000 pulses.
 pub a-long-transfer : Flows (replicate 100 1000) × (sum (replicate 100 1000) ≡ 100000)
 unfolding sum
 a-long-transfer = (same-flow 100 1000 (omega arith) (omega arith), refl)

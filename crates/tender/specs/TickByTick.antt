@@ -105,6 +105,7 @@ module _ {reading : ℕ} {file lent marks : List ℕ} {s : Summary} (h : Prepare
   goes = given-goes-on reading file lent s given
 
   module _ {es rs : Stream} {t : State} (ticks : TickByTick reading file marks startState es rs t) where
+    -- From the start, what the halves released is demand 2's stream, and the state they left is the one that it leads to.
     pub ticks-release : TicksReleased (policyOf reading file) es rs t
     ticks-release =
         let p = policyOf reading file in

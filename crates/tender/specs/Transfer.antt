@@ -1,4 +1,5 @@
 -- The policy of a transfer with a meter: "credit K only while the clock is at most 2", where a pulse of the meter starts the clock anew; and the ticks of a station with it.
+-- In order: the policy and its four states; its ticks by where the clock is; the ticks of a station, quiet or with pulses.
 use mathlib.Core.Path.{_≡_, refl, sym, ap, ap₂, subst, _∙_}
 use mathlib.Core.Bool.{true, false}
 use mathlib.Core.List.{List, [], _∷_, _++_}
@@ -56,6 +57,7 @@ Chosen reading v x y y' v' =
     × (inputChoice p (live rest) (placeIn p (stateOf (clockAt v))) x ≡ some x)
     × (outputTick p (live rest) (placeIn p (stateOf (clockAt v))) x y ≡ some (record { event = record { x = x; y = y' }; place = clockAt v' }))
 
+-- What the two halves answer in such a tick, with all four states marked: x, then y', and the clock at v'.
 pub record StoryGoes (reading v x y y' v' : ℕ) : Type 0 where
   input : (rest : List ℕ) → inputOf reading Transfer (live rest) (stateOf (clockAt v)) x ≡ gives x
   output : (rest : List ℕ) →
@@ -70,10 +72,12 @@ module _ (reading : ℕ) (named : readingRefusal reading ≡ 0) where
   passed : refusalUnder reading Transfer ≡ 0
   passed = under-none reading Transfer .1 (named, Transfer-passes)
 
+  -- The marks of the policy are four ones: all its states are live.
   pub all-live : marksOf (policyOf reading Transfer) ≡ live []
   unfolding marks-of
   all-live = each-reading (λ r. marksOf (policyOf r Transfer) ≡ live []) refl refl reading named
 
+  -- There are four states.
   pub four : states (policyOf reading Transfer) ≡ 4
   unfolding marks-of
   four = refl
@@ -102,14 +106,17 @@ module _ (reading : ℕ) (named : readingRefusal reading ≡ 0) where
   unfolding marks-of
   quiet-0 = goes 0 0 0 0 1 (each-reading (λ r. Chosen r 0 0 0 0 1) (λ rest. (refl, refl, refl, refl, refl, refl)) (λ rest. (refl, refl, refl, refl, refl, refl)) reading named)
 
+  -- from the clock at 1 to 2,
   pub quiet-1 : StoryGoes reading 1 0 0 0 2
   unfolding marks-of
   quiet-1 = goes 1 0 0 0 2 (each-reading (λ r. Chosen r 1 0 0 0 2) (λ rest. (refl, refl, refl, refl, refl, refl)) (λ rest. (refl, refl, refl, refl, refl, refl)) reading named)
 
+  -- from the clock at 2 to 3,
   pub quiet-2 : StoryGoes reading 2 0 0 0 3
   unfolding marks-of
   quiet-2 = goes 2 0 0 0 3 (each-reading (λ r. Chosen r 2 0 0 0 3) (λ rest. (refl, refl, refl, refl, refl, refl)) (λ rest. (refl, refl, refl, refl, refl, refl)) reading named)
 
+  -- from the clock at 3, where it stays,
   pub quiet-3 : StoryGoes reading 3 0 0 0 3
   unfolding marks-of
   quiet-3 = goes 3 0 0 0 3 (each-reading (λ r. Chosen r 3 0 0 0 3) (λ rest. (refl, refl, refl, refl, refl, refl)) (λ rest. (refl, refl, refl, refl, refl, refl)) reading named)
@@ -145,6 +152,7 @@ has-P z = let w = weight-P in omega arith
 has-D : outputWeight Transfer tagD ≡ 0 → ⊥
 has-D z = let w = weight-D in omega arith
 
+-- The event with input x and output y.
 abbrev pub event : ℕ → ℕ → Event
 event x y = record { x = x; y = y }
 

@@ -36,16 +36,20 @@ SomeLengthNone permits w = (n : ℕ) × ((v : Stream) → length v ≡ n → per
 
 -- Demand 2's release by those words: `Enforced`, with `EveryLength` in place of `GoesOn`.
 module _ (permits : Stream → Type 0) (inputs outputs : ℕ) where
+  -- An output that may stand: after it there are permitted streams of every length.
   abbrev pub MayOut01 : Stream → ℕ → ℕ → Type 0
   MayOut01 w x y = (y < 2 ^ outputs) × EveryLength permits (then w x y)
 
+  -- An input that may stand: with it some output may.
   abbrev pub MayIn01 : Stream → ℕ → Type 0
   MayIn01 w x = (x < 2 ^ inputs) × ((y : ℕ) × MayOut01 w x y)
 
+  -- After the released stream w: the input is fixed first, then the output, each the nearest that may stand.
   pub record TickByLengths (w : Stream) (read released : Event) : Type 0 where
     pub input : Nearest corrections (MayIn01 w) (read .x) (released .x)
     pub output : Nearest corrections (MayOut01 w (released .x)) (read .y) (released .y)
 
+  -- One event is released for each one read, after w was released.
   pub data EnforcedByLengths : Stream → List Event → List Event → Type 0 where
     done : {w : Stream} → EnforcedByLengths w [] []
     tick : {w : Stream} {e r : Event} {es rs : List Event} →
@@ -98,6 +102,7 @@ module _ (p : Policy) (zero : AllZero p) where
   pub live-unchanged : (s : Place) → Live p s ↔ EveryLength (Runs p s) []
   live-unchanged s = goes-on-lengths (from p s) (closed p s) (always s) []
 
+  -- A state is dead exactly if some length has no permitted stream from it.
   pub dead-unchanged : (s : Place) → Dead p s ↔ SomeLengthNone (Runs p s) []
   dead-unchanged s = ends-lengths (from p s) (closed p s) (always s) []
 

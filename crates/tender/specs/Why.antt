@@ -21,6 +21,7 @@ use Rattle.prepare.specs.Computing.{the-file, the-check, a-step, the-marks}
 abbrev pub state : ℕ → ℕ → State
 state location v = record { location = location; clocks = v ∷ 0 ∷ 0 ∷ 0 ∷ [] }
 
+-- The answer with the reason for the input and the one for the output.
 abbrev pub tells : Reason → Reason → WhyAnswer
 tells i o = WhyAnswer.Gives (record { input = i; output = o })
 

@@ -40,6 +40,7 @@ said-given file v n l = go (prepareOf 1 file (Cases.lent (states (policyOf 1 fil
     go (refused n) e = let z : _≡_ {A = ℕ} 0 1 = cc in absurd (omega arith)
     go (gives s) e = (s, refl)
 
+-- Where a run refused nothing, what it is said to have released is what its slice holds.
 pub said-released : (n : ℕ) (out rs : List ℕ) → n ≡ 0 → Cases.saidOfRun n out ≡ Cases.released rs → out ≡ rs
 said-released zero out rs z e = cc
 said-released (suc n) out rs z e = absurd (omega arith)

@@ -26,9 +26,11 @@ decimal-turn (suc n) = rw (digits-same n (suc n / 10) (suc n / 10) (omega arith)
 pub decimal-one : (n : ℕ) → n < 10 → decimal n ≡ digit n ∷ []
 decimal-one n h = rw (decimal-turn n, lt-ltb n 10 h)
 
+-- From 10 on: the digits of the tenth part, then the last digit.
 pub decimal-more : (n : ℕ) → 10 ≤ n → decimal n ≡ decimal (n / 10) ++ (digit n ∷ [])
 decimal-more n h = rw (decimal-turn n, le-ltb n 10 h)
 
+-- From 10 on there is one digit more than in the tenth part.
 pub decimal-longer : (n : ℕ) → 10 ≤ n → length (decimal n) ≡ length (decimal (n / 10)) + 1
 decimal-longer n h = rw (decimal-more n h, length-append)
 
@@ -46,6 +48,7 @@ module _ (P : ℕ → List ℕ → Type 0) (one : (n : ℕ) → n < 10 → P n (
   by-places zero n h = by-last n (λ l. absurd (omega arith))
   by-places (suc k) n h = by-last n (λ l. by-places k (n / 10) (omega arith))
 
+  -- By these two, P holds of every number and its digits.
   pub by-digits : (n : ℕ) → P n (decimal n)
   by-digits n = by-places n n (omega arith)
 
@@ -54,6 +57,7 @@ unfoldable pub valueFrom : ℕ → List ℕ → ℕ
 valueFrom v [] = v
 valueFrom v (d ∷ ds) = valueFrom (v * 10 + (d - 48)) ds
 
+-- One digit more: ten times the value so far, plus the digit.
 pub value-more : (v : ℕ) (front : List ℕ) (d : ℕ) → valueFrom v (front ++ (d ∷ [])) ≡ valueFrom v front * 10 + (d - 48)
 unfolding valueFrom
 value-more v [] d = refl
@@ -74,6 +78,7 @@ digits-more [] n h (suc i) l = absurd (omega arith)
 digits-more (f ∷ front) n h zero l = h 0 (omega arith)
 digits-more (f ∷ front) n h (suc i) l = digits-more front n (λ j k. h (suc j) (omega arith)) i (omega arith)
 
+-- The bytes of a number are digits alone.
 pub digits-alone : (n : ℕ) → Digits (decimal n)
 digits-alone = by-digits (λ n ds. Digits ds) (λ n h. digits-more [] n (λ i l. absurd (omega arith))) (λ n front h d. digits-more front n d)
 

@@ -15,9 +15,11 @@ ascii (c before rest) = code c ∷ ascii rest
 abbrev pub digit : ℕ → ℕ
 digit n = code "0" + n % 10
 
+-- The last digit, and at most k before it.
 unfoldable pub digits : (k n : ℕ) → List ℕ
 digits zero n = digit n ∷ []
 digits (suc k) n = cond (ltb n 10) [] (digits k (n / 10)) ++ (digit n ∷ [])
 
+-- All digits of n.
 unfoldable pub decimal : ℕ → List ℕ
 decimal n = digits n n

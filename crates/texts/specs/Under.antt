@@ -14,6 +14,7 @@ pub record LinesUnder (before : List ℕ) (at : ℕ) (all : List ℕ) (next : �
   pub whole : all ≡ done ++ rest
   pub same : length now ≡ length before
 
+-- Nothing is written yet.
 pub under-start : (before : List ℕ) (at : ℕ) (all : List ℕ) → LinesUnder before at all at before all
 under-start before at all = record { done = []; wrote = wrote-none before at; whole = refl; same = refl }
 

@@ -12,6 +12,7 @@ use Rattle.texts.specs.Wrote.{Wrote}
 pub wrote-none : (before : List ℕ) (at : ℕ) → Wrote before at [] at before
 wrote-none before at = record { text = paste-zero before at []; next = sym (add-zero at) }
 
+-- A store writes one byte.
 pub wrote-byte : (before : List ℕ) (at b : ℕ) → at < length before → Wrote before at (b ∷ []) (at + 1) (set before at b)
 wrote-byte before at b h = record { text = sets-eq (b ∷ []) before at (omega arith); next = refl }
 

@@ -20,6 +20,7 @@ unfoldable pub ticksOf : ℕ → ℕ → Bool → Answer ℕ
 ticksOf time tick up =
     answer (unless (ltb 0 tick) 18 orElse unless (leb (rounded time tick up) 1000) 19) (rounded time tick up)
 
+-- Whether to round up.
 abbrev pub upwards : Rounding → Bool
 upwards Down = false
 upwards Up = true

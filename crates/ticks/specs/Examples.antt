@@ -21,6 +21,7 @@ examples =
     ∷ record { time = 100001; down = gives 1000; up = refused 19 }
     ∷ []
 
+-- The conversion gives what each example says.
 pub examples-hold :
     map (λ e. record { time = e .time; down = ticksOf (e .time) 100 false; up = ticksOf (e .time) 100 true }) examples ≡ examples
 unfolding ticksOf

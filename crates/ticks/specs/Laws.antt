@@ -25,6 +25,7 @@ module _ (time tick : ℕ) where
   pub one-more : 0 < tick → (time % tick ≡ 0 → ⊥) → time / tick + 1 ≤ time
   one-more h l = omega (arith, div-add-mod' time tick, le-mul-of-pos-right (time / tick) h)
 
+  -- What is rounded is within a tick length of the time, on the side asked for.
   pub rounded-within : (up : Bool) → 0 < tick → Within time tick up (rounded time tick up)
   rounded-within false h = (omega (arith, div-add-mod' time tick), omega (arith, div-add-mod' time tick, mod-lt time h))
   rounded-within true h = go (eqb (time % tick) 0) refl
@@ -52,14 +53,17 @@ module _ (time tick : ℕ) where
   within-length true n p = omega arith
 
 module _ (time tick : ℕ) (up : Bool) where
+  -- A tick length of 0 is refused by 18.
   pub no-length : tick ≡ 0 → ticksOf time tick up ≡ refused 18
   unfolding ticksOf
   no-length e = simp (le-ltb 0 tick (omega arith))
 
+  -- More than 1,000 ticks are refused by 19.
   pub too-many : 0 < tick → 1000 < rounded time tick up → ticksOf time tick up ≡ refused 19
   unfolding ticksOf
   too-many h l = simp (lt-ltb 0 tick h, lt-leb (rounded time tick up) 1000 l)
 
+  -- Up to 1,000 ticks are given.
   pub given : 0 < tick → rounded time tick up ≤ 1000 → ticksOf time tick up ≡ gives (rounded time tick up)
   unfolding ticksOf
   given h l = simp (lt-ltb 0 tick h, le-leb (rounded time tick up) 1000 l)

@@ -22,14 +22,17 @@ pub record Begins (text front : List ℕ) (r : Bool) : Type 0 where
   pub yes : r ≡ true → text ≡ front ++ drop (length front) text
   pub no : r ≡ false → (rest : List ℕ) → text ≡ front ++ rest → ⊥
 
+-- A text that is shorter than the front does not begin with it.
 pub begins-short : {text front : List ℕ} → length text < length front → Begins text front false
 begins-short {text} {front} h =
     record { yes = λ e. absurd (false≢true e); no = λ e rest q. omega (arith, ap length q, length-append front rest) }
 
+-- A text that differs from the front at some position does not begin with it.
 pub begins-other : {text front : List ℕ} (i : ℕ) → i < length front → (getD text i 0 ≡ getD front i 0 → ⊥) → Begins text front false
 begins-other {text} {front} i h d =
     record { yes = λ e. absurd (false≢true e); no = λ e rest q. d (ap (λ (z : List ℕ). getD z i 0) q ∙ List·getD-append front rest 0 i h) }
 
+-- A text that agrees with the front at every position begins with it.
 pub begins-all : {text front : List ℕ} (i : ℕ) → length front ≤ length text → length front ≤ i → ((k : ℕ) → k < i → getD text k 0 ≡ getD front k 0) → Begins text front true
 begins-all {text} {front} i h l s =
     let n = length-take-le (length front) text h in
@@ -75,6 +78,7 @@ module _ (inputs outputs : List ℕ) where
           b ∙ ap (λ (z : List ℕ). sets z count (replicate (n - count) event)) a ∙ sym (sets-append before 1 s (replicate (n - count) event) ∙ rw l),
         )
 
+    -- At a change: the same event is stored up to its time, and then the new one.
     pub stored-changes : (n e : ℕ) (before now filled : List ℕ) → count ≤ n → now ≡ sets before 1 s → filled ≡ sets now count (replicate (n - count) event) →
         set filled n e ≡ sets before 1 (s ++ (replicate (n - count) event ++ e ∷ []))
     stored-changes n e before now filled h a b =
@@ -105,6 +109,7 @@ module _ (inputs outputs : List ℕ) where
     found-none text before after d [] a h q = d [] (q ∙ text-none inputs outputs ∙ sym (append-nil (opening inputs outputs)))
     found-none text before after d (e ∷ z) a h q = d (body inputs outputs e z) (q ∙ text-some inputs outputs e z)
 
+    -- The text is the opening: it is that of the stream without events.
     pub found-empty : (text before : List ℕ) → text ≡ opening inputs outputs → FoundStream text before (Events 0) before
     unfolding AllFit
     found-empty text before q = ([], q ∙ sym (text-none inputs outputs), tt, refl, omega arith, refl)
@@ -117,6 +122,7 @@ module _ (inputs outputs : List ℕ) where
     no-text text rest q d b (e ∷ z) a h w =
         b e z (a .0) (a .1) (omega arith) (append-cancel-left (opening inputs outputs) rest (body inputs outputs e z) (sym q ∙ w ∙ text-some inputs outputs e z))
 
+    -- More follows the opening: what is found there decides.
     pub found-body : (text rest before after : List ℕ) (r : StreamRead) → text ≡ opening inputs outputs ++ rest → (rest ≡ [] → ⊥) → BodyFound rest before r after →
         FoundStream text before r after
     unfolding AllFit

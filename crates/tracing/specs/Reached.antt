@@ -34,6 +34,7 @@ module _ (inputs outputs : List ℕ) where
     pub fits : AllFit inputs outputs s
     pub last : EventFits inputs outputs event
 
+  -- Before the first step all later lines are left, and the event of time 0 is the last one.
   pub reached-start : (whole : List ℕ) (first : ℕ) → EventFits inputs outputs first → ReadSoFar whole first whole 1 first []
   unfolding AllFit
   reached-start whole first f =
@@ -73,6 +74,7 @@ module _ (inputs outputs : List ℕ) where
       pub few : n ≤ 16384
       pub from : count ≤ n
 
+    -- A closing time that is read ends the stream: up to it the last event stays the same.
     pub reached-closes : (n : ℕ) → stepIn inputs outputs count event rest ≡ closes n → ClosedAt n
     reached-closes n q =
         let w = subst (Says inputs outputs g count event rest) q (step-says inputs outputs g count event rest (r .last)) in

@@ -20,14 +20,17 @@ module _ (front rest : List ℕ) where
       let n = length-append front rest in
       rw (lt-leb (length (front ++ rest)) 65536 (omega arith), lt-leb (length front) 65536 (omega arith))
 
+  -- `compile` writes the same for a text and for a front of it of at least 65,537 bytes.
   pub written-front : 65537 ≤ length front → written (front ++ rest) ≡ written front
   unfolding written
   written-front h = ap fileOf (compiled-front h)
 
+  -- `compile` prints the same for both.
   pub printed-front : 65537 ≤ length front → printed (front ++ rest) ≡ printed front
   unfolding printed
   printed-front h = ap lineOf (compiled-front h)
 
+  -- `show` prints the same for a file and for a front of it of at least 5,975 bytes.
   pub shown-front : 5975 ≤ length front → shown (front ++ rest) ≡ shown front
   unfolding shown
   shown-front h = rw (refusal-front front rest h) (go (refusalOf front) refl)

@@ -20,10 +20,12 @@ compiledLine n = ascii "compiled " ++ decimal n ++ ascii " bytes\n"
 unfoldable pub compiled : List ℕ → FromText (List ℕ)
 compiled text = cond (leb (length text) 65536) (fileFromText text) (stops 33 0)
 
+-- What is written: the file, or nothing.
 abbrev pub fileOf : FromText (List ℕ) → List ℕ
 fileOf (stops n line) = []
 fileOf (reads f) = f
 
+-- What is printed: how long the file is, or the refusal and its line.
 abbrev pub lineOf : FromText (List ℕ) → List ℕ
 lineOf (stops n line) = stoppedLine n line
 lineOf (reads f) = compiledLine (length f)

@@ -63,6 +63,7 @@ module _ (text : List ℕ) where
   unfolding written printed
   without n line e h = record { number = n; line = line; some = h; said = e; writes = ap fileOf e; prints = ap lineOf e }
 
+  -- Every text is compiled or refused.
   pub told : Compiles text ⊎ Refuses text
   unfolding compiled
   told = go (leb (length text) 65536) refl

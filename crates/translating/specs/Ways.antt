@@ -52,6 +52,7 @@ module _ (text : List ℕ) where
     says : (r ≡ answered (fileFromText text)) × (after ≡ filled out (fileFromText text))
     says = (k .says ∙ ap answered roomy, k .writes ∙ ap (filled out) roomy)
 
+    -- The reader refuses: nothing is written, and the refusal and its line are printed.
     pub stopped-way : (r .refusal ≡ 0 → ⊥) → (written text ≡ []) × (printed text ≡ stoppedLine (r .refusal) (r .line)) × (after ≡ out)
     unfolding written printed
     stopped-way h = rw is-read (go (fileFromText text) (says .0) (says .1))
@@ -61,6 +62,7 @@ module _ (text : List ℕ) where
         go (stops n line) e w = (refl, sym (ap (λ (x : ReadText). stoppedLine (x .refusal) (x .line)) e), w)
         go (reads f) e w = absurd (h (ap (λ (x : ReadText). x .refusal) e))
 
+    -- The reader does not: the file is written, and its length is printed.
     pub read-way : r .refusal ≡ 0 → Wrote out 0 (written text) (r .length) after × (printed text ≡ compiledLine (r .length))
     unfolding written printed
     read-way z = rw is-read (go (fileFromText text) refl (says .0) (says .1))
@@ -82,6 +84,7 @@ module _ (file out : List ℕ) (room : length out ≡ 39420) {r : Written} {afte
       go zero e = rw (le-leb (length (textOfFile file)) (length out) (omega (arith, written-at-most file e)))
       go (suc n) e = refl
 
+  -- The writer refuses: the line of the refusal is printed.
   pub refused-way : (r .refusal ≡ 0 → ⊥) → (shown file ≡ refusedLine (r .refusal)) × (after ≡ out)
   unfolding shown
   refused-way h = go (refusalOf file) (k .refuses ∙ text-fits) (k .writes ∙ ap (writtenOver (textOfFile file) out) text-fits)
@@ -90,6 +93,7 @@ module _ (file out : List ℕ) (room : length out ≡ 39420) {r : Written} {afte
       go zero e w = absurd (h e)
       go (suc n) e w = (ap refusedLine (sym e), w)
 
+  -- The writer does not: the text that it wrote is printed.
   pub shown-way : r .refusal ≡ 0 → Wrote out 0 (shown file) (r .length) after
   unfolding shown
   shown-way z =

@@ -41,6 +41,7 @@ pub record Meant (p : Policy) (L U : List Bool) : Type 0 where
 abbrev pub renumbered : List Bool → ℕ → ℕ
 renumbered L t = cond (eqb t 255) 255 (rank L t)
 
+-- A rule with the new numbers of its source and target.
 abbrev pub renamed : List Bool → Rule → Rule
 renamed L r =
     record {

@@ -10,6 +10,7 @@ use lib.ListN.{length, getD}
 abbrev pub flag : List Bool → ℕ → Bool
 flag L i = getD L i false
 
+-- The element at i, if there is one.
 abbrev pub nth : {A : Type 0} → List A → ℕ → Option A
 nth [] i = none
 nth (x ∷ xs) zero = some x
@@ -22,6 +23,7 @@ sift (b ∷ L) [] = []
 sift (true ∷ L) (x ∷ xs) = x ∷ sift L xs
 sift (false ∷ L) (x ∷ xs) = sift L xs
 
+-- One more if the flag is set.
 abbrev pub count : Bool → ℕ → ℕ
 count true n = suc n
 count false n = n

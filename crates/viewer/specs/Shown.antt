@@ -11,6 +11,7 @@ use Rattle.drawing.specs.Entry.{textOf, writeRefusal}
 unfoldable pub fileOrLine : (policy released : List ℕ) → List ℕ
 fileOrLine policy released = unlessRefused (writeRefusal policy released (lent 508119)) (textOf policy released)
 
+-- All that `wave` writes.
 unfoldable pub shown : (reading : ℕ) (input : List ℕ) → List ℕ
 shown reading input =
     lineOr (outcome reading input) (λ s. fileOrLine (policyPart input) (ranUnder reading (policyPart input) (eventsPart input) .out))

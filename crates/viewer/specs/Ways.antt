@@ -33,6 +33,7 @@ module _ (file released before : List ℕ) (room : length before ≡ 508119) whe
       let k = given-only (writeRefusal file released before) (length (textOf file released)) n (sym (w .answers)) in
       rw (room-alike, k .0) (record { text = w .writes ∙ rw (k .0, zero-add); next = sym (k .1) ∙ sym (zero-add (length (textOf file released))) })
 
+  -- The writer refuses: the line of the refusal is written, and the slice stays as it was.
   pub file-refused : {n : ℕ} {after : List ℕ} → WritePromise file released before (Written.Refused n) after →
       (fileOrLine file released ≡ refusedLine n) × (after ≡ before)
   unfolding fileOrLine writeOf writtenOut
@@ -48,6 +49,7 @@ pub shown-refused : (reading : ℕ) (input : List ℕ) {n : ℕ} → refused n �
 unfolding shown
 shown-refused reading input e = rw (← e)
 
+-- What is written where nothing is refused: the file of the policy and the released events.
 pub shown-file : {reading : ℕ} {input : List ℕ} {s : Summary} {marks released file events : List ℕ} → Enforces reading input s marks released →
     file ≡ policyPart input → events ≡ eventsPart input → shown reading input ≡ fileOrLine file (take (length events) released)
 unfolding shown

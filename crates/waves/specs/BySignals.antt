@@ -28,20 +28,24 @@ use Rattle.tracing.specs.declared.stream.StreamRead.{StreamRead}
 use Rattle.tracing.specs.declared.stream.StreamRead.the-variants.{Nothing, Events}
 use Rattle.waves.specs.Promise.{TakePromise, WritePromise, writtenSaid}
 
+-- The event has no bit beyond so many inputs and outputs.
 abbrev pub goodFor : (inputs outputs : ℕ) → ℕ → Bool
 goodFor inputs outputs e = ltb (e % 16) (2 ^ inputs) && ltb (e / 16) (2 ^ outputs)
 
 -- The same, by the signals of a policy that passes its checks.
 module _ (inputs outputs : List ℕ) where
+  -- The refusals of the writer after the policy's own: 29, 15 and 14.
   abbrev pub refusalBy : (events out : List ℕ) → ℕ
   refusalBy events out =
       unless (leb (length events) 16384) 29 orElse unless (allPass (goodFor (length inputs) (length outputs)) events) 15
       orElse unless (leb (length (waveText inputs outputs events)) (length out)) 14
 
+  -- What the writer answers, and what its slice holds then.
   pub record WrittenBy (events before : List ℕ) (r : Written) (after : List ℕ) : Type 0 where
     pub answers : writtenSaid r ≡ answer (refusalBy events before) (length (waveText inputs outputs events))
     pub writes : after ≡ writtenOver (waveText inputs outputs events) before (refusalBy events before)
 
+  -- What the reader answers, and what its slice holds then: no stream has the text, too little room, or the events.
   pub data TakenBy (text out : List ℕ) : Taken → List ℕ → Type 0 where
     none : ((z : List ℕ) → AllFit inputs outputs z → length z ≤ 16384 → text ≡ waveText inputs outputs z → ⊥) → TakenBy text out (Taken.Refused 21) out
     short : (z : List ℕ) → text ≡ waveText inputs outputs z → AllFit inputs outputs z → length z ≤ 16384 → length out < length z →
@@ -53,18 +57,22 @@ module _ (inputs outputs : List ℕ) where
 pub past-ones : (n v r : ℕ) → r ≡ 2 ^ n - 1 → r < v → 2 ^ n ≤ v
 past-ones n v r e h = omega arith
 
+-- A number that is not above n ones is below 2 to the power n.
 pub within-ones : (n v r : ℕ) → r ≡ 2 ^ n - 1 → v ≤ r → v < 2 ^ n
 within-ones n v r e h = let p = pow-le-pow-right {n = 2} (omega arith) {i = 0} {j = n} (omega arith) in omega arith
 
 -- What the two readings find, with no room and with room, is the reader's answer.
 module _ (inputs outputs : List ℕ) (g : SignalsGood inputs outputs) (text : List ℕ) where
+  -- The first reading finds no stream: 21.
   pub taken-none : (out part after : List ℕ) → FoundStream inputs outputs text part Nothing after → TakenBy inputs outputs text out (Taken.Refused 21) out
   taken-none out part after f = none f
 
+  -- The first reading finds more events than the slice has room for: 14.
   pub taken-short : (out part after : List ℕ) (n : ℕ) → FoundStream inputs outputs text part (Events n) after → length out < n →
       TakenBy inputs outputs text out (Taken.Refused 14) out
   taken-short out part after n f h = short (f .0) (f .1) (f .2) (omega (arith, f .3, f .4)) (omega (arith, f .3))
 
+  -- The slice has room for the events: the second reading stores them.
   pub taken-all : (out part after given-out : List ℕ) (n : ℕ) (r : StreamRead) → FoundStream inputs outputs text part (Events n) after → n ≤ length out →
       FoundStream inputs outputs text out r given-out → TakenBy inputs outputs text out (Taken.Count n) given-out
   taken-all out part after given-out n Nothing f h k = absurd (k (f .0) (f .2) (omega (arith, f .3, f .4)) (f .1))
@@ -77,20 +85,24 @@ module _ (inputs outputs : List ℕ) (g : SignalsGood inputs outputs) (text : Li
 
 -- The writer, by what it finds.
 module _ (inputs outputs events before : List ℕ) where
+  -- There are more than 16,384 events: 29, and nothing is written.
   pub by-long : 16384 < length events → WrittenBy inputs outputs events before (Written.Refused 29) before
   by-long h = let e = lt-leb (length events) 16384 h in record { answers = rw e; writes = rw e }
 
   module _ (few : length events ≤ 16384) where
+    -- Some event has a bit beyond the signals: 15, and nothing is written.
     pub by-bad : allPass (goodFor (length inputs) (length outputs)) events ≡ false → WrittenBy inputs outputs events before (Written.Refused 15) before
     by-bad g = let e = le-leb (length events) 16384 few in record { answers = rw (e, g); writes = rw (e, g) }
 
     module _ (good : allPass (goodFor (length inputs) (length outputs)) events ≡ true) where
+      -- The slice is shorter than the text: 14, and nothing is written.
       pub by-short : length before < length (waveText inputs outputs events) → WrittenBy inputs outputs events before (Written.Refused 14) before
       by-short h =
           let e = le-leb (length events) 16384 few in
           let l = lt-leb (length (waveText inputs outputs events)) (length before) h in
           record { answers = rw (e, good, l); writes = rw (e, good, l) }
 
+      -- Nothing is refused: the text is written, and its length is the answer.
       pub by-text : {r : ℕ} {after : List ℕ} → length (waveText inputs outputs events) ≤ length before → Wrote before 0 (waveText inputs outputs events) r after →
           WrittenBy inputs outputs events before (Written.Length r) after
       by-text h w =
@@ -102,20 +114,24 @@ module _ (inputs outputs events before : List ℕ) where
           }
 
 module _ {file : List ℕ} where
+  -- The policy does not pass its checks: the writer gives that refusal and writes nothing.
   pub write-refused : {events before : List ℕ} (n : ℕ) → n ≡ refusalOf file → (n ≡ 0 → ⊥) → WritePromise file events before (Written.Refused n) before
   unfolding writeOf writtenOut writeRefusal
   write-refused zero e h = absurd (h refl)
   write-refused (suc n) e h = record { answers = rw (← e); writes = rw (← e) }
 
+  -- The policy passes its checks: what the writer does by the signals is what it promises.
   pub write-by : {events before after : List ℕ} {r : Written} → refusalOf file ≡ 0 → WrittenBy (inputTags file) (outputTags file) events before r after →
       WritePromise file events before r after
   unfolding writeOf writtenOut writeRefusal
   write-by e w = record { answers = rw e (w .answers); writes = rw e (w .writes) }
 
+  -- The policy does not pass its checks: the reader gives that refusal and stores nothing.
   pub take-refused : {text before : List ℕ} (n : ℕ) → n ≡ refusalOf file → (n ≡ 0 → ⊥) → TakePromise file text before (Taken.Refused n) before
   take-refused zero e h = absurd (h refl)
   take-refused (suc n) e h = record { reads = policyRefused (sym e) }
 
+  -- The policy passes its checks: what the reader does by the signals is what it promises.
   pub take-by : {text before after : List ℕ} {r : Taken} → refusalOf file ≡ 0 → TakenBy (inputTags file) (outputTags file) text before r after →
       TakePromise file text before r after
   take-by e (none f) = record { reads = noStream e (λ events m. f events (all-fit file events (m .good)) (m .few) (m .made)) }

@@ -1,4 +1,6 @@
 -- One answer alone meets each promise, the writer and the reader undo each other, and how large their numbers are.
+-- In order: the answer of the writer; the answer, the refusals and the stream of the reader; the refusals and the text of the writer; that each undoes
+-- the other.
 use mathlib.Core.Path.{_≡_, refl, sym, ap, _∙_}
 use mathlib.Core.Bool.{true}
 use mathlib.Core.List.{List, _++_}
@@ -35,6 +37,7 @@ taken-same (Taken.Count n) (Taken.Refused m) e = let z : _≡_ {A = ℕ} 0 1 = c
 taken-same (Taken.Refused n) (Taken.Count m) e = let z : _≡_ {A = ℕ} 0 1 = cc in absurd (omega arith)
 taken-same (Taken.Refused n) (Taken.Refused m) e = let h : n ≡ m = cc in rw h
 
+-- One answer alone meets the writer's promise, and one later content of the slice.
 pub write-one : {file events before after later : List ℕ} {r s : Written} →
     WritePromise file events before r after → WritePromise file events before s later → (r ≡ s) × (after ≡ later)
 write-one {r = r} {s = s} g h = (written-same r s (g .answers ∙ sym (h .answers)), g .writes ∙ sym (h .writes))
@@ -44,6 +47,7 @@ module _ (file text out : List ℕ) where
       (gives (length es) ≡ gives (length others)) × (es ++ drop (length es) out ≡ others ++ drop (length others) out)
   given-alike e = (ap (λ (z : List ℕ). gives (length z)) e, ap (λ (z : List ℕ). z ++ drop (length z) out) e)
 
+  -- One answer alone is right for the reader, and one later content of the slice.
   pub reads-one : {a b : Answer ℕ} {after later : List ℕ} → Reads file text out a after → Reads file text out b later → (a ≡ b) × (after ≡ later)
   reads-one (policyRefused e) (policyRefused f) = (ap refused (sym e ∙ f), refl)
   reads-one (policyRefused e) (noStream f g) = absurd (omega arith)
@@ -75,6 +79,7 @@ module _ (file text out : List ℕ) where
     pub makes : Makes file (take n later) text
     pub count : n ≤ 16384
 
+  -- Where the reader gives n, the first n bytes of the slice are a stream of which the writer makes the text.
   pub took-stream : {a : Answer ℕ} {later : List ℕ} (n : ℕ) → Reads file text out a later → a ≡ gives n → TookStream n later
   took-stream n (policyRefused e) q = let z : _≡_ {A = ℕ} 0 1 = cc in absurd (omega arith)
   took-stream n (noStream e f) q = let z : _≡_ {A = ℕ} 0 1 = cc in absurd (omega arith)
@@ -83,6 +88,7 @@ module _ (file text out : List ℕ) where
       let h : length events ≡ n = cc in
       record { passes = e; makes = rw (take-at events (drop (length events) out) n h) m; count = omega (arith, m .few) }
 
+-- One answer alone meets the reader's promise, and one later content of the slice.
 pub take-one : {file text before after later : List ℕ} {r s : Taken} →
     TakePromise file text before r after → TakePromise file text before s later → (r ≡ s) × (after ≡ later)
 take-one {file} {text} {before} {r = r} {s = s} g h =
@@ -94,6 +100,7 @@ module _ (file events out : List ℕ) where
   unfolding writeRefusal
   refusals-le = let f : refusalOf file ≤ 29 = omega (arith, refusal-le file) in search (else-le, unless-le) depth 7
 
+  -- A refusal of the writer is one of the numbers 1 to 29.
   pub write-up-to : UpTo 29 (writeOf file events out)
   unfolding writeOf
   write-up-to = answer-up-to (writeRefusal file events out) (length (textOf file events)) refusals-le
@@ -112,6 +119,7 @@ module _ (file events out : List ℕ) where
     pub makes : Makes file events (take n later)
     pub count : n ≤ 508119
 
+  -- Where the writer gives n, the first n bytes of the slice are the text of the stream.
   pub wrote-text : (n : ℕ) (later : List ℕ) → WritePromise file events out (Written.Length n) later → WroteText n later
   unfolding writeOf writtenOut
   wrote-text n later w =

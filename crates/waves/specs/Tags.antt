@@ -25,6 +25,7 @@ pub record Counted (file : List ℕ) (r : Checked) : Type 0 where
   pub start : outputsAt file ≡ 1 + inputCount file
   pub within : outputsAt file + 1 + outputCount file ≤ length file
 
+-- Where the check refuses nothing, its layout has how many inputs and outputs there are, four of each at most.
 pub counted : {file : List ℕ} {r : Checked} → CheckPromise file r → r .refusal ≡ 0 → Counted file r
 counted {file} {r} k z =
     let s = checked-says file in
@@ -43,6 +44,7 @@ counted {file} {r} k z =
       within = omega (arith, f .outputsEnd);
     }
 
+-- The refusal that the check answers is that of the file.
 pub refused-as : {file : List ℕ} {r : Checked} → CheckPromise file r → r .refusal ≡ refusalOf file
 refused-as {file} k = ap (λ (c : Checked). c .refusal) (k .said) ∙ checked-says file .0
 
@@ -57,6 +59,7 @@ pub record Tagged (file : List ℕ) (r : Tags) : Type 0 where
   pub inputs : take (r .«inputs_end» - 1) (drop 1 file) ≡ inputTags file
   pub outputs : take (r .«outputs_end» - r .«outputs_start») (drop (r .«outputs_start») file) ≡ outputTags file
 
+-- The answer is the refusal of the file, or says where the tags stand.
 pub record TagsPromise (file : List ℕ) (r : Tags) : Type 0 where
   pub refused : r .refusal ≡ refusalOf file
   pub tagged : r .refusal ≡ 0 → Tagged file r
@@ -64,6 +67,7 @@ pub record TagsPromise (file : List ℕ) (r : Tags) : Type 0 where
 part-is : (f : List ℕ) (at n start end : ℕ) → start ≡ at → end ≡ at + n → take (end - start) (drop start f) ≡ part f at n
 part-is f at n start end s e = let k : end - start ≡ n = omega arith in rw (k, s)
 
+-- Positions that are counted from the layout of the check are such an answer.
 pub tags-stand : {file : List ℕ} {r : Checked} {t : Tags} → CheckPromise file r → r .refusal ≡ 0 → t .refusal ≡ 0 → t .«inputs_end» ≡ 1 + r .layout .inputs →
     t .«outputs_start» ≡ t .«inputs_end» + 1 → t .«outputs_end» ≡ t .«outputs_start» + r .layout .outputs → TagsPromise file t
 tags-stand {file} {r} {t} k z n a b d =

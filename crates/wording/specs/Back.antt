@@ -1,4 +1,5 @@
 -- What the writer wrote is read as the policy that it was written from.
+-- In order: every written word is whole; a policy back from its text; a file back from its text; what a text gives passes the check.
 use mathlib.Core.Path.{_≡_, refl, ap, sym, _∙_}
 use mathlib.Core.Bool.{Bool, true, false, not, cond, and-eq-true-iff}
 use mathlib.Core.List.{List, [], _∷_, _++_}

@@ -1,4 +1,5 @@
 -- Comments, blanks, line ends and blank lines change nothing: the words of the lines alone are read.
+-- In order: the words alone; a byte in front of a text; blanks; comments; blank lines.
 use mathlib.Core.Path.{_≡_, refl, ap, sym, _∙_}
 use mathlib.Core.Bool.{Bool, true, false, cond, _||_, false≢true}
 use mathlib.Core.List.{List, [], _∷_, _++_}
@@ -23,6 +24,7 @@ words-alone text other e = ap (λ (ls : List Line). filed (saidBy 1 (readLines 1
 unfoldable pub tidied : List ℕ → List ℕ
 tidied text = laid (λ l. 0) (linesOf text)
 
+-- A text that is tidied gives the same file, or the same refusal in the same line.
 pub tidied-alike : (text : List ℕ) → fileFromText (tidied text) ≡ fileFromText text
 unfolding tidied
 tidied-alike text = words-alone (tidied text) text (laid-read (λ l. 0) (linesOf text) (lines-whole text))

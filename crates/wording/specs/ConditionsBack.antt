@@ -1,4 +1,5 @@
 -- The conditions of a rule and its resets are read as they were written.
+-- In order: the bits of a mask; the signals; the bounds; the resets.
 use mathlib.Core.Path.{_≡_, refl, ap, sym, _∙_}
 use mathlib.Core.Bool.{Bool, true, false, not, and-eq-true-iff, and-false}
 use mathlib.Core.List.{List, [], _∷_, _++_, append-assoc}
@@ -29,9 +30,11 @@ bit-split n m =
     rw (pow-succ' 2 n) (omega (arith, mul-assoc 2 (2 ^ n) (m / 2), mul-assoc (2 ^ n) (m / 2) 2)) in
     ap (λ (z : ℕ). 2 ^ n * z) e ∙ mul-add (2 ^ n) (m / 2 * 2) (m % 2) ∙ omega (arith, p)
 
+-- An odd mask m at bit n is the bit n, and half of m at bit n + 1.
 pub bit-set : (n m c : ℕ) → m % 2 ≡ 1 → c + 2 ^ n + 2 ^ suc n * (m / 2) ≡ c + 2 ^ n * m
 bit-set n m c e = let s = bit-split n m in let o : 2 ^ n * (m % 2) ≡ 2 ^ n = rw e (omega arith) in omega arith
 
+-- An even mask m at bit n is half of m at bit n + 1.
 pub bit-clear : (n m c : ℕ) → m % 2 ≡ 0 → c + 2 ^ suc n * (m / 2) ≡ c + 2 ^ n * m
 bit-clear n m c e = let s = bit-split n m in let o : 2 ^ n * (m % 2) ≡ 0 = rw e (omega arith) in omega arith
 
@@ -211,6 +214,7 @@ abbrev pub AllSmall : List Bound → Type 0
 AllSmall [] = Unit {0}
 AllSmall (b ∷ bs) = (b .low ≤ 65535) × (b .high ≤ 65535) × AllSmall bs
 
+-- The words for the bounds bs, behind those of the clocks before them, are read as bs.
 pub bounds-read : (d : Draft) (n : ℕ) → d .clocks ≡ namesFrom 116 0 n → Unnamed d → (care value : ℕ) (before bs : List Bound) → length before + length bs ≤ n → AllSmall bs →
     through (ruleWord (scope d)) (saying care value (before ++ replicate (length bs) noBound)) (boundWords (length before) bs)
     ≡ gives (saying care value (before ++ bs))
@@ -235,6 +239,7 @@ reset-one : (d : Draft) (n k : ℕ) → d .clocks ≡ namesFrom 116 0 n → k < 
 unfolding wordAt onReset
 reset-one d n k e h b mask small = rw (e, find-name 116 k 0 n (omega arith) (omega arith), bit-free k mask small)
 
+-- The names of the clocks in the mask m, from clock k on, are read as that mask.
 pub resets-read : (d : Draft) (n : ℕ) → d .clocks ≡ namesFrom 116 0 n → (b : Begun) (k j m mask : ℕ) → k + j ≤ n → m < 2 ^ j → mask < 2 ^ k →
     through (ruleWord (scope d)) (clearing b mask) (resetNames k j m) ≡ gives (clearing b (mask + 2 ^ k * m))
 unfolding resetNames through
@@ -261,6 +266,7 @@ some-first : Line → ℕ
 some-first [] = 0
 some-first (w ∷ ws) = 1
 
+-- A mask for which no name is written is empty.
 pub resets-some : (k j m : ℕ) → m < 2 ^ j → resetNames k j m ≡ [] → m ≡ 0
 unfolding resetNames some-first
 resets-some k zero m small h = omega arith

@@ -29,6 +29,7 @@ find-below i w (v ∷ vs) k e = at (same v w) e (find-below (suc i) w vs k)
     at true h rest = let s : i ≡ k = cc in omega arith
     at false h rest = omega (arith, rest h)
 
+-- The place at which a word is found is one of the list.
 pub found-below : (w : Word) (vs : List Word) (k : ℕ) → find 0 w vs ≡ some k → k < length vs
 found-below w vs k e = omega (arith, find-below 0 w vs k e)
 
@@ -116,6 +117,7 @@ module _ (s : Scope) (n : ℕ) (letters : length (s .letters) ≡ n) (names : le
   word-fair b gone w f = keeps-must (is "reset" w) 30 _ (λ e. goes-on (turn-fair b clears f))
   word-fair b clears w f = keeps-known (find 0 w (s .clocks)) _ (λ k e. reset-fair b k f (found-below w (s .clocks) k e))
 
+  -- Whatever words of a rule are read, the rule is fair, if there is a location.
   pub words-fair : (ws : Line) → 0 < length (s .places) → Keeps FairFor (through (ruleWord s) (bare (length (s .clocks))) ws)
   words-fair ws h =
       keeps-through (ruleWord s) (λ b w f. word-fair b (b .part) w f) (bare (length (s .clocks))) ws

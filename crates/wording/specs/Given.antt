@@ -72,6 +72,7 @@ pub record Said (text f : List ℕ) : Type 0 where
   pub formed : WellFormed (policyFrom 1 draft)
   pub file : bytesOf (policyFrom 1 draft) ≡ f
 
+-- A text that gives the file f has such a draft.
 pub read-said : (text f : List ℕ) → fileFromText text ≡ reads f → Said text f
 unfolding fileFromText policyFromText
 read-said text f h = go (readLines 1 empty (linesOf text)) refl h

@@ -1,4 +1,5 @@
 -- What holds of a draft after every line that is read: all that the file's own check asks of a policy, but for a location and the number of states.
+-- In order: what holds of each section, and of the empty draft; the lines that declare; one rule more; rules and `at`; all lines; the policy.
 use mathlib.Core.Path.{_≡_, refl, ap, sym, _∙_}
 use mathlib.Core.Bool.{Bool, true, false, cond, not, _&&_, _||_, and-eq-true-iff}
 use mathlib.Core.List.{List, [], _∷_, _++_, append-assoc, append-nil}
@@ -38,11 +39,13 @@ pub record Signals (inputs outputs : List ℕ) (names : List Word) : Type 0 wher
   pub outputTags : tagsGood inputs outputs ≡ true
   pub paired : length names ≡ length inputs + length outputs
 
+-- The clocks: at most 4, and a ceiling from 1 to 1,001 for each.
 pub record Clocks (clocks : List Word) (ceilings : List ℕ) : Type 0 where
   pub few : length ceilings ≤ 4
   pub good : allPass ceilingGood ceilings ≡ true
   pub paired : length clocks ≡ length ceilings
 
+-- The locations: at most 64, and a byte of 0 or 1 for each.
 pub record Places (places : List Word) (left : List ℕ) : Type 0 where
   pub few : length places ≤ 64
   pub good : allPass locationGood left ≡ true
@@ -59,6 +62,7 @@ pub data Rules (inputs outputs : ℕ) (cs : List ℕ) (locations : ℕ) (rs : Li
   after-at : {s : ℕ} → s < locations → rulesRefusal inputs outputs cs locations 0 rs ≡ 0 → lastOf 0 rs ≤ s → length rs ≤ 256 → 5 ≤ stage →
       Rules inputs outputs cs locations rs stage (some s)
 
+-- All of this holds of the draft d, which has no outputs before stage 2.
 pub record Good (d : Draft) : Type 0 where
   pub signals : Signals (d .inputs) (d .outputs) (d .names)
   pub clocks : Clocks (d .clocks) (d .ceilings)
@@ -66,6 +70,7 @@ pub record Good (d : Draft) : Type 0 where
   pub rules : Rules (length (d .inputs)) (length (d .outputs)) (d .ceilings) (length (d .places)) (d .rules) (d .stage) (d .source)
   pub early : d .stage ≤ 1 → d .outputs ≡ []
 
+-- The draft before the first line is good.
 pub good-empty : Good empty
 unfolding tagsGood allPass
 good-empty =
@@ -111,9 +116,11 @@ module _ {P : Draft → Type 0} (d : Draft) where
       at true true e f = stops-here
       at true false e f = k e f
 
+  -- P holds after a new name, if it does where the word is a name and is not taken.
   pub keeps-name : (w : Word) (names : List Word) (a : Answer Draft) → (isName w ≡ true → find 0 w names ≡ none → Keeps P a) → Keeps P (newName w names a)
   keeps-name w names a k = keeps-must (isName w) 30 _ (λ e. keeps-free (find 0 w names) a (k e))
 
+  -- P holds after the line of a signal, if it does for every letter and name that such a line can say.
   pub keeps-signals : (count : ℕ) (go : ℕ → Word → Draft) (ws : Line) →
       ((t : ℕ) (n : Word) → Signalled d ws t n → isCapital t ≡ true → among t (tags d) ≡ false → count < 4 → P (go t n)) →
       Keeps P (signalLine d count go ws)
@@ -359,6 +366,7 @@ module _ (d : Draft) (g : Good d) where
       next (after-at {s = s} here so-far last few late) k l up = let h = leb-true s k up in after-at l so-far (omega arith) few (omega arith)
   at-good (w ∷ v ∷ ws) = stops-here
 
+  -- After a line that is read a good draft is good.
   pub line-good : (l : Line) → Keeps Good (readLine d l)
   unfolding readLine inputLine outputLine
   line-good [] = goes-on g
@@ -384,6 +392,7 @@ lines-good line d (l ∷ ls) e g h = at (readLine d l) (line-good d g l) h (λ n
     at (refused n) k h rest = absurd (let z : _≡_ {A = ℕ} 0 1 = cc in omega arith)
     at (gives next) (goes-on k) h rest = rest next k h
 
+-- After all lines of a text the draft is good.
 pub all-good : (ls : List Line) (d : Draft) → readLines 1 empty ls ≡ reads d → Good d
 all-good ls d h = lines-good 1 empty ls d good-empty h
 

@@ -1,4 +1,5 @@
 -- The rules of the file that a text gives are those of its rule lines, in order.
+-- In order: which lines add a rule; what it means that a line says a rule; the lines from any one on; the i-th rule and its line.
 use mathlib.Core.Path.{_≡_, refl, ap, sym, _∙_}
 use mathlib.Core.Bool.{Bool, true, false, cond, false≢true}
 use mathlib.Core.List.{List, [], _∷_, _++_, append-assoc, append-nil}
@@ -21,6 +22,7 @@ use Rattle.wording.specs.Reader.{Draft, empty, withInput, withOutput, in
 
 -- A line that is none of a rule adds no rule.
 module _ (d : Draft) where
+  -- After a line that is no rule the draft has the rules that it had.
   pub none-added : (l : Line) → isRule l ≡ false → Keeps (λ e. e .rules ≡ d .rules) (readLine d l)
   unfolding isRule readLine inputLine outputLine
   none-added [] h = goes-on refl
@@ -40,6 +42,7 @@ module _ (d : Draft) where
   one-added [] h = absurd (false≢true h)
   one-added (w ∷ ws) h = rw (rule-by d w ws h) (rule-adds d (w ∷ ws) (d .source))
 
+  -- The rule that is added is the last.
   pub added : (r : Rule) → addRule d r .rules ≡ d .rules ++ (r ∷ [])
   unfolding addRule
   added r = refl

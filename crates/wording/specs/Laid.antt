@@ -14,22 +14,27 @@ unfoldable pub allOf : ℕ → List ℕ → Bool
 allOf k [] = true
 allOf k (c ∷ cs) = eqb (kind c) k && allOf k cs
 
+-- One byte or more, all of one kind, and none that parts words.
 unfoldable pub whole : Word → Bool
 whole [] = false
 whole (c ∷ cs) = ltb 0 (kind c) && allOf (kind c) cs
 
+-- A line of whole words.
 pub data AllWhole : Line → Type 0 where
   whole-none : AllWhole []
   whole-more : {w : Word} {ws : Line} → whole w ≡ true → AllWhole ws → AllWhole (w ∷ ws)
 
+-- Lines of whole words.
 pub data EachWhole : List Line → Type 0 where
   lines-none : EachWhole []
   lines-more : {l : Line} {ls : List Line} → AllWhole l → EachWhole ls → EachWhole (l ∷ ls)
 
+-- Whole words with whole words behind them are whole words.
 pub whole-both : {ws vs : Line} → AllWhole ws → AllWhole vs → AllWhole (ws ++ vs)
 whole-both whole-none b = b
 whole-both (whole-more h a) b = whole-more h (whole-both a b)
 
+-- Lines of whole words with more of them are lines of whole words.
 pub lines-both : {ls ms : List Line} → EachWhole ls → EachWhole ms → EachWhole (ls ++ ms)
 lines-both lines-none b = b
 lines-both (lines-more h a) b = lines-more h (lines-both a b)
@@ -38,6 +43,7 @@ lines-both (lines-more h a) b = lines-more h (lines-both a b)
 in-word : (c a : ℕ) → kind a ≡ 0 → 0 < kind c → eqb c a ≡ false
 in-word c a e h = ne-eqb c a (λ s. let z : kind c ≡ kind a = ap kind s in omega arith)
 
+-- A byte of a word begins no comment.
 pub no-comment : (c : ℕ) → 0 < kind c → eqb c 35 ≡ false
 unfolding kind parts
 no-comment c h = in-word c 35 refl h
@@ -58,6 +64,7 @@ module _ (rest : List ℕ) (other : firstKind rest ≡ 0) where
       rw (no-comment c h, ne-eqb (kind c) 0 (λ e. omega arith), both .0)
       (ap (onto c) (word-from d ds (omega arith) same))
 
+  -- A whole word with the end, a blank or a comment behind it is read as that word.
   pub word-read : (w : Word) → whole w ≡ true → wordsOf (w ++ rest) ≡ w ∷ wordsOf rest
   unfolding whole
   word-read [] h = absurd (let z : _≡_ {A = ℕ} 0 1 = ap (λ (b : Bool). cond b 1 0) h in omega arith)
@@ -112,6 +119,7 @@ unended-words [] h = tt
 unended-words (w ∷ []) (whole-more h g) = unended-word w h
 unended-words (w ∷ v ∷ ws) (whole-more h g) = unended-both w (32 ∷ spacedOut (v ∷ ws)) (unended-word w h) (refl, unended-words (v ∷ ws) g)
 
+-- Bytes without a line feed, with one behind them, are the first line of a text.
 pub line-split : (cs rest : List ℕ) → Unended cs → split (cs ++ (10 ∷ rest)) ≡ cs ∷ split rest
 unfolding split
 line-split [] rest h = refl

@@ -39,9 +39,11 @@ unfoldable pub ruleLettered : List Named → Line → Line
 ruleLettered ss [] = []
 ruleLettered ss (w ∷ ws) = cond (is "->" w) (w ∷ ws) (wordLettered ss w ∷ ruleLettered ss ws)
 
+-- In each rule of some lines, letters for the names that were said before it.
 unfoldable pub lettered : List Named → List Line → List Line
 lettered ss [] = []
 lettered ss (l ∷ ls) = cond (isRule l) (ruleLettered ss l) l ∷ lettered (noted ss l) ls
 
+-- The text of these lines, without margins.
 unfoldable pub withLetters : List ℕ → List ℕ
 withLetters text = laid (λ l. 0) (lettered [] (linesOf text))

@@ -1,4 +1,5 @@
 -- A rule with letters for names is read alike.
+-- In order: a word and what stands in its place; words that a rule reads alike; as far as the arrow; the words of a rule; its line.
 use mathlib.Core.Path.{_≡_, refl, ap, sym, _∙_}
 use mathlib.Core.Bool.{Bool, true, false, cond, false≢true}
 use mathlib.Core.List.{List, [], _∷_}
@@ -182,6 +183,7 @@ module _ (d : Draft) {ss : List Named} (k : StandsIn d ss) where
   rule-line-alike ls ms h none = refl
   rule-line-alike ls ms h (some s) = rw h
 
+  -- A rule is read alike with letters for names; any other line is left as it is.
   pub line-alike : (l : Line) → readLine d (cond (isRule l) (ruleLettered ss l) l) ≡ readLine d l
   unfolding ruleLettered
   line-alike l = go (isRule l) refl

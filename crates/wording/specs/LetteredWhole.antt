@@ -72,6 +72,7 @@ rule-whole {ss} k (whole-more {w = w} {ws = ws} h hs) = go (is "->" w) (rule-who
     go true rest = whole-more h hs
     go false rest = whole-more (word-whole k w h) rest
 
+-- With letters for names, lines of whole words are lines of whole words.
 pub lettered-whole : {ss : List Named} → AllCapital ss → {ls : List Line} → EachWhole ls → EachWhole (lettered ss ls)
 unfolding lettered
 lettered-whole k lines-none = lines-none

@@ -1,4 +1,5 @@
 -- The lines of a policy are read as that policy.
+-- In order: names as they are written; what some lines have said; signals; clocks and locations; rules; all lines.
 use mathlib.Core.Path.{_≡_, refl, ap, sym, _∙_}
 use mathlib.Core.Bool.{Bool, true, false, not, _||_, and-eq-true-iff}
 use mathlib.Core.List.{List, [], _∷_, _++_, append-assoc, append-nil}
@@ -363,6 +364,7 @@ module _ (p : Policy) (w : WellFormed p) where
       let allPass = clocks-read (p .inputs) (p .outputs) signalCount 0 [] (p .ceilings) next (omega arith) (omega (arith, w .clocks)) (w .ceilings) in
       (allPass .0, allPass .1, allPass .2 ∙ (λ i. gives (drafted (p .inputs) (p .outputs) signalCount (e i) (p .ceilings) 0 [] [] (allPass .0) none)))
 
+  -- The lines of a policy are read, none is refused, and they say all that the policy has.
   pub lines-read : (last : ℕ) × (source : Option ℕ) × (through readLine empty (policyLines p) ≡ gives (ruling (p .rules) last source))
   unfolding policyLines
   lines-read =
@@ -377,6 +379,7 @@ module _ (p : Policy) (w : WellFormed p) where
             ∙ (through-more readLine _ _ _ _ (clocks .2) ∙ (through-more readLine _ _ _ _ (places .2) ∙ rules .2))),
       )
 
+  -- What these lines say is that policy.
   pub policy-said : (last : ℕ) (source : Option ℕ) → policyFrom (p .reading) (ruling (p .rules) last source) ≡ p
   unfolding policyFrom
   policy-said last source =

@@ -1,4 +1,5 @@
 -- How long a written text can be.
+-- In order: the bytes of words and of lines; names and numbers; the declarations; the words of a rule; the rules; the whole text.
 use mathlib.Core.Path.{_≡_, refl, _∙_}
 use mathlib.Core.Bool.{Bool, true, false, cond, _||_, and-eq-true-iff}
 use mathlib.Core.List.{List, [], _∷_, _++_}
@@ -280,6 +281,7 @@ module _ (p : Policy) (w : WellFormed p) where
           go true e = let z = eqb-true s (r .source) e in omega arith
           go false e = let f = eqb-false s (r .source) e in omega (arith, k .source)
 
+  -- The text of a well-formed policy has at most 39,420 bytes.
   pub text-at-most : length (textOf p) ≤ 39420
   unfolding textOf policyLines isPlain same
   text-at-most =

@@ -49,11 +49,14 @@ bit-within (suc i) value care v h e under =
 
 -- The bits of the inputs, and those of the outputs after them.
 module _ (inputs care value : ℕ) (under : bitAnd value care ≡ value) where
+  -- A value within its mask is so in the bits of the inputs.
   pub within-inputs : bitAnd (value % 2 ^ inputs) (care % 2 ^ inputs) ≡ value % 2 ^ inputs
   within-inputs = sym (and-mod value care inputs) ∙ ap (λ (z : ℕ). z % 2 ^ inputs) under
 
+  -- A value within its mask is so in the bits of the outputs.
   pub within-outputs : bitAnd (value / 2 ^ inputs) (care / 2 ^ inputs) ≡ value / 2 ^ inputs
   within-outputs = sym (and-shr value care inputs) ∙ ap (λ (z : ℕ). z / 2 ^ inputs) under
 
+-- A mask over all signals has no more bits for outputs than there are.
 pub outputs-below : (inputs outputs care : ℕ) → care < 2 ^ (inputs + outputs) → care / 2 ^ inputs < 2 ^ outputs
 outputs-below inputs outputs care h = shr-lt outputs inputs (rw (add-comm inputs outputs) at h)

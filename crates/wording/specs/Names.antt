@@ -11,6 +11,7 @@ use Rattle.texts.specs.Text.{ascii, decimal}
 use Rattle.texts.specs.Decimal.{valueFrom}
 use Rattle.wording.specs.Words.{Word, Line}
 
+-- Both words have the same bytes.
 unfoldable pub same : Word → Word → Bool
 same [] [] = true
 same [] (b ∷ bs) = false
@@ -36,24 +37,29 @@ isPlain w =
 abbrev pub isLower : ℕ → Bool
 isLower c = leb 97 c && leb c 122
 
+-- A digit, 0 to 9.
 unfoldable pub isDigit : ℕ → Bool
 isDigit c = leb 48 c && leb c 57
 
+-- All bytes pass the test.
 unfoldable pub every : (ℕ → Bool) → List ℕ → Bool
 every test [] = true
 every test (c ∷ cs) = test c && every test cs
 
+-- The whole test of a name.
 unfoldable pub isName : Word → Bool
 isName [] = false
 isName (c ∷ cs) =
     isLower c && (every (λ d. isLower d || (isDigit d || eqb d 95)) cs && (leb (length cs) 15 && isPlain (c ∷ cs)))
 
+-- One digit or more, and nothing else.
 unfoldable pub isNumber : Word → Bool
 isNumber [] = false
 isNumber (c ∷ cs) = isDigit c && every isDigit cs
 
 module _ {A : Type 0} where
   infixl 10 _andThen_
+  -- What is given goes on, and a refusal stays.
   abbrev pub _andThen_ : {B : Type 0} → Answer B → (B → Answer A) → Answer A
   (refused n) andThen go = refused n
   (gives b) andThen go = go b
@@ -79,6 +85,7 @@ module _ {A : Type 0} where
 
 -- One thing after another, as far as none is refused.
 module _ {S X : Type 0} (next : S → X → Answer S) where
+  -- From s, with each of xs in turn.
   unfoldable pub through : S → List X → Answer S
   through s [] = gives s
   through s (x ∷ xs) = next s x andThen λ t. through t xs

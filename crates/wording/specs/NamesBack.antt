@@ -1,4 +1,5 @@
 -- Names, letters and numbers are read as what they were written for.
+-- In order: words that are the same; names, and a name among others; letters; numbers; which of these are whole words; one thing after another.
 use mathlib.Core.Path.{_≡_, refl, ap, sym, _∙_}
 use mathlib.Core.Bool.{Bool, true, false, cond, _&&_, _||_, and-eq-true-iff, false≢true}
 use mathlib.Core.List.{List, [], _∷_, _++_}
@@ -16,11 +17,13 @@ use Rattle.wording.specs.Words.{Word, parts, isSign, kind}
 use Rattle.wording.specs.Laid.{allOf, whole}
 use Rattle.wording.specs.Names.{same, find, isDigit, every, isNumber, numbered, through, _andThen_, nameOf, namesFrom, lettersOf, isLower, isName}
 
+-- A word is the same as itself.
 pub same-self : (w : Word) → same w w ≡ true
 unfolding same
 same-self [] = refl
 same-self (c ∷ cs) = rw (eq-eqb c c refl) (same-self cs)
 
+-- Words that are the same are equal.
 pub same-true : (v w : Word) → same v w ≡ true → v ≡ w
 unfolding same
 same-true [] [] h = refl
@@ -47,6 +50,7 @@ value : Word → ℕ
 value [] = 0
 value (c ∷ cs) = valueFrom 0 cs
 
+-- Numbers with the same name are equal.
 pub name-one : (letter j k : ℕ) → same (nameOf letter j) (nameOf letter k) ≡ true → j ≡ k
 unfolding nameOf value
 name-one letter j k h =
@@ -61,6 +65,7 @@ apart j k h ne = go (eqb j k) refl
 
 -- A name among n of them.
 module _ (letter k : ℕ) where
+  -- The name of k is found among n names from j on, if k is one of their numbers.
   pub find-name : (j n : ℕ) → j ≤ k → k < j + n → find j (nameOf letter k) (namesFrom letter j n) ≡ some k
   unfolding find namesFrom
   find-name j zero a b = absurd (omega arith)
@@ -72,6 +77,7 @@ module _ (letter k : ℕ) where
       go true e rest = ap some (name-one letter j k e)
       go false e rest = rest (apart j k a (λ s. false≢true (sym e ∙ rw s (same-self (nameOf letter k)))))
 
+  -- The name of k is not found among names of lower numbers.
   pub find-none : (j n : ℕ) → j + n ≤ k → find j (nameOf letter k) (namesFrom letter j n) ≡ none
   unfolding find namesFrom
   find-none j zero a = refl
@@ -83,11 +89,13 @@ module _ (letter k : ℕ) where
       go true e rest = let s = name-one letter j k e in absurd (omega arith)
       go false e rest = rest
 
+-- `namesFrom` gives as many names as it is asked for.
 pub names-length : (letter k n : ℕ) → length (namesFrom letter k n) ≡ n
 unfolding namesFrom
 names-length letter k zero = refl
 names-length letter k (suc n) = ap suc (names-length letter (suc k) n)
 
+-- n names and the next are n + 1 names.
 pub names-more : (letter k n : ℕ) → namesFrom letter k n ++ (nameOf letter (k + n) ∷ []) ≡ namesFrom letter k (suc n)
 unfolding namesFrom
 names-more letter k zero = let e : k + 0 ≡ k = omega arith in rw e
@@ -123,10 +131,12 @@ number-more [] n h = absurd (false≢true h)
 number-more (c ∷ cs) n h =
     let both = simp and-eq-true-iff at h in rw (both .0) (every-more isDigit cs (digit n) (both .1) (digit-is n))
 
+-- What is written for a number passes the test of a number.
 pub number-is : (n : ℕ) → isNumber (decimal n) ≡ true
 unfolding isNumber every
 number-is = by-digits (λ n ds. isNumber ds ≡ true) (λ n h. rw (digit-is n)) (λ n front h e. number-more front n e)
 
+-- What is written for a number up to 65,535 is read as that number.
 pub number-read : {A : Type 0} (n : ℕ) (go : ℕ → Answer A) → n ≤ 65535 → numbered (decimal n) go ≡ go n
 unfolding numbered
 number-read n go h = rw (number-is n, reads-back n, le-leb n 65535 h)
@@ -161,18 +171,22 @@ unfolding isNumber whole
 number-whole [] h = absurd (false≢true h)
 number-whole (c ∷ cs) h = let both = simp and-eq-true-iff at h in rw (digit-kind c (both .0)) (digits-kind cs (both .1))
 
+-- What is written for a number is a whole word.
 pub decimal-whole : (n : ℕ) → whole (decimal n) ≡ true
 decimal-whole n = number-whole (decimal n) (number-is n)
 
+-- A number has digits only.
 pub digits-in : (w : Word) → isNumber w ≡ true → every isDigit w ≡ true
 unfolding isNumber every
 digits-in [] h = refl
 digits-in (c ∷ cs) h = h
 
+-- A name that is written is a whole word.
 pub name-whole : (letter k : ℕ) → kind letter ≡ 1 → whole (nameOf letter k) ≡ true
 unfolding nameOf whole
 name-whole letter k e = rw e (digits-kind (decimal k) (digits-in (decimal k) (number-is k)))
 
+-- A byte from 64 on neither parts words nor is of a sign.
 pub plain-kind : (t : ℕ) → 64 ≤ t → kind t ≡ 1
 unfolding kind parts isSign
 plain-kind t h =
@@ -195,6 +209,7 @@ capital-kind t h =
     let low = leb-true 65 t (both .0) in
     plain-kind t (omega arith)
 
+-- A capital letter is a whole word.
 pub letter-whole : (t : ℕ) → isCapital t ≡ true → whole (t ∷ []) ≡ true
 unfolding whole allOf
 letter-whole t h = rw (capital-kind t h)
@@ -203,16 +218,19 @@ mark-kind : kind 33 ≡ 1
 unfolding kind parts isSign
 mark-kind = refl
 
+-- A capital letter behind `!` is a whole word.
 pub off-whole : (t : ℕ) → isCapital t ≡ true → whole (33 ∷ t ∷ []) ≡ true
 unfolding whole allOf
 off-whole t h = rw (mark-kind, capital-kind t h)
 
 -- One thing after another.
 module _ {S X : Type 0} (next : S → X → Answer S) where
+  -- With nothing to go through, s is given.
   pub through-none : (s : S) → through next s [] ≡ gives s
   unfolding through
   through-none s = refl
 
+  -- If xs lead from s to t, what stands behind them goes on from t.
   pub through-more : (s t : S) (xs ys : List X) → through next s xs ≡ gives t → through next s (xs ++ ys) ≡ through next t ys
   unfolding through
   through-more s t [] ys h = let e : s ≡ t = cc in rw e

@@ -27,13 +27,16 @@ pub record Other (w : Word) : Type 0 where
   pub most : is "<=" w ≡ false
   pub number : isNumber w ≡ false
 
+-- A byte above `9` is no digit.
 pub no-digit : (c : ℕ) → 58 ≤ c → isDigit c ≡ false
 unfolding isDigit
 no-digit c h = rw (lt-leb c 57 h) (and-false (leb 48 c))
 
+-- A capital letter is not below `A`.
 pub capital-low : (t : ℕ) → isCapital t ≡ true → 65 ≤ t
 capital-low t h = leb-true 65 t (and-eq-true-iff (leb 65 t) _ .0 h .0)
 
+-- A capital letter is such a word.
 pub letter-is-other : (t : ℕ) → isCapital t ≡ true → Other (t ∷ [])
 unfolding isNumber
 letter-is-other t h =
@@ -51,6 +54,7 @@ letter-is-other t h =
       number = rw (no-digit t (omega arith));
     }
 
+-- What begins with `!` is such a word.
 pub off-is-other : (cs : Word) → Other (33 ∷ cs)
 unfolding same isNumber isDigit
 off-is-other cs =
@@ -68,6 +72,7 @@ name-plain c cs h =
     let b = and-eq-true-iff (every _ cs) _ .0 (a .1) in
     and-eq-true-iff (leb (length cs) 15) _ .0 (b .1) .1
 
+-- A name is such a word.
 pub name-is-other : (w : Word) → isName w ≡ true → Other w
 unfolding isName isNumber same
 name-is-other [] h = absurd (false≢true h)
@@ -87,9 +92,11 @@ name-is-other (c ∷ cs) h =
       number = rw (no-digit c (omega arith));
     }
 
+-- A word of no bytes is no name.
 pub no-name : isName [] ≡ true → ⊥
 unfolding isName
 no-name h = false≢true h
 
+-- A byte above `Z` is no capital letter.
 pub no-capital : (c : ℕ) → 91 ≤ c → isCapital c ≡ false
 no-capital c h = rw (lt-leb c 90 h) (and-false (leb 65 c))

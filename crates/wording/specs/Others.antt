@@ -29,11 +29,13 @@ rule-by d w ws h =
     rw (a .0, b .0, c .0, e .0, not-true (is "at" w) (e .1))
 
 module _ (d : Draft) where
+  -- The draft e has the letters, the names and the rules of d.
   pub record Aside (e : Draft) : Type 0 where
     pub letters : tags e ≡ tags d
     pub names : e .names ≡ d .names
     pub rules : e .rules ≡ d .rules
 
+  -- A line of a clock leaves the signals and the rules.
   pub clock-aside : (ws : Line) → Keeps Aside (clockLine d ws)
   unfolding clockLine
   clock-aside [] = stops-here
@@ -54,6 +56,7 @@ module _ (d : Draft) where
       (λ s. keeps-name d w (d .places) _
       (λ e f. keeps-must (ltb (length (d .places)) 64) 33 _ (λ r. goes-on (record { letters = refl; names = refl; rules = refl }))))
 
+  -- A line of a location leaves the signals and the rules.
   pub location-aside : (ws : Line) → Keeps Aside (locationLine d ws)
   unfolding locationLine
   location-aside [] = stops-here
@@ -63,6 +66,7 @@ module _ (d : Draft) where
   location-aside (w ∷ a ∷ b ∷ c ∷ []) = keeps-must (is "must" a && (is "be" b && is "left" c)) 30 _ (λ e. place-aside w 1)
   location-aside (w ∷ a ∷ b ∷ c ∷ v ∷ ws) = stops-here
 
+  -- An `at` leaves the signals and the rules.
   pub at-aside : (ws : Line) → Keeps Aside (atLine d ws)
   unfolding atLine
   at-aside [] = stops-here
@@ -71,6 +75,7 @@ module _ (d : Draft) where
       (λ k e. keeps-must (risen d (d .source) k) 34 _ (λ u. goes-on (record { letters = refl; names = refl; rules = refl })))
   at-aside (w ∷ v ∷ ws) = stops-here
 
+  -- A line of a rule adds one rule, and nothing else.
   pub rule-adds : (ws : Line) (source : Option ℕ) → Keeps (λ e. (r : Rule) × (e ≡ addRule d r)) (ruleLine d ws source)
   unfolding ruleLine
   rule-adds ws none = stops-here

@@ -1,4 +1,6 @@
 -- The reader: a text's lines one after another, and a rule's words one after another.
+-- In order: what the lines so far have said; the lines that declare, and `at`; what the words of a rule so far have said; one word; a rule's line;
+-- any line; all lines; the policy and the file of a text.
 use mathlib.Core.Bool.{Bool, true, false, cond, _&&_}
 use mathlib.Core.List.{List, [], _∷_, _++_}
 use mathlib.Core.Option.{Option, none, some}
@@ -26,6 +28,7 @@ pub record Draft : Type 0 where
   pub stage : ℕ
   pub source : Option ℕ
 
+-- Before the first line nothing is said.
 abbrev pub empty : Draft
 empty =
     record {
@@ -52,6 +55,7 @@ abbrev pub newName : Word → List Word → Answer Draft → Answer Draft
 newName w names a = must (isName w) 30 (free (find 0 w names) a)
 
 module _ (d : Draft) where
+  -- The letters of all signals, the inputs first.
   abbrev pub tags : List ℕ
   tags = d .inputs ++ d .outputs
 
@@ -59,6 +63,7 @@ module _ (d : Draft) where
   abbrev pub newSignal : Word → Answer Draft → Answer Draft
   newSignal w a = newName w (d .names) (free (find 0 w (d .clocks)) a)
 
+  -- One input more.
   abbrev pub withInput : ℕ → Word → Draft
   withInput t name =
       record {
@@ -74,6 +79,7 @@ module _ (d : Draft) where
         source = d .source;
       }
 
+  -- One output more.
   abbrev pub withOutput : ℕ → Word → Draft
   withOutput t name =
       record {
@@ -96,9 +102,11 @@ module _ (d : Draft) where
   signalLine count go (w ∷ n ∷ []) = letter tags w andThen λ t. newSignal n (must (ltb count 4) 33 (gives (go t n)))
   signalLine count go (w ∷ n ∷ v ∷ ws) = refused 30
 
+  -- What follows `input`. 30: a later section has begun.
   unfoldable pub inputLine : Line → Answer Draft
   inputLine ws = must (leb (d .stage) 1) 30 (signalLine (length (d .inputs)) withInput ws)
 
+  -- What follows `output`. 30: a later section has begun.
   unfoldable pub outputLine : Line → Answer Draft
   outputLine ws = must (leb (d .stage) 2) 30 (signalLine (length (d .outputs)) withOutput ws)
 
@@ -123,6 +131,7 @@ module _ (d : Draft) where
       }))))))
   clockLine (w ∷ n ∷ v ∷ ws) = refused 30
 
+  -- One location more, with its byte. 30: an `at` came before. 33: there are 64 already.
   unfoldable pub newPlace : Word → ℕ → Answer Draft
   newPlace w byte =
       must (leb (d .stage) 4) 30 (newName w (d .places) (must (ltb (length (d .places)) 64) 33 (gives (record {
@@ -152,6 +161,7 @@ module _ (d : Draft) where
   risen none k = true
   risen (some s) k = leb s k
 
+  -- What follows `at`: the rules to come are this location's. 31: there is no such location.
   unfoldable pub atLine : Line → Answer Draft
   atLine [] = refused 30
   atLine (w ∷ []) =
@@ -186,12 +196,15 @@ pub record Begun : Type 0 where
   pub target : ℕ
   pub reset : ℕ
 
+-- A low of 0 and a high of 65,535 are no bound.
 abbrev pub noBound : Bound
 noBound = record { low = 0; high = 65535 }
 
+-- A rule before its first word.
 abbrev pub bare : ℕ → Begun
 bare clocks = record { part = opening; care = 0; value = 0; bounds = replicate clocks noBound; target = 0; reset = 0 }
 
+-- The same with another part to come.
 abbrev pub turn : Part → Begun → Begun
 turn part b =
     record { part = part; care = b .care; value = b .value; bounds = b .bounds; target = b .target; reset = b .reset }
@@ -216,21 +229,26 @@ onSignal b v i =
 abbrev pub atLeastOf : ℕ → Bound → Bound
 atLeastOf n b = record { low = max n (b .low); high = b .high }
 
+-- At most n, and what was said before.
 abbrev pub atMostOf : ℕ → Bound → Bound
 atMostOf n b = record { low = b .low; high = min n (b .high) }
 
+-- The bound of clock k, changed by f.
 unfoldable pub change : (Bound → Bound) → ℕ → List Bound → List Bound
 change f k [] = []
 change f zero (b ∷ bs) = f b ∷ bs
 change f (suc k) (b ∷ bs) = b ∷ change f k bs
 
+-- A condition on clock k.
 unfoldable pub onBound : Begun → ℕ → (Bound → Bound) → Begun
 onBound b k f =
     record { part = more; care = b .care; value = b .value; bounds = change f k (b .bounds); target = b .target; reset = b .reset }
 
+-- The target t; 255 is a violation.
 unfoldable pub onTarget : Begun → ℕ → Begun
 onTarget b t = record { part = gone; care = b .care; value = b .value; bounds = b .bounds; target = t; reset = b .reset }
 
+-- A clock to be reset. 31: it is one already.
 unfoldable pub onReset : Begun → ℕ → Answer Begun
 onReset b k =
     must (unset (b .reset) k) 31 (gives (record {
@@ -249,6 +267,7 @@ pub record Scope : Type 0 where
   pub clocks : List Word
   pub places : List Word
 
+-- What the rules of a draft may name.
 abbrev pub scope : Draft → Scope
 scope d = record { letters = tags d; names = d .names; clocks = d .clocks; places = d .places }
 
@@ -257,6 +276,7 @@ abbrev pub signalBy : List ℕ → List Word → Word → Option ℕ
 signalBy letters names [] = none
 signalBy letters names (c ∷ cs) = cond (isCapital c) (find 0 (c ∷ cs) (lettersOf letters)) (find 0 (c ∷ cs) names)
 
+-- The signal that a word names in a scope.
 unfoldable pub signal : Scope → Word → Option ℕ
 signal d w = signalBy (d .letters) (d .names) w
 
@@ -272,6 +292,7 @@ module _ (d : Scope) (b : Begun) where
   condition (c ∷ cs) =
       cond (eqb c 33) (known (signal d cs) (onSignal b 0)) (signalOr (c ∷ cs) (signal d (c ∷ cs)))
 
+  -- What the next word says, by the part that may come.
   unfoldable pub wordAt : Part → Word → Answer Begun
   wordAt opening w = cond (is "any" w) (gives (turn arrow b)) (condition w)
   wordAt more w = cond (is "->" w) (gives (turn goes b)) (condition w)
@@ -284,6 +305,7 @@ module _ (d : Scope) (b : Begun) where
   wordAt gone w = must (is "reset" w) 30 (gives (turn clears b))
   wordAt clears w = known (find 0 w (d .clocks)) (onReset b)
 
+-- What the next word of a rule says.
 abbrev pub ruleWord : Scope → Begun → Word → Answer Begun
 ruleWord d b w = wordAt d b (b .part) w
 
@@ -299,6 +321,7 @@ ends b goes = false
 ends b gone = true
 ends b clears = ltb 0 (b .reset)
 
+-- The rule that the words have said: the bits of the inputs are the low ones.
 unfoldable pub ruleOf : Draft → ℕ → Begun → Rule
 ruleOf d source b =
     let inputs = 2 ^ length (d .inputs) in
@@ -314,6 +337,7 @@ ruleOf d source b =
     }
 
 module _ (d : Draft) where
+  -- One rule more.
   unfoldable pub addRule : Rule → Draft
   addRule r =
       record {
@@ -337,6 +361,7 @@ module _ (d : Draft) where
       must (ends b (b .part)) 30 (must (boundsGood (d .ceilings) (b .bounds)) 7
       (must (ltb (length (d .rules)) 256) 33 (gives (addRule (ruleOf d source b)))))
 
+  -- One line, by its first word. A line without words says nothing.
   unfoldable pub readLine : Line → Answer Draft
   readLine [] = gives d
   readLine (w ∷ ws) =
@@ -357,6 +382,7 @@ abbrev pub proceed : ℕ → Answer Draft → (Draft → FromText Draft) → Fro
 proceed line (refused n) go = stops n line
 proceed line (gives d) go = go d
 
+-- All lines, or the first refusal with its line.
 unfoldable pub readLines : ℕ → Draft → List Line → FromText Draft
 readLines line d [] = reads d
 readLines line d (l ∷ ls) = proceed line (readLine d l) (λ e. readLines (suc line) e ls)
@@ -374,10 +400,12 @@ policyFrom reading d =
       rules = d .rules;
     }
 
+-- The policy that the lines say, or their refusal.
 abbrev pub saidBy : ℕ → FromText Draft → FromText Policy
 saidBy reading (stops n line) = stops n line
 saidBy reading (reads d) = reads (policyFrom reading d)
 
+-- The policy that a text says, or its refusal.
 unfoldable pub policyFromText : ℕ → List ℕ → FromText Policy
 policyFromText reading text = saidBy reading (readLines 1 empty (linesOf text))
 
@@ -386,9 +414,11 @@ abbrev pub passed : ℕ → List ℕ → FromText (List ℕ)
 passed zero f = reads f
 passed (suc n) f = stops (suc n) 0
 
+-- The bytes of a policy, if they pass the check.
 abbrev pub filed : FromText Policy → FromText (List ℕ)
 filed (stops n line) = stops n line
 filed (reads p) = passed (refusalOf (bytesOf p)) (bytesOf p)
 
+-- The file that a text gives, or its refusal.
 unfoldable pub fileFromText : List ℕ → FromText (List ℕ)
 fileFromText text = filed (policyFromText 1 text)

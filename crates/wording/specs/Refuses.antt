@@ -1,4 +1,5 @@
 -- What a line is refused by: 4, 7 or 30 to 34.
+-- In order: the numbers; each step keeps to them; each kind of line does; so does a text, and the line is one of its own.
 use mathlib.Core.Path.{_≡_, refl, ap, sym, _∙_}
 use mathlib.Core.Bool.{Bool, true, false, cond, _&&_, _||_, and-eq-true-iff}
 use mathlib.Core.List.{List, [], _∷_}
@@ -21,6 +22,7 @@ use Rattle.wording.specs.Reader.{stops, proceed, readLines}
 abbrev pub inLine : ℕ → Bool
 inLine n = eqb n 4 || (eqb n 7 || (leb 30 n && leb n 34))
 
+-- Each of them is from 1 to 34.
 pub in-line-few : (n : ℕ) → inLine n ≡ true → (0 < n) × (n ≤ 34)
 in-line-few n h = go (eqb n 4) refl (eqb n 7) refl h
   where
@@ -158,6 +160,7 @@ module _ (d : Draft) where
       (known-through (ruleWord (scope d)) (λ b w. known-word b (b .part) w) (bare (length (d .clocks))) ws)
       (λ b. known-must (ends b (b .part)) 30 _ refl (known-must (boundsGood (d .ceilings) (b .bounds)) 7 _ refl (known-must (ltb (length (d .rules)) 256) 33 _ refl fine)))
 
+  -- A line is refused by one of them, if at all.
   pub known-line : (l : Line) → Known (readLine d l)
   unfolding readLine inputLine outputLine
   known-line [] = fine
@@ -172,6 +175,7 @@ module _ (d : Draft) where
 abbrev pub Numbered : (first count n line : ℕ) → Type 0
 Numbered first count n line = (inLine n ≡ true) × (first ≤ line) × (line < first + count)
 
+-- Lines that are refused are refused by one of them, in one of these lines.
 pub in-line : (first : ℕ) (d : Draft) (ls : List Line) (n line : ℕ) → readLines first d ls ≡ stops n line → Numbered first (length ls) n line
 unfolding readLines
 in-line first d [] n line h = absurd (let z : _≡_ {A = ℕ} 0 1 = cc in omega arith)

@@ -1,4 +1,5 @@
 -- Names may be changed: words that are other names are read alike.
+-- In order: what a renaming is; words that it may change; what it does to words compared, found, and read as letters or numbers; the words of a rule.
 use mathlib.Core.Path.{_≡_, refl, ap, sym, _∙_}
 use mathlib.Core.Bool.{Bool, true, false, cond, false≢true}
 use mathlib.Core.List.{List, [], _∷_, _++_}
@@ -26,18 +27,22 @@ pub record Renaming : Type 0 where
   pub other : (c : ℕ) (cs : Word) → isName (c ∷ cs) ≡ false → eqb c 33 ≡ false → to (c ∷ cs) ≡ c ∷ cs
   pub nothing : to [] ≡ []
 
+-- Each word of a list, changed by f.
 abbrev pub each : (Word → Word) → List Word → List Word
 each f [] = []
 each f (w ∷ ws) = f w ∷ each f ws
 
+-- Each word of each line, changed by f.
 abbrev pub eachLine : (Word → Word) → List Line → List Line
 eachLine f [] = []
 eachLine f (l ∷ ls) = each f l ∷ eachLine f ls
 
+-- There are as many words as before.
 pub each-length : (f : Word → Word) (ws : List Word) → length (each f ws) ≡ length ws
 each-length f [] = refl
 each-length f (w ∷ ws) = ap suc (each-length f ws)
 
+-- One word more is changed as the others are.
 pub each-more : (f : Word → Word) (ws : List Word) (w : Word) → each f (ws ++ (w ∷ [])) ≡ each f ws ++ (f w ∷ [])
 each-more f [] w = refl
 each-more f (v ∷ ws) w = ap (λ (z : List Word). f v ∷ z) (each-more f ws w)
@@ -88,6 +93,7 @@ module _ (r : Renaming) where
       go false e true f = name-word f
       go false e false f = other-word c cs e (r .other c cs f e)
 
+  -- Renamed words are the same exactly if they were before.
   pub same-to : (v w : Word) → same (r .to v) (r .to w) ≡ same v w
   same-to v w = go (same v w) refl
     where
@@ -99,14 +105,17 @@ module _ (r : Renaming) where
       go true e = ap (λ (z : Word). same (r .to v) (r .to z)) (sym (same-true v w e)) ∙ same-self (r .to v)
       go false e = no (same (r .to v) (r .to w)) refl e
 
+  -- A renamed word is found among renamed ones where it was before.
   pub find-to : (i : ℕ) (w : Word) (vs : List Word) → find i (r .to w) (each (r .to) vs) ≡ find i w vs
   unfolding find
   find-to i w [] = refl
   find-to i w (v ∷ vs) = rw (same-to v w, find-to (suc i) w vs)
 
+  -- A renaming does not change whether a word is a given one that is no name and begins with no `!`.
   pub stays : (c : ℕ) (cs : Word) → isName (c ∷ cs) ≡ false → eqb c 33 ≡ false → (w : Word) → same (r .to w) (c ∷ cs) ≡ same w (c ∷ cs)
   stays c cs e f w = ap (same (r .to w)) (sym (r .other c cs e f)) ∙ same-to w (c ∷ cs)
 
+  -- A word is the same letter after a renaming, or is refused alike.
   pub letter-to : (before : List ℕ) (w : Word) → letter before (r .to w) ≡ letter before w
   letter-to before w = go (case-of w)
     where
@@ -116,6 +125,7 @@ module _ (r : Renaming) where
       go (name-word {w = w} h) = name-letter before (r .to w) (r .named w ∙ h) ∙ sym (name-letter before w h)
       go (other-word c cs e f) = ap (letter before) f
 
+  -- A word is the same number after a renaming, or is refused alike.
   pub numbered-to : {A : Type 0} (w : Word) (next : ℕ → Answer A) → numbered (r .to w) next ≡ numbered w next
   numbered-to w next = go (case-of w)
     where
@@ -138,6 +148,7 @@ module _ (r : Renaming) where
           ap (signalBy letters (each (r .to) names)) f
           ∙ ap (cond (isCapital c) (find 0 (c ∷ cs) (lettersOf letters))) (ap (λ (v : Word). find 0 v (each (r .to) names)) (sym f) ∙ find-to 0 (c ∷ cs) names)
 
+  -- A scope with its names renamed.
   abbrev pub scoped : Scope → Scope
   scoped s = record { letters = s .letters; names = each (r .to) (s .names); clocks = each (r .to) (s .clocks); places = each (r .to) (s .places) }
 
@@ -177,6 +188,7 @@ module _ (r : Renaming) where
     word-to gone w = rw (stays 114 _ refl refl w)
     word-to clears w = rw (find-to 0 w (s .clocks))
 
+  -- The words of a rule say the same after a renaming, if what they may name is renamed too.
   pub words-to : (s : Scope) (b : Begun) (ws : Line) → through (ruleWord (scoped s)) b (each (r .to) ws) ≡ through (ruleWord s) b ws
   unfolding through
   words-to s b [] = refl

@@ -1,4 +1,5 @@
 -- A text in which each name gives way to another, and no two to one, is read alike.
+-- In order: answers and drafts with the names changed; the tests of each kind of line; each kind of line; all lines; the text.
 use mathlib.Core.Path.{_≡_, refl, ap, sym, _∙_}
 use mathlib.Core.Bool.{Bool, true, false, cond, _&&_}
 use mathlib.Core.List.{List, [], _∷_, _++_}

@@ -1,4 +1,5 @@
 -- The line of a rule is read as that rule.
+-- In order: how the line of a rule begins; the conditions and the arrow; the target and the resets; the bounds; what was declared before; the rule.
 use mathlib.Core.Path.{_≡_, refl, ap, sym, _∙_}
 use mathlib.Core.Bool.{Bool, true, false, cond, not, _||_, and-eq-true-iff, false≢true, or-true}
 use mathlib.Core.List.{List, [], _∷_, _++_, append-nil}
@@ -67,6 +68,7 @@ starts-bounds k (b ∷ bs) =
     starts-both (starts-when (ltb 0 (b .low)) (clockName k) (ascii ">=" ∷ decimal (b .low) ∷ []) (clock-plain k))
     (starts-both (starts-when (ltb (b .high) 65535) (clockName k) (ascii "<=" ∷ decimal (b .high) ∷ []) (clock-plain k)) (starts-bounds (suc k) bs))
 
+-- The conditions that are written begin with no word of the language.
 pub starts-conditions : (p : Policy) (r : Rule) → Starts (conditionWords p r)
 unfolding conditionWords
 starts-conditions p r =
@@ -79,6 +81,7 @@ neither true b h = absurd (false≢true h)
 neither false b h = (refl, h)
 
 module _ (w : Word) (h : isPlain w ≡ true) where
+  -- A plain word begins no declaration and no `at`, and is neither `any` nor the arrow.
   pub plain-words : (is "input" w ≡ false) × (is "output" w ≡ false) × (is "clock" w ≡ false) × (is "location" w ≡ false) × (is "at" w ≡ false)
       × (is "any" w ≡ false) × (is "->" w ≡ false)
   unfolding isPlain
@@ -102,6 +105,7 @@ any-line : (d : Draft) (ws : Line) → readLine d (ascii "any" ∷ ws) ≡ ruleL
 unfolding readLine same
 any-line d ws = refl
 
+-- A line that begins with such conditions, or with `any`, is read as a rule.
 pub rule-line : (d : Draft) (ws rest : Line) → Starts ws → readLine d (orAny ws ++ rest) ≡ ruleLine d (orAny ws ++ rest) (d .source)
 rule-line d [] rest starts-none = any-line d rest
 rule-line d (w ∷ ws) rest (starts-plain h) = plain-line w h d (ws ++ rest)
@@ -136,6 +140,7 @@ module _ (d : Draft) (n : ℕ) where
   unfolding through
   plain-read w ws h = rw (word-first w h)
 
+  -- Conditions and the arrow, or `any` and the arrow, are read: then the target comes.
   pub opened : (ws rest : Line) (care value : ℕ) (bounds : List Bound) → Starts ws → through (ruleWord (scope d)) first ws ≡ gives (saying care value bounds) →
       through (ruleWord (scope d)) (bare n) (orAny ws ++ (ascii "->" ∷ rest)) ≡ through (ruleWord (scope d)) (turn goes (saying care value bounds)) rest
   opened [] rest care value bounds starts-none h =
@@ -159,6 +164,7 @@ abbrev ended : Part → Begun → ℕ → Begun
 ended part b mask =
     record { part = part; care = b .care; value = b .value; bounds = b .bounds; target = b .target; reset = mask }
 
+-- For an empty mask no name is written.
 pub resets-none : (k j : ℕ) → resetNames k j 0 ≡ []
 unfolding resetNames
 resets-none k zero = refl
@@ -314,6 +320,7 @@ module _ (p : Policy) (w : WellFormed p) (d : Draft) (k : Declared p d) (r : Rul
   unfolding ruleLine
   rule-made room part read ends = rw (clock-count, read, ends, fits, lt-ltb (length (d .rules)) 256 room, rule-said part)
 
+  -- The line that is written for a rule adds that rule.
   pub rule-read : d .source ≡ some (r .source) → length (d .rules) < 256 → readLine d (ruleWords p r) ≡ gives (addRule d r)
   unfolding ruleWords
   rule-read source room =

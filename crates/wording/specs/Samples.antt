@@ -80,6 +80,7 @@ lettersValve = ascii "input C\ninput P\noutput V\nclock age 6\nlocation idle\nlo
 abbrev writtenValve : List ℕ
 writtenValve = ascii "input C\ninput P\noutput V\nclock t0 6\nlocation q0\nlocation q1 must be left\n\nat q0\n  C -> q1 reset t0\n  V -> violation\n  any -> q0\n\nat q1\n  V t0 <= 4 -> q1\n  !V -> q0\n"
 
+-- S, D, T, K and N: which file each text gives, and which text is written for a file.
 pub samples : (fileFromText textS ≡ reads S)
     × (textOfFile S ≡ writtenS)
     × (fileFromText writtenS ≡ reads S)

@@ -1,4 +1,5 @@
 -- After every line each name that was noted stands for the signal of its letter.
+-- In order: what it means that names stand for signals; one signal more; what a line notes; all kinds of lines.
 use mathlib.Core.Path.{_≡_, refl, ap, sym, _∙_}
 use mathlib.Core.Bool.{Bool, true, false, cond, _||_}
 use mathlib.Core.List.{List, [], _∷_, _++_, append-assoc, append-nil}
@@ -30,10 +31,12 @@ pub record Stands (letters : List ℕ) (names : List Word) (s : Named) : Type 0 
   pub name : isName (s .name) ≡ true
   pub capital : isCapital (s .letter) ≡ true
 
+-- Each of these names stands so.
 pub data AllStand (letters : List ℕ) (names : List Word) : List Named → Type 0 where
   stand-none : AllStand letters names []
   stand-more : {s : Named} {ss : List Named} → Stands letters names s → AllStand letters names ss → AllStand letters names (s ∷ ss)
 
+-- Each of these names stands so in the draft d.
 abbrev pub StandsIn : Draft → List Named → Type 0
 StandsIn d ss = AllStand (tags d) (d .names) ss
 
@@ -151,6 +154,7 @@ module _ (d : Draft) (g : Good d) {ss : List Named} (k : StandsIn d ss) where
   unfolding noted
   blank-noted = k
 
+  -- After a line that is read, each name noted so far stands for the signal of its letter.
   pub line-noted : (l : Line) → Keeps (λ e. StandsIn e (noted ss l)) (readLine d l)
   unfolding readLine inputLine outputLine
   line-noted [] = goes-on blank-noted

@@ -17,6 +17,7 @@ use Rattle.wording.specs.RenamedReads.{renamed-alike}
 abbrev swap : Word → Word → Word → Word
 swap a b w = cond (same w a) b (cond (same w b) a w)
 
+-- The name b for a and a for b, also behind an `!`; any other word as it is.
 unfoldable pub swapped : Word → Word → Word → Word
 swapped a b [] = []
 swapped a b (c ∷ cs) = cond (eqb c 33) (33 ∷ swapped a b cs) (swap a b (c ∷ cs))
@@ -111,6 +112,7 @@ module _ (a b : Word) (na : isName a ≡ true) (nb : isName b ≡ true) where
         nothing = refl;
       }
 
+  -- A text with two names swapped gives the same file, or the same refusal in the same line.
   pub names-swapped : (text other : List ℕ) → linesOf other ≡ eachLine (swapped a b) (linesOf text) → fileFromText other ≡ fileFromText text
   unfolding swapping
   names-swapped text other e = renamed-alike swapping text other e

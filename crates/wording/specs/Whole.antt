@@ -32,6 +32,7 @@ alone : (c : ℕ) → 0 < kind c → whole (c ∷ []) ≡ true
 unfolding whole allOf
 alone c h = rw (lt-ltb 0 (kind c) h)
 
+-- The words of any line are whole.
 pub words-whole : (cs : List ℕ) → AllWhole (wordsOf cs)
 unfolding wordsOf
 words-whole [] = whole-none
@@ -51,6 +52,7 @@ words-whole (c ∷ cs) = go (eqb c 35) (eqb (kind c) 0) refl (eqb (firstKind cs)
     go false false e true f k = join cs (eqb-true (firstKind cs) (kind c) f) (positive (kind c) e) k
     go false false e false f k = whole-more (alone c (positive (kind c) e)) k
 
+-- The words of every line of a text are whole.
 pub lines-whole : (text : List ℕ) → EachWhole (linesOf text)
 unfolding linesOf
 lines-whole text = go (split text)

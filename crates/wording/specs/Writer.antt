@@ -15,9 +15,11 @@ use Rattle.wording.specs.Names.{is, isPlain, nameOf}
 abbrev pub clockName : ℕ → Word
 clockName = nameOf 116
 
+-- The name of location k.
 abbrev pub placeName : ℕ → Word
 placeName = nameOf 113
 
+-- A line for each clock: its name and its ceiling.
 unfoldable pub clockLines : ℕ → List ℕ → List Line
 clockLines k [] = []
 clockLines k (c ∷ cs) = (ascii "clock" ∷ clockName k ∷ decimal c ∷ []) ∷ clockLines (suc k) cs
@@ -27,6 +29,7 @@ abbrev pub leftWords : Bool → Line
 leftWords true = ascii "must" ∷ ascii "be" ∷ ascii "left" ∷ []
 leftWords false = []
 
+-- A line for each location: its name, and whether it must be left.
 unfoldable pub locationLines : ℕ → List ℕ → List Line
 locationLines k [] = []
 locationLines k (b ∷ bs) = (ascii "location" ∷ placeName k ∷ leftWords (eqb b 1)) ∷ locationLines (suc k) bs
@@ -41,6 +44,7 @@ abbrev pub when : Bool → Line → Line
 when true ws = ws
 when false ws = []
 
+-- The lowest bit is set.
 abbrev pub odd : ℕ → Bool
 odd n = eqb (n % 2) 1
 
@@ -49,14 +53,17 @@ abbrev pub signalWord : ℕ → Bool → Word
 signalWord t true = t ∷ []
 signalWord t false = 33 ∷ t ∷ []
 
+-- A word for each signal whose care bit is set.
 unfoldable pub signalWords : List ℕ → (care value : ℕ) → Line
 signalWords [] care value = []
 signalWords (t ∷ ts) care value =
     when (odd care) (signalWord t (odd value) ∷ []) ++ signalWords ts (care / 2) (value / 2)
 
+-- At least n, as `t0 >= 3`.
 abbrev pub lowWords : ℕ → ℕ → Line
 lowWords k n = clockName k ∷ ascii ">=" ∷ decimal n ∷ []
 
+-- At most n, as `t0 <= 4`.
 abbrev pub highWords : ℕ → ℕ → Line
 highWords k n = clockName k ∷ ascii "<=" ∷ decimal n ∷ []
 
@@ -67,10 +74,12 @@ boundWords k (b ∷ bs) =
     when (ltb 0 (b .low)) (lowWords k (b .low))
     ++ (when (ltb (b .high) 65535) (highWords k (b .high)) ++ boundWords (suc k) bs)
 
+-- `any` where no condition is left.
 abbrev pub orAny : Line → Line
 orAny [] = ascii "any" ∷ []
 orAny (w ∷ ws) = w ∷ ws
 
+-- The location's name, or `violation` for 255.
 unfoldable pub targetWord : ℕ → Word
 targetWord t = cond (eqb t 255) (ascii "violation") (placeName t)
 
@@ -79,6 +88,7 @@ unfoldable pub resetNames : (k n mask : ℕ) → Line
 resetNames k zero mask = []
 resetNames k (suc n) mask = when (odd mask) (clockName k ∷ []) ++ resetNames (suc k) n (mask / 2)
 
+-- `reset` before the names of clocks, if there are any.
 abbrev pub afterReset : Line → Line
 afterReset [] = []
 afterReset (w ∷ ws) = ascii "reset" ∷ w ∷ ws
@@ -88,25 +98,30 @@ abbrev pub isAt : Option ℕ → ℕ → Bool
 isAt none source = false
 isAt (some before) source = eqb before source
 
+-- An empty line and the `at`, or nothing if the location is the same.
 abbrev pub atLines : Bool → ℕ → List Line
 atLines true source = []
 atLines false source = [] ∷ (ascii "at" ∷ placeName source ∷ []) ∷ []
 
 module _ (p : Policy) where
+  -- The conditions of a rule: inputs, outputs, bounds.
   unfoldable pub conditionWords : Rule → Line
   conditionWords r =
       signalWords (p .inputs) (r .inCare) (r .inValue)
       ++ (signalWords (p .outputs) (r .outCare) (r .outValue) ++ boundWords 0 (r .bounds))
 
+  -- The line of a rule.
   unfoldable pub ruleWords : Rule → Line
   ruleWords r =
       orAny (conditionWords r)
       ++ (ascii "->" ∷ targetWord (r .target) ∷ afterReset (resetNames 0 (length (p .ceilings)) (r .reset)))
 
+  -- The lines of some rules, each location's behind its `at`.
   unfoldable pub ruleLines : Option ℕ → List Rule → List Line
   ruleLines before [] = []
   ruleLines before (r ∷ rs) = atLines (isAt before (r .source)) (r .source) ++ (ruleWords r ∷ ruleLines (some (r .source)) rs)
 
+  -- All lines, in the order of the file.
   unfoldable pub policyLines : List Line
   policyLines =
       signalLines (ascii "input") (p .inputs) ++ (signalLines (ascii "output") (p .outputs)
@@ -117,6 +132,7 @@ abbrev pub margin : Line → ℕ
 margin [] = 0
 margin (w ∷ ws) = cond (isPlain w || is "any" w) 2 0
 
+-- The text of a policy.
 unfoldable pub textOf : Policy → List ℕ
 textOf p = laid margin (policyLines p)
 

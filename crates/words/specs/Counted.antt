@@ -34,6 +34,7 @@ pub record Counted (w : Word) (i v : ℕ) : Type 0 where
   pub digits : every isDigit (take i w) ≡ true
   pub value : v ≡ min (valueFrom 0 (take i w)) 65536
 
+-- No byte is counted yet: 0.
 pub counted-none : (w : Word) → Counted w 0 0
 unfolding every valueFrom
 counted-none w = record { digits = refl; value = refl }
@@ -42,6 +43,7 @@ digit-true : (c : ℕ) → 48 ≤ c → c ≤ 57 → isDigit c ≡ true
 unfolding isDigit
 digit-true c a b = rw (le-leb 48 c a, le-leb c 57 b)
 
+-- One digit more: ten times the number and the digit, but no more than 65,536.
 pub counted-more : (w : Word) (i v : ℕ) → i < length w → Counted w i v → 48 ≤ getD w i 0 → getD w i 0 ≤ 57 →
     Counted w (i + 1) (min (v * 10 + (getD w i 0 - 48)) 65536)
 counted-more w i v h k a b =
@@ -68,6 +70,7 @@ refuses : (w : Word) → isNumber w ≡ false → numberOf w ≡ refused 30
 unfolding numbered
 refuses w h = rw h
 
+-- A word of no bytes is no number: 30.
 pub number-none : (w : Word) → length w ≤ 0 → answer 30 0 ≡ numberOf w
 unfolding isNumber
 number-none [] h = sym (refuses [] refl)
@@ -77,6 +80,7 @@ digit-range : (c : ℕ) → isDigit c ≡ true → (48 ≤ c) × (c ≤ 57)
 unfolding isDigit
 digit-range c h = let both = and-eq-true-iff (leb 48 c) _ .0 h in (leb-true 48 c (both .0), leb-true c 57 (both .1))
 
+-- A word with a byte that is no digit is no number: 30.
 pub number-not : (w : Word) (i : ℕ) → i < length w → ((48 ≤ getD w i 0) × (getD w i 0 ≤ 57) → ⊥) → answer 30 0 ≡ numberOf w
 number-not w i h n = sym (refuses w (go (isNumber w) refl))
   where
@@ -94,10 +98,12 @@ module _ (w : Word) (i v : ℕ) (whole : i ≡ length w) (some-one : 0 < length 
   said : v ≡ min (valueFrom 0 w) 65536
   said = rw all-taken at (k .value)
 
+  -- All bytes are digits, and they say more than 65,535: 32.
   pub number-large : 65535 < v → answer 32 0 ≡ numberOf w
   unfolding numbered
   number-large h = rw (is-number, lt-leb (valueFrom 0 w) 65535 (omega (arith, said)))
 
+  -- All bytes are digits, and they say at most 65,535: the number is given.
   pub number-given : v ≤ 65535 → answer 0 v ≡ numberOf w
   unfolding numbered
   number-given h =

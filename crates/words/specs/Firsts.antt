@@ -13,6 +13,7 @@ use Rattle.wording.specs.Words.{Word, Line, wordsOf}
 use Rattle.words.specs.Lex.{blanks, Next}
 use Rattle.words.specs.declared.firsts.Few.{Few}
 
+-- What follows the first a bytes of a line that ends at e, as a part of the text.
 pub drop-take : (a e : ℕ) (l : List ℕ) → drop a (take e l) ≡ take (e - a) (drop a l)
 drop-take zero e l = let s : e ≡ e - 0 = omega arith in ap (λ (n : ℕ). take n l) s
 drop-take (suc a) zero l = let s : 0 ≡ 0 - suc a = omega arith in ap (λ (n : ℕ). take n (drop (suc a) l)) s
@@ -29,6 +30,7 @@ pub record NextIn (text : List ℕ) (end at start stop : ℕ) : Type 0 where
   pub within : stop ≤ end
   pub words : wordsOf (part text at (end - at)) ≡ cond (ltb start stop) (part text start (stop - start) ∷ wordsOf (part text stop (end - stop))) []
 
+-- The next word of the text up to `end` is that of the line which ends there.
 pub next-in : (text : List ℕ) (end at start stop : ℕ) → end ≤ length text → Next (take end text) at start stop → NextIn text end at start stop
 next-in text end at start stop h n =
     let long = length-take end text in
@@ -45,9 +47,11 @@ next-in text end at start stop h n =
     }
 
 module _ {text : List ℕ} {end at start stop : ℕ} (n : NextIn text end at start stop) where
+  -- No word was found: the line has none from `at` on.
   pub in-none : stop ≤ start → wordsOf (part text at (end - at)) ≡ []
   in-none h = n .words ∙ rw (le-ltb start stop h)
 
+  -- A word was found: it is the next, and the words after its end follow it.
   pub in-word : start < stop → wordsOf (part text at (end - at)) ≡ part text start (stop - start) ∷ wordsOf (part text stop (end - stop))
   in-word h = n .words ∙ rw (lt-ltb start stop h)
 
@@ -58,6 +62,7 @@ Shaped (suc zero) v w l = (l ≡ v ∷ []) × (w ≡ [])
 Shaped (suc (suc zero)) v w l = l ≡ v ∷ w ∷ []
 Shaped (suc (suc (suc n))) v w l = (u : Word) × (us : Line) × (l ≡ v ∷ w ∷ u ∷ us)
 
+-- What f says of the line from `at` to `end`: how many words, 3 for more than two, and where the first two stand.
 pub record Firsts (text : List ℕ) (end at : ℕ) (f : Few) : Type 0 where
   pub line : Shaped (f .count) (part text (f .start) (f .end - f .start)) (part text (f .from) (f .to - f .from)) (wordsOf (part text at (end - at)))
   pub order : f .start ≤ f .end
@@ -71,10 +76,12 @@ no-word text a b h = let e : b - a ≡ 0 = omega arith in ap (λ (n : ℕ). take
 
 -- The four answers.
 module _ {text : List ℕ} {end at start stop : ℕ} (n : NextIn text end at start stop) where
+  -- The line has no word.
   pub few-none : stop ≤ start → Firsts text end at (record { count = 0; start = start; end = stop; from = stop; to = stop })
   few-none h = record { line = in-none n h; order = n .order; next = omega arith; after = omega arith; within = n .within }
 
   module _ {start′ stop′ : ℕ} (h : start < stop) (m : NextIn text end stop start′ stop′) where
+    -- The line has one word.
     pub few-one : stop′ ≤ start′ → Firsts text end at (record { count = 1; start = start; end = stop; from = start′; to = stop′ })
     few-one l =
         record {
@@ -86,6 +93,7 @@ module _ {text : List ℕ} {end at start stop : ℕ} (n : NextIn text end at sta
         }
 
     module _ {from′ to′ : ℕ} (l : start′ < stop′) (k : NextIn text end stop′ from′ to′) where
+      -- The line has two words.
       pub few-two : to′ ≤ from′ → Firsts text end at (record { count = 2; start = start; end = stop; from = start′; to = stop′ })
       few-two g =
           record {
@@ -96,6 +104,7 @@ module _ {text : List ℕ} {end at start stop : ℕ} (n : NextIn text end at sta
             within = m .within;
           }
 
+      -- The line has more than two words.
       pub few-more : from′ < to′ → Firsts text end at (record { count = 3; start = start; end = stop; from = start′; to = stop′ })
       few-more g =
           record {

@@ -1,4 +1,6 @@
 -- The words of the language by number, looked up once: each test for one of them is then a test of the number.
+-- In order: the words and the code's table of them; what a search of the table says; that no two are the same; which of them no name may be; what a
+-- name is, byte by byte.
 use mathlib.Core.Path.{_≡_, refl, ap, sym, _∙_}
 use mathlib.Core.Bool.{Bool, true, false, cond, not, _&&_, _||_, and-eq-true-iff, and-false, or-true, or-false, false≢true}
 use mathlib.Core.List.{List, [], _∷_}
@@ -16,6 +18,7 @@ use Rattle.wording.specs.Names.{same, find, isPlain, isLower, isDigit, every, i
 use Rattle.wording.specs.NamesBack.{same-self, same-true}
 use Rattle.words.specs.Spans.{spans, Within, placeBelow}
 
+-- The words of the language; the number of each is its place, counted from 0.
 abbrev pub keywords : List Word
 keywords =
     ascii "input" ∷ ascii "output" ∷ ascii "clock" ∷ ascii "location" ∷ ascii "at" ∷ ascii "any" ∷ ascii "->" ∷ ascii "violation" ∷ ascii "reset"
@@ -25,12 +28,15 @@ keywords =
 abbrev pub allWords : List ℕ
 allWords = ascii "inputoutputclocklocationatany->violationresetmustbeleft>=<="
 
+-- Where each word begins in `allWords`.
 abbrev pub wordStarts : List ℕ
 wordStarts = 0 ∷ 5 ∷ 11 ∷ 16 ∷ 24 ∷ 26 ∷ 29 ∷ 31 ∷ 40 ∷ 45 ∷ 49 ∷ 51 ∷ 55 ∷ 57 ∷ []
 
+-- Where each word ends in `allWords`.
 abbrev pub wordEnds : List ℕ
 wordEnds = 5 ∷ 11 ∷ 16 ∷ 24 ∷ 26 ∷ 29 ∷ 31 ∷ 40 ∷ 45 ∷ 49 ∷ 51 ∷ 55 ∷ 57 ∷ 59 ∷ []
 
+-- Cut out of the table, they are the words of the language.
 pub table-words : spans allWords wordStarts wordEnds 0 14 ≡ keywords
 unfolding spans
 table-words = refl
@@ -52,6 +58,7 @@ within-at long (a ∷ starts) (b ∷ ends) h zero l =
 within-at long (a ∷ starts) (b ∷ ends) h (suc k) l =
     within-at long starts ends (and-eq-true-iff (leb a b && leb b long) _ .0 h .1) k (omega arith)
 
+-- Each part of the table lies within its bytes.
 pub table-within : Within allWords wordStarts wordEnds 14
 unfolding withinAll
 table-within k h = within-at 59 wordStarts wordEnds refl k h
@@ -197,9 +204,11 @@ module _ (w : Word) (r : ℕ) (h : find 0 w keywords ≡ placeBelow 14 r) where
         k 11 (omega arith),
       )
 
+  -- A word with a number below 12 is one that no name may be.
   pub not-plain : r < 12 → isPlain w ≡ false
   not-plain l = plain-by ∙ plain-low r l
 
+  -- `>=`, `<=` and a word that was not found are none of the words that no name may be.
   pub is-plain : 12 ≤ r → isPlain w ≡ true
   is-plain l = plain-by ∙ plain-high r l
 
@@ -207,11 +216,13 @@ module _ (w : Word) (r : ℕ) (h : find 0 w keywords ≡ placeBelow 14 r) where
 abbrev pub inner : ℕ → Bool
 inner d = isLower d || (isDigit d || eqb d 95)
 
+-- A word of no bytes is no name.
 pub name-none : (w : Word) → length w ≡ 0 → false ≡ isName w
 unfolding isName
 name-none [] h = refl
 name-none (c ∷ cs) h = absurd (omega arith)
 
+-- A word of more than 16 bytes is no name.
 pub name-long : (w : Word) → 16 < length w → false ≡ isName w
 unfolding isName
 name-long [] h = absurd (omega arith)
@@ -222,51 +233,63 @@ name-long (c ∷ cs) h = rw (lt-leb (length cs) 15 (omega arith)) (sym (nothing 
     nothing true false = refl
     nothing false b = refl
 
+-- A word that does not begin with a lower-case letter is no name.
 pub name-first : (w : Word) → 0 < length w → false ≡ isLower (getD w 0 0) → false ≡ isName w
 unfolding isName
 name-first [] h e = absurd (omega arith)
 name-first (c ∷ cs) h e = rw (← e)
 
+-- A word with a wrong byte behind its first is no name.
 pub name-inner : (w : Word) → false ≡ every inner (drop 1 w) → false ≡ isName w
 unfolding isName every
 name-inner [] e = refl
 name-inner (c ∷ cs) e = rw (← e) (sym (and-false (isLower c)))
 
+-- A word that passes these tests is a name, unless it is a word of the language.
 pub name-plain : (w : Word) → 0 < length w → length w ≤ 16 → true ≡ isLower (getD w 0 0) → true ≡ every inner (drop 1 w) → isPlain w ≡ isName w
 unfolding isName
 name-plain [] h l e f = absurd (omega arith)
 name-plain (c ∷ cs) h l e f = rw (← e, ← f, le-leb (length cs) 15 (omega arith))
 
+-- A byte that may stand in a name: the bytes behind it decide.
 pub inner-on : (w : Word) (i : ℕ) → i < length w → true ≡ inner (getD w i 0) → every inner (drop i w) ≡ every inner (drop (i + 1) w)
 unfolding every
 inner-on w i h e = rw (add-one, drop-cons w i 0 h, ← e)
 
+-- A byte that may not stand in a name: the bytes from there on fail.
 pub inner-off : (w : Word) (i : ℕ) → i < length w → false ≡ inner (getD w i 0) → every inner (drop i w) ≡ false
 unfolding every
 inner-off w i h e = rw (drop-cons w i 0 h, ← e)
 
+-- At the end of the word no byte is left to fail.
 pub inner-end : (w : Word) (i : ℕ) → length w ≤ i → every inner (drop i w) ≡ true
 unfolding every
 inner-end w i h = rw (drop-of-length-le w h)
 
 -- A byte of a name.
 module _ (c : ℕ) where
+  -- A byte below `a` is no lower-case letter.
   pub lower-below : c < 97 → false ≡ isLower c
   lower-below h = rw (lt-leb 97 c h)
 
+  -- A byte from `a` on is a lower-case letter if it is at most `z`.
   pub lower-from : 97 ≤ c → leb c 122 ≡ isLower c
   lower-from h = rw (le-leb 97 c h)
 
+  -- A lower-case letter may stand in a name.
   pub inner-lower : isLower c ≡ true → true ≡ inner c
   inner-lower e = rw e
 
+  -- An underscore may stand in a name.
   pub inner-line : c ≡ 95 → true ≡ inner c
   inner-line e = rw (eq-eqb c 95 e, or-true (isDigit c)) (sym (or-true (isLower c)))
 
+  -- A byte below `0` may not stand in a name.
   pub inner-below : isLower c ≡ false → c < 48 → false ≡ inner c
   unfolding isDigit
   inner-below e h = rw (e, lt-leb 48 c h, ne-eqb c 95 (λ s. omega arith))
 
+  -- Any other byte from `0` on may stand in a name if it is at most `9`.
   pub inner-digit : isLower c ≡ false → (c ≡ 95 → ⊥) → 48 ≤ c → leb c 57 ≡ inner c
   unfolding isDigit
   inner-digit e n h = rw (e, le-leb 48 c h, ne-eqb c 95 n) (sym (or-false (leb c 57)))

@@ -1,4 +1,5 @@
 -- The next word of a line, found by counting: what the code does, and that it gives the words of the line.
+-- In order: blanks, and bytes of one kind; how both are counted at a position; the kind of a byte; the next word; two words compared; the next line.
 use mathlib.Core.Path.{_≡_, refl, ap, sym, _∙_}
 use mathlib.Core.Bool.{Bool, true, false, cond, not, _&&_, and-eq-true-iff, and-false, false≢true}
 use mathlib.Core.List.{List, [], _∷_}
@@ -17,10 +18,12 @@ use Rattle.wording.specs.Words.{Word, parts, isSign, kind, onto, wordsOf, split
 abbrev pub skips : ℕ → Bool
 skips c = eqb (kind c) 0 && not (eqb c 35)
 
+-- How many bytes at the front part words, as far as a comment.
 unfoldable pub blanks : List ℕ → ℕ
 blanks [] = 0
 blanks (c ∷ cs) = cond (skips c) (suc (blanks cs)) 0
 
+-- How many bytes at the front are of the kind k.
 unfoldable pub run : ℕ → List ℕ → ℕ
 run k [] = 0
 run k (c ∷ cs) = cond (eqb (kind c) k) (suc (run k cs)) 0
@@ -47,6 +50,7 @@ blank-first c cs h =
     let both = and-eq-true-iff (eqb (kind c) 0) _ .0 h in
     rw (not-true (eqb c 35) (both .1), both .0)
 
+-- Blanks at the front of a line change none of its words.
 pub after-blanks : (cs : List ℕ) → wordsOf cs ≡ wordsOf (drop (blanks cs) cs)
 unfolding blanks
 after-blanks [] = refl
@@ -73,45 +77,56 @@ module _ (l : List ℕ) where
   unfolding blanks
   blanks-done i h s = rw (at-byte i h, s)
 
+  -- At the end of the line there are no more blanks.
   pub blanks-end : (i : ℕ) → length l ≤ i → blanks (drop i l) ≡ 0
   unfolding blanks
   blanks-end i h = rw (past-end i h)
 
+  -- At a comment there are no more blanks.
   pub blanks-comment : (i : ℕ) → i < length l → getD l i 0 ≡ 35 → blanks (drop i l) ≡ 0
   blanks-comment i h e = blanks-done i h (rw (eq-eqb (getD l i 0) 35 e) (and-false (eqb (kind (getD l i 0)) 0)))
 
+  -- At a byte of a word there are no more blanks.
   pub blanks-word : (i : ℕ) → i < length l → (kind (getD l i 0) ≡ 0 → ⊥) → blanks (drop i l) ≡ 0
   blanks-word i h e = blanks-done i h (rw (ne-eqb (kind (getD l i 0)) 0 e))
 
+  -- At a byte that parts words there is one blank and those behind it.
   pub blanks-skip : (i : ℕ) → i < length l → (getD l i 0 ≡ 35 → ⊥) → kind (getD l i 0) ≡ 0 → blanks (drop i l) ≡ suc (blanks (drop (i + 1) l))
   blanks-skip i h e k = blanks-more i h (rw (eq-eqb (kind (getD l i 0)) 0 k, ne-eqb (getD l i 0) 35 e))
 
   module _ (k : ℕ) where
+    -- A byte of the kind k makes the run one longer.
     pub run-more : (i : ℕ) → i < length l → kind (getD l i 0) ≡ k → run k (drop i l) ≡ suc (run k (drop (i + 1) l))
     unfolding run
     run-more i h s = rw (at-byte i h, eq-eqb (kind (getD l i 0)) k s)
 
+    -- A byte of another kind ends the run.
     pub run-done : (i : ℕ) → i < length l → (kind (getD l i 0) ≡ k → ⊥) → run k (drop i l) ≡ 0
     unfolding run
     run-done i h s = rw (at-byte i h, ne-eqb (kind (getD l i 0)) k s)
 
+    -- The end of the line ends the run.
     pub run-end : (i : ℕ) → length l ≤ i → run k (drop i l) ≡ 0
     unfolding run
     run-end i h = rw (past-end i h)
 
 -- The kind of a byte by its range, and that of a byte which is none of those that part words or are of a sign.
 module _ (c : ℕ) where
+  -- A byte that neither parts words nor is of a sign has kind 1.
   pub kind-other : (c ≡ 32 → ⊥) → (c ≡ 9 → ⊥) → (c ≡ 13 → ⊥) → (c ≡ 10 → ⊥) → (c ≡ 35 → ⊥) → (c ≡ 45 → ⊥) → (c ≡ 60 → ⊥) → (c ≡ 61 → ⊥) → (c ≡ 62 → ⊥) → 1 ≡ kind c
   unfolding kind parts isSign
   kind-other space tab return feed hash dash below same above =
       rw (ne-eqb c 32 space, ne-eqb c 9 tab, ne-eqb c 13 return, ne-eqb c 10 feed, ne-eqb c 35 hash, ne-eqb c 45 dash, ne-eqb c 60 below, ne-eqb c 61 same, ne-eqb c 62 above)
 
+  -- A byte above `>` has kind 1.
   pub kind-above : 62 < c → 1 ≡ kind c
   kind-above h = kind-other (λ e. omega arith) (λ e. omega arith) (λ e. omega arith) (λ e. omega arith) (λ e. omega arith) (λ e. omega arith) (λ e. omega arith) (λ e. omega arith) (λ e. omega arith)
 
+  -- A byte between `-` and `<` has kind 1.
   pub kind-between : 45 < c → c < 60 → 1 ≡ kind c
   kind-between h l = kind-other (λ e. omega arith) (λ e. omega arith) (λ e. omega arith) (λ e. omega arith) (λ e. omega arith) (λ e. omega arith) (λ e. omega arith) (λ e. omega arith) (λ e. omega arith)
 
+  -- The bytes `<`, `=` and `>` have kind 2.
   pub kind-sign : 59 < c → c ≤ 62 → 2 ≡ kind c
   unfolding kind parts isSign
   kind-sign h l = go (c - 60) refl
@@ -160,6 +175,7 @@ blanks-stop (c ∷ cs) h = go (skips c) refl h (blanks-stop cs)
     go false s l rest = s
 
 module _ (l : List ℕ) (at : ℕ) (h : at ≤ length l) (start : ℕ) (e : start ≡ at + blanks (drop at l)) where
+  -- The position after the blanks is at most the end of the line.
   pub start-within : start ≤ length l
   start-within = omega (arith, blanks-le (drop at l), length-drop at l)
 
@@ -179,10 +195,12 @@ module _ (l : List ℕ) (at : ℕ) (h : at ≤ length l) (start : ℕ) (e : star
         words = words-start ∙ rw (le-ltb start start (omega arith)) n;
       }
 
+  -- Nothing but blanks up to the end: there is no next word.
   pub next-end : length l ≤ start → Next l at start start
   unfolding wordsOf
   next-end s = nothing (rw (past-end l start s))
 
+  -- A comment after the blanks: there is no next word.
   pub next-comment : start < length l → getD l start 0 ≡ 35 → Next l at start start
   unfolding wordsOf
   next-comment s c = nothing (rw (at-byte l start s, eq-eqb (getD l start 0) 35 c))
@@ -196,6 +214,7 @@ module _ (l : List ℕ) (at : ℕ) (h : at ≤ length l) (start : ℕ) (e : star
           absurd (false≢true (sym (start-plain s) ∙ t))
       go (suc k) z = omega arith
 
+  -- Else the next word begins there, and goes on as long as the kind is the same.
   pub next-word : start < length l → (getD l start 0 ≡ 35 → ⊥) → (k : ℕ) → k ≡ kind (getD l start 0) → (end : ℕ) → end ≡ start + 1 + run k (drop (start + 1) l) →
       Next l at start end
   next-word s c k kk end f =
@@ -220,6 +239,7 @@ module _ (l : List ℕ) (at : ℕ) (h : at ≤ length l) (start : ℕ) (e : star
 same-lengths : (v w : Word) → same v w ≡ true → length v ≡ length w
 same-lengths v w h = ap length (same-true v w h)
 
+-- Two words of different lengths are not the same.
 pub same-longer : (v w : Word) → (length v ≡ length w → ⊥) → same v w ≡ false
 same-longer v w h = go (same v w) refl
   where
@@ -228,10 +248,12 @@ same-longer v w h = go (same v w) refl
     go false e = refl
 
 module _ (v w : Word) (i : ℕ) where
+  -- An equal byte at i: the words compare from i on as they do from i + 1 on.
   pub same-on : i < length v → i < length w → getD v i 0 ≡ getD w i 0 → same (drop i v) (drop i w) ≡ same (drop (i + 1) v) (drop (i + 1) w)
   unfolding same
   same-on h l e = rw (at-byte v i h, at-byte w i l, eq-eqb (getD v i 0) (getD w i 0) e)
 
+  -- A different byte at i: the words are not the same.
   pub same-not : (getD v i 0 ≡ getD w i 0 → ⊥) → same v w ≡ false
   same-not h = go (same v w) refl
     where
@@ -239,6 +261,7 @@ module _ (v w : Word) (i : ℕ) where
       go true e = absurd (h (ap (λ (x : Word). getD x i 0) (same-true v w e)))
       go false e = refl
 
+  -- At the end of both words nothing differs any more.
   pub same-end : length v ≤ i → length w ≤ i → same (drop i v) (drop i w) ≡ true
   unfolding same
   same-end h l = rw (past-end v i h, past-end w i l)
@@ -279,18 +302,22 @@ pub record NextLine (text : List ℕ) (at end : ℕ) : Type 0 where
   pub lines : at < length text → split (drop at text) ≡ take (end - at) (drop at text) ∷ split (drop (end + 1) text)
 
 module _ (text : List ℕ) where
+  -- A byte other than a line feed makes the line one longer.
   pub line-more : (i : ℕ) → i < length text → (getD text i 0 ≡ 10 → ⊥) → lineLength (drop i text) ≡ suc (lineLength (drop (i + 1) text))
   unfolding lineLength
   line-more i h e = rw (at-byte text i h, ne-eqb (getD text i 0) 10 e)
 
+  -- A line feed ends the line.
   pub line-done : (i : ℕ) → i < length text → getD text i 0 ≡ 10 → lineLength (drop i text) ≡ 0
   unfolding lineLength
   line-done i h e = rw (at-byte text i h, eq-eqb (getD text i 0) 10 e)
 
+  -- The end of the text ends the line.
   pub line-last : (i : ℕ) → length text ≤ i → lineLength (drop i text) ≡ 0
   unfolding lineLength
   line-last i h = rw (past-end text i h)
 
+  -- The bytes counted up to a line feed give the line from `at` on.
   pub next-line : (at end : ℕ) → at ≤ length text → end ≡ at + lineLength (drop at text) → NextLine text at end
   next-line at end h e =
       record {

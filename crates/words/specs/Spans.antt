@@ -34,16 +34,19 @@ module _ (text starts ends : List ℕ) (w : Word) where
       let s : suc i ≡ i + 1 = omega arith in
       rw e (ap (λ (k : ℕ). part text (getD starts i 0) (getD ends i 0 - getD starts i 0) ∷ spans text starts ends k (n - (i + 1))) s)
 
+  -- The name at i is the word: it is found there.
   pub find-here : (i n : ℕ) → i < n → same (part text (getD starts i 0) (getD ends i 0 - getD starts i 0)) w ≡ true →
       find i w (spans text starts ends i (n - i)) ≡ placeBelow n i
   unfolding find
   find-here i n h e = rw (left-one i n h, e, lt-ltb i n h)
 
+  -- The name at i is another: the search goes on from i + 1.
   pub find-on : (i n : ℕ) → i < n → same (part text (getD starts i 0) (getD ends i 0 - getD starts i 0)) w ≡ false →
       find i w (spans text starts ends i (n - i)) ≡ find (i + 1) w (spans text starts ends (i + 1) (n - (i + 1)))
   unfolding find
   find-on i n h e = let s : suc i ≡ i + 1 = omega arith in rw (left-one i n h, e) (ap (λ (k : ℕ). find k w (spans text starts ends (i + 1) (n - (i + 1)))) s)
 
+  -- No name is left: the word is not found.
   pub find-nowhere : (i n : ℕ) → n ≤ i → find i w (spans text starts ends i (n - i)) ≡ placeBelow n i
   unfolding find spans
   find-nowhere i n h = let e : n - i ≡ 0 = omega arith in rw (e, le-ltb i n h)
