@@ -4,14 +4,15 @@ use mathlib.Core.Bool.{Bool, true, false, cond, false≢true}
 use mathlib.Core.List.{List}
 use mathlib.Core.Option.{Option, none, some, bind}
 use Prim.Native.Nat.{ℕ, _<_}
-use Rattle.streams.specs.ChooseLaws.{some-has, nearest-kept}
+use Rattle.streams.specs.ChooseLaws.{nearest-kept}
 use Rattle.policy.specs.Rules.{Policy, Place, inputValues, outputValues, stopped, step}
 use Rattle.policy.specs.Number.{numberFrom}
 use Rattle.policy.specs.declared.Layout.{Layout}
-use Rattle.stepping.specs.Tick.{arrives, reaches, mayStand, inputChoice, outputChoice, outputTick, tick}
+use Rattle.stepping.specs.Tick.{arrives, reaches, outputChoice, outputTick, tick}
 use Rattle.stepping.specs.Code.{eventXY, stepFrom}
 use Rattle.stepping.specs.State.{stateOf, isMarked}
 use Rattle.correcting.specs.Chosen.{tickFrom, output-chosen}
+use Rattle.correcting.specs.Choice.{input-stands}
 use Rattle.stepping.specs.declared.state.State.{State}
 use Rattle.stepping.specs.declared.next.Step.{Step}
 use Rattle.correcting.specs.declared.tick.Ticked.{Ticked}
@@ -72,8 +73,8 @@ module _ (p : Policy) (marks : List ℕ) (s : Place) (x y : ℕ) where
 
     -- The input half keeps x, so the tick is that of the output half.
     pub input-kept : x < inputValues p → tick p marks s (eventXY x y) ≡ outputTick p marks s x y
-    unfolding tick inputChoice mayStand bind
-    input-kept h = rw (nearest-kept (mayStand p marks s) x (inputValues p) h (some-has (reaches p marks s x) (outputValues p) y l r))
+    unfolding tick bind
+    input-kept h = rw (input-stands p marks s x y h l r)
 
   -- So an event that arrives is released as it was read, by the output half alone and by both.
   module _ (t : State) {r : Step} (e : r ≡ stepFrom t arrival) (h : r .permitted ≡ true) (l : y < outputValues p) where

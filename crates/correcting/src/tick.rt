@@ -1,8 +1,12 @@
 // One tick: the input first, without a look at y; then the output; then the state moves. An event that as read takes the state to a marked one is what both halves keep, so it is asked about before either.
 use crate::arrive::arrival;
-use crate::choose::choose_input;
 use crate::choose::choose_output;
 use choice::Choice;
+use choice::nearest;
+use choice::standing;
+use leading::allowed;
+use leading::reaches;
+use leading::values;
 use policy::Layout;
 use policy::Own;
 use stepping::Here;
@@ -10,15 +14,17 @@ use stepping::State;
 use stepping::here_by;
 ghost use mathlib.Core.Path.{_≡_};
 ghost use mathlib.Core.Bool.{true};
+ghost use mathlib.Core.List.{List};
 ghost use mathlib.Core.Option.{none};
-ghost use Prim.Native.Nat.{_<_};
+ghost use Prim.Native.Nat.{ℕ, _<_};
 ghost use Rattle.policy.specs.File.{policyOf, rulesOf};
 ghost use Rattle.policy.specs.Own.{ownOf};
 ghost use Rattle.policy.specs.Rules.{inputValues, outputValues};
-ghost use Rattle.stepping.specs.Tick.{outputTick, tick};
+ghost use Rattle.stepping.specs.Tick.{outputChoice, outputTick, tick};
 ghost use Rattle.stepping.specs.Code.{eventXY};
 ghost use Rattle.stepping.specs.State.{place};
-ghost use Rattle.stepping.specs.Ready.{Ready, Standing};
+ghost use Rattle.stepping.specs.Ready.{Laid, HereOf, Ready, Standing};
+ghost use Rattle.choice.specs.Said.{choiceSaid};
 ghost use Rattle.correcting.specs.Chosen.{tickFrom};
 
 // What a tick releases and the state after it; or that nothing may stand, with the state before it.
@@ -27,6 +33,20 @@ pub struct Ticked {
     pub released: bool,
     pub x: u8,
     pub y: u8,
+}
+
+// The event of x and the output chosen for it, and the state after it; or that nothing may stand.
+fn moved(file: &[u8], layout: Layout, here: Here, state: State, x: u8, output: Choice) -> Ticked
+    requires { ⌜ Laid (now file) layout × HereOf (now file) layout state here ⌝ }
+    ensures { λ r. ⌜ ((marks : List ℕ) (y : ℕ) → choiceSaid output ≡ outputChoice (policyOf (layout .reading) (now (file .entry))) marks (place (layout .clocks) state) x y → r ≡ tickFrom state (outputTick (policyOf (layout .reading) (now (file .entry))) marks (place (layout .clocks) state) x y)) ⌝ }
+{
+    match output {
+        Choice::Nothing => stuck(state),
+        Choice::Value(z) => {
+            let step = state.step(file, layout, here, x, z);
+            released(x, z, step.state)
+        }
+    }
 }
 
 // The output half with its move.
@@ -42,13 +62,8 @@ pub fn output_tick(
     requires { ⌜ Ready (now file) layout here (now marks) state × (y < outputValues (policyOf (layout .reading) (now file))) ⌝ }
     ensures { λ r. ⌜ r ≡ tickFrom state (outputTick (policyOf (layout .reading) (now (file .entry))) (now (marks .entry)) (place (layout .clocks) state) x y) ⌝ }
 {
-    match choose_output(file, layout, here, marks, state, x, y) {
-        Choice::Nothing => stuck(state),
-        Choice::Value(z) => {
-            let step = state.step(file, layout, here, x, z);
-            released(x, z, step.state)
-        }
-    }
+    let output = choose_output(file, layout, here, marks, state, x, y);
+    moved(file, layout, here, state, x, output)
 }
 
 fn released(x: u8, y: u8, state: State) -> Ticked
@@ -73,7 +88,8 @@ fn stuck(state: State) -> Ticked
     }
 }
 
-// Both halves, one after the other.
+// Both halves, one after the other. The input as read stands if an event with it leads on, and mostly the one without any output does. Else one pass over
+// the rules gives the outputs that may stand with each input: it serves both halves.
 fn corrected(
     file: &[u8],
     layout: Layout,
@@ -86,9 +102,17 @@ fn corrected(
     requires { ⌜ Ready (now file) layout here (now marks) state × (x < inputValues (policyOf (layout .reading) (now file))) × (y < outputValues (policyOf (layout .reading) (now file))) ⌝ }
     ensures { λ r. ⌜ r ≡ tickFrom state (tick (policyOf (layout .reading) (now (file .entry))) (now (marks .entry)) (place (layout .clocks) state) (eventXY x y)) ⌝ }
 {
-    match choose_input(file, layout, here, marks, state, x) {
+    if reaches(file, layout, here, marks, state, x, 0) {
+        return output_tick(file, layout, here, marks, state, x, y);
+    }
+    let sets = allowed(file, layout, here, marks, state);
+    match nearest(standing(sets), x, values(layout.inputs)) {
         Choice::Nothing => stuck(state),
-        Choice::Value(z) => output_tick(file, layout, here, marks, state, z, y),
+        Choice::Value(z) => {
+            let i = z as usize;
+            let output = nearest(sets[i], y, values(layout.outputs));
+            moved(file, layout, here, state, z, output)
+        }
     }
 }
 
