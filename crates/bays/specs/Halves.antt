@@ -110,7 +110,7 @@ module _ (reading : ℕ) (file marks : List ℕ) where
         ∙ with-length states bay (fits (length states) bay is .0) (outputOf reading file marks (bayState states bay) x y .state) (output-four reading file marks (bayState states bay) x y refl)
 
   module _ (states : List ℕ) (bay : ℕ) (h : Half) where
-    -- "no tick alters .. another bay's state",
+    -- "no tick alters .. another bay's state".
     pub others-stay : (other : ℕ) → ¬ (other ≡ bay) → numbersOf (bayHalf states bay h .states) other ≡ numbersOf states other
     others-stay other apart = go (ltb bay (bayCount states)) refl
       where
@@ -118,7 +118,7 @@ module _ (reading : ℕ) (file marks : List ℕ) where
         go true e = there-others states bay (ltb-true _ _ e) h other apart
         go false e = ap (λ (r : BayAnswer). numbersOf (r .states) other) (half-none states bay h (ltb-false _ _ e))
 
-    -- nor the number of bays.
+    -- No half of a tick alters the number of bays.
     pub length-stays : length (bayHalf states bay h .states) ≡ length states
     length-stays = go (ltb bay (bayCount states)) refl
       where

@@ -62,7 +62,7 @@ module _ (states : List ℕ) (bay : ℕ) (there : bay * 5 + 5 ≤ length states)
   pub with-length : length (withState states bay s) ≡ length states
   with-length = let b = begins in simp (length-append, length-drop) (omega arith)
 
-  -- The bay has the state,
+  -- The bay has the numbers of that state.
   pub with-own : numbersOf (withState states bay s) bay ≡ stateWords s
   with-own =
       ap (take 5) (drop-at (take (bay * 5) states) (stateWords s ++ drop (bay * 5 + 5) states) (bay * 5) begins)
@@ -72,7 +72,7 @@ module _ (states : List ℕ) (bay : ℕ) (there : bay * 5 + 5 ≤ length states)
   pub with-state : bayState (withState states bay s) bay ≡ s
   with-state = rw with-own (words-in s four)
 
-  -- and every other bay the numbers that it had.
+  -- Every other bay has the numbers that it had.
   pub with-other : (other : ℕ) → ¬ (other ≡ bay) → numbersOf (withState states bay s) other ≡ numbersOf states other
   with-other other apart = go (ltb other bay) refl
     where

@@ -54,7 +54,7 @@ module _ {care x : ℕ} (h : care < 16) (l : x < 16) where
   skipped z k m = rw (lt-ltb x z k, lt-ltb z (after care x) m) at (some-none (between care x) 32 (right .1) z (omega (arith, right .0 .1)))
 
 module _ (care value : ℕ) where
-  -- x is the next that agrees.
+  -- x agrees, and `after care x` is the next that does.
   module _ {x : ℕ} (h : care < 16) (l : x < 16) (e : bitAnd x care ≡ value) where
     -- The next number is greater.
     pub after-up : x < after care x

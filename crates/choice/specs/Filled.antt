@@ -48,6 +48,6 @@ filled-more {sets} {x} {all} {bit} k l h b = record { is = go; small = small-now
 pub filled-all : {sets : List ℕ} {x all : ℕ} → Filled sets x all → x ≡ 0 → (y : ℕ) → has all y ≡ ltb 0 (getD sets y 0)
 filled-all {sets} {x} k e y = let d : x + y ≡ y = omega arith in rw d at (k .is y)
 
--- It fits into 16 bits.
+-- While a set is left to put in, the number has at most 15 bits, so that doubled it fits into 16.
 pub filled-fits : {sets : List ℕ} {x all : ℕ} → Filled sets x all → 0 < x → all < 32768
 filled-fits {x = x} k l = omega (arith, k .small, pow-le-pow-right {n = 2} (omega arith) {i = 16 - x} {j = 15} (omega arith))

@@ -88,14 +88,14 @@ module _ {p : Policy} {L U : List Bool} (meant : Meant p L U) (bytes : length (p
       }
 
 module _ {p : Policy} {L U : List Bool} (meant : Meant p L U) where
-  -- In the cleaned policy each location is entered,
+  -- In the cleaned policy each location is entered.
   pub all-entered : (l : ℕ) → l < kept L → Entered (cleaned p L U) l
   all-entered l h =
       let k = rank-from L l h in
       let a = meant .entered (k .0) .0 (k .1) in
       record { place = moved L (a .place); reached = reached-cleaned meant (a .reached); here = ap (rank L) (a .here) ∙ k .2 }
 
-  -- and each rule is used.
+  -- In the cleaned policy each rule is used.
   pub all-used : (i : ℕ) → i < length (cleaned p L U .rules) → Used (cleaned p L U) i
   all-used i h =
       let n = length-map (sift U (p .rules)) (renamed L) ∙ length-sift U (p .rules) (meant .rules) in

@@ -100,9 +100,9 @@ pub record Cleans (reading : ℕ) (file : List ℕ) : Type 0 where
   pub says : policyOf reading (cleanedFile reading file) ≡ cleanedOf (policyOf reading file)
   -- It permits exactly the same streams, and rests after the same.
   pub permits : Permits (policyOf reading (cleanedFile reading file)) ≋ Permits (policyOf reading file)
-  -- "The cleaned policy is hopeless exactly when the old one is",
+  -- "The cleaned policy is hopeless exactly when the old one is .."
   pub hopeless : Hopeless (Permits (policyOf reading (cleanedFile reading file))) ↔ Hopeless (Permits (policyOf reading file))
-  -- "and releases the same stream for every event stream."
+  -- ".. and releases the same stream for every event stream."
   pub releases :
       (events released : List Event) →
       EnforcedBy (policyOf reading (cleanedFile reading file)) [] events released ↔ EnforcedBy (policyOf reading file) [] events released

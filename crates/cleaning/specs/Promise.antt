@@ -47,7 +47,7 @@ clean-one {r = r} {q = q} h g = (
   h .struck ∙ sym (g .struck),
 )
 
--- It refuses by 1 to 9, 14 and 22 alone.
+-- No refusal is above 22.
 refusal-le : (reading : ℕ) (file out list : List ℕ) → Entry.cleanRefusal reading file out list ≤ 22
 unfolding Entry.cleanRefusal Entry.shortRefusal
 refusal-le reading file out list = let h = under-le reading file in search (else-le, unless-le)

@@ -12,7 +12,7 @@ use Rattle.cleaning.specs.Entry.{cleanRefusal, cleanOf}
 use Rattle.cleaning.specs.declared.Lengths.{Lengths}
 use Rattle.cleaning.specs.Sizes.{room}
 
--- Where lengths are given, they are no more than these.
+-- Where lengths are given, they are no more than these. The list has at most 957 bytes (`Room`); 960, for 320 entries, is what programs lend.
 pub record Few (l : Lengths) : Type 0 where
   pub cleaned : l .cleaned ≤ 5974
   pub struck : l .struck ≤ 960

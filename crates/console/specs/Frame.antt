@@ -26,7 +26,7 @@ module _ (input : List ℕ) where
   abbrev pub policyPart : List ℕ
   policyPart = part input 2 (pairAt input 0)
 
-  -- "second count whole (1), within its limit (2), events all there (1), nothing after them (8)"
+  -- Where the events begin.
   abbrev pub eventsStart : ℕ
   eventsStart = policyEnd + 2
 
@@ -34,7 +34,7 @@ module _ (input : List ℕ) where
   abbrev pub eventsEnd : ℕ
   eventsEnd = eventsStart + pairAt input policyEnd
 
-  -- The refusal of the events' count and of their bytes, then 8 for bytes after them.
+  -- "second count whole (1), within its limit (2), events all there (1), nothing after them (8)"
   abbrev pub eventsFrameRefusal : ℕ
   eventsFrameRefusal = countRefusal input policyEnd 16384 orElse unless (leb (length input) eventsEnd) 8
 

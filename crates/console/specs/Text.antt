@@ -7,7 +7,7 @@ use Prim.Native.String.{String}
 use lib.Dec.{eqb}
 use Rattle.texts.specs.Text.{ascii, decimal}
 
--- A label and a number; a number and a space.
+-- A label and the number after it.
 abbrev pub labelled : String → ℕ → List ℕ
 labelled label n = ascii label ++ decimal n
 
@@ -28,11 +28,11 @@ refusedLine n = labelled "refused " n ++ ascii "\n"
 abbrev pub letter : (given released : ℕ) → ℕ
 letter given released = cond (eqb given released) (code "F") (code "E")
 
--- "for each event, in decimal: tick from 1, x, y, x', y'; then two letters"
+-- Both halves of an event, with a space after each.
 abbrev pub halves : (x y : ℕ) → List ℕ
 halves x y = spaced x ++ spaced y
 
--- The line of one tick: its number, x and y, what was released for them, and two letters.
+-- "for each event, in decimal: tick from 1, x, y, x', y'; then two letters"
 unfoldable pub tickLine : (tick x y x′ y′ : ℕ) → List ℕ
 tickLine tick x y x′ y′ =
     spaced tick ++ halves x y ++ halves x′ y′ ++ (letter x x′ ∷ letter y y′ ∷ ascii "\n")

@@ -15,7 +15,7 @@ use Rattle.drawing.specs.Events.{SignalsGood, EventFits}
 use Rattle.drawing.specs.Steps.{AllFit}
 use Rattle.drawing.specs.Entry.{eventGood}
 
--- A good tag: a capital letter, none of those before it, and those after it are good.
+-- A good tag: not below the letter A, none of those before it, and those after it are good.
 pub record GoodTag (before : List ℕ) (tag : ℕ) (tags : List ℕ) : Type 0 where
   pub low : 65 ≤ tag
   pub new : among tag before ≡ false

@@ -70,7 +70,7 @@ xor-back = bin-ind (λ (a : ℕ). (b : ℕ) → bitXor a (bitXor a b) ≡ b) (λ
 pub xor-none : (a b : ℕ) → bitXor a b ≡ 0 → a ≡ b
 xor-none a b e = sym (xor-zero-r a) ∙ ap (bitXor a) (sym e) ∙ xor-back a b
 
--- What the check has shown of the signals: at most four of each kind, capital letters, no tag twice.
+-- What the check has shown of the signals: at most four of each kind, no tag below the letter A, no tag twice.
 pub record SignalsGood (inputs outputs : List ℕ) : Type 0 where
   pub fewIn : length inputs ≤ 4
   pub fewOut : length outputs ≤ 4

@@ -113,7 +113,7 @@ pub neither : (a b : Bool) → (a || b) ≡ false → (a ≡ false) × (b ≡ fa
 neither false b e = (refl, e)
 neither true b e = absurd (false≢true (sym e))
 
--- Behind the tags `before` stand none of them, and no tag stands twice.
+-- No tag stands twice.
 unfoldable pub Distinct : List ℕ → Type 0
 Distinct [] = Unit {0}
 Distinct (tag ∷ tags) = (among tag tags ≡ false) × Distinct tags

@@ -21,7 +21,7 @@ module _ (reading : ℕ) (file marks : List ℕ) (t : Place) (x : ℕ) where
   pub input-past-15 : inputValues (policyOf reading file) ≤ x → inputPast reading file marks t x ≡ refused 15
   input-past-15 h = rw (le-ltb _ _ h)
 
-  -- The input is kept if some output with it leads to a marked place, and 0 is an output.
+  -- An input in range is kept if with the output 0 it leads to a marked place.
   pub input-as-read : x < inputValues (policyOf reading file) → reaches (policyOf reading file) marks t x 0 ≡ true → inputPast reading file marks t x ≡ gives x
   unfolding inputChoice mayStand
   input-as-read h r =

@@ -24,7 +24,7 @@ eventOf b = record { x = b % 16; y = b / 16 }
 abbrev pub byteOf : Event → ℕ
 byteOf e = e .x + e .y * 16
 
--- 17: "no input, or for the given x' no output, reaches a state marked 1".
+-- The refusal n, if there is one; else the choice. 17: "no input, or for the given x' no output, reaches a state marked 1".
 abbrev pub chosen : {A : Type 0} → ℕ → Option A → Answer A
 chosen zero none = refused 17
 chosen zero (some a) = gives a
@@ -60,7 +60,7 @@ runFrom s out zero r =
     }
 
 module _ (reading : ℕ) (file : List ℕ) where
-  -- 15: "an event, x or y has a bit beyond its signals".
+  -- x has no bit beyond the inputs. 15: "an event, x or y has a bit beyond its signals".
   abbrev pub xGood : ℕ → Bool
   xGood x = ltb x (inputValues (policyOf reading file))
 
@@ -73,15 +73,15 @@ module _ (reading : ℕ) (file : List ℕ) where
   eventGood b = xGood (b % 16) && yGood (b / 16)
 
 module _ (reading : ℕ) (file marks : List ℕ) where
-  -- 10: "the mark slice is shorter than the number of states".
+  -- 22 and 1 to 9, then 10: "the mark slice is shorter than the number of states".
   unfoldable pub marksRefusal : ℕ
   marksRefusal = refusalUnder reading file orElse unless (leb (states (policyOf reading file)) (length marks)) 10
 
-  -- The halves past 16, from a place of the policy: 15 and 17 alone are left to ask. A refusal hands back the state that was given.
+  -- The input half past 16, from the place t of the policy: 15 and 17 alone are left to ask.
   abbrev pub inputPast : Place → ℕ → Answer ℕ
   inputPast t x = chosen (unless (xGood reading file x) 15) (inputChoice (policyOf reading file) marks t x)
 
-  -- The output half past 16; `given` is the state that it was given, and t its place.
+  -- The output half past 16; `given` is the state that it was given, and t its place. A refusal hands that state back.
   abbrev pub outputPast : State → Place → ℕ → ℕ → OutputAnswer
   outputPast given t x y = outputFrom given (chosen (unless (xGood reading file x && yGood reading file y) 15) (outputTick (policyOf reading file) marks t x y))
 
@@ -92,7 +92,7 @@ module _ (reading : ℕ) (file marks : List ℕ) where
         unless (stateGood (policyOf reading file) s) 16
         orElse unless (isMarked marks (numberOf (policyOf reading file) (placeIn (policyOf reading file) s))) 16
 
-    -- The input half.
+    -- What the input half refuses by, but for 17.
     unfoldable pub inputRefusal : ℕ → ℕ
     inputRefusal x = marksRefusal orElse stateRefusal orElse unless (xGood reading file x) 15
 
@@ -100,7 +100,7 @@ module _ (reading : ℕ) (file marks : List ℕ) where
     unfoldable pub inputOf : ℕ → Answer ℕ
     inputOf x = chosen (inputRefusal x) (inputChoice (policyOf reading file) marks (placeIn (policyOf reading file) s) x)
 
-    -- The output half.
+    -- What the output half refuses by, but for 17.
     unfoldable pub outputRefusal : ℕ → ℕ → ℕ
     outputRefusal x y = marksRefusal orElse stateRefusal orElse unless (xGood reading file x && yGood reading file y) 15
 
@@ -109,7 +109,7 @@ module _ (reading : ℕ) (file marks : List ℕ) where
     outputOf x y =
         outputFrom s (chosen (outputRefusal x y) (outputTick (policyOf reading file) marks (placeIn (policyOf reading file) s) x y))
 
-    -- The run. 14: "the slice to be written is too short". "A run checks all events for 15 before the first is released".
+    -- What the run refuses by, but for 17. 14: "the slice to be written is too short". "A run checks all events for 15 before the first is released".
     unfoldable pub runRefusal : List ℕ → List ℕ → ℕ
     runRefusal events out =
         marksRefusal orElse unless (leb (length events) (length out)) 14 orElse stateRefusal

@@ -50,7 +50,7 @@ both-one r q e =
     let s = ap (λ (z : OutputAnswer). z .state) e in
     λ i. record { answer = a i; state = s i }
 
--- Each promise is met by one answer only, and that of the run by one slice.
+-- One answer alone meets the promise of the input half.
 pub input-one : {reading : ℕ} {file marks : List ℕ} {s : State} {x : ℕ} {r q : HalfAnswer} → InputPromise reading file marks s x r → InputPromise reading file marks s x q → r ≡ q
 input-one {r} {q} h g = answer-one r q (h .said ∙ sym (g .said))
 

@@ -74,7 +74,7 @@ reading-early reading = go (eqb reading 1 || eqb reading 2)
     go true = _⊎_.inl zero-le
     go false = _⊎_.inr refl
 
--- No refusal is above 22, and 17 says that nothing else was refused and nothing may stand.
+-- No refusal is above 22, and 17 is given only where nothing else is refused and nothing may stand.
 chosen-up-to : {A : Type 0} (n : ℕ) (o : Option A) → Early n → UpTo 22 (chosen n o)
 chosen-up-to zero none h = (omega arith, omega arith)
 chosen-up-to zero (some a) h = tt
@@ -134,7 +134,7 @@ module _ (reading : ℕ) (file marks : List ℕ) (bad : refusalUnder reading fil
   output-first s x y = ap (outputFrom s) (first-of (refusalUnder reading file) _ _ _ bad)
 
 module _ (reading : ℕ) (file marks : List ℕ) where
-  -- The reading is refused by 22, the file and the marks by 1 to 10, the state by 16, and all else that comes before 17 by no more than that.
+  -- What comes before 17 is refused by at most 16, or by 22: the reading, the file and the marks; then the state and what is asked of it.
   marks-early : Early (marksRefusal reading file marks)
   unfolding marksRefusal refusalUnder
   marks-early =
@@ -162,7 +162,7 @@ module _ (reading : ℕ) (file marks : List ℕ) where
     unfolding runRefusal
     run-early events out = early-else (marksRefusal reading file marks) _ marks-early (_⊎_.inl (search (else-le, unless-le, state-le)))
 
-    -- The halves and the run refuse by 1 to 17 and 22 alone, and a run releases no more events than it reads.
+    -- The input half refuses by 1 to 22.
     pub input-up-to : (x : ℕ) → UpTo 22 (inputOf reading file marks s x)
     unfolding inputOf
     input-up-to x = chosen-up-to (inputRefusal reading file marks s x) _ (input-early x)
@@ -185,7 +185,7 @@ module _ (reading : ℕ) (file marks : List ℕ) where
         counted-few s out (runRefusal reading file marks s events out) _
         (omega (arith, ran-few p marks (placeIn p s) (map eventOf events), length-map events eventOf))
 
-    -- 17 is given where nothing else is refused, and no input may stand.
+    -- The input half gives 17 only where the state is not refused and no input may stand.
     pub input-17 :
         (x : ℕ) → inputOf reading file marks s x ≡ refused 17 →
         (stateRefusal reading file marks s ≡ 0) × (inputChoice (policyOf reading file) marks (placeIn (policyOf reading file) s) x ≡ none)

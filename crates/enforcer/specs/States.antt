@@ -65,7 +65,7 @@ only-zeros (v ∷ vs) zero l e = absurd (omega arith)
 only-zeros (v ∷ vs) (suc n) l e =
     let k = and-eq-true-iff (eqb 0 v) _ .0 e in ap₂ {C = List ℕ} _∷_ (eqb-true 0 v (k .0)) (only-zeros vs n (omega arith) (k .1))
 
--- In range, they are the values of the clocks and zeros after them.
+-- Values in range are those of the clocks, and zeros after them.
 pub clocks-back : (cs vs : List ℕ) (n : ℕ) → length vs ≡ length cs + n → clocksGood cs vs ≡ true → take (length cs) vs ++ replicate n 0 ≡ vs
 unfolding clocksGood
 clocks-back [] vs n l e = only-zeros vs n (omega arith) e
@@ -133,7 +133,7 @@ ceilings-four : {f : List ℕ} {l : Layout} → Laid f l → length (l .ceilings
 unfolding policyOf
 ceilings-four {f} k = rw (k .ceilings) (simp (length-append, length-replicate) (omega (arith, laid-well k .clocks)))
 
--- "Locations: 1 to 64", "a two-byte ceiling each, 1 to 1,001": no state is in range in a policy that is not within the state's own limits.
+-- "Locations: 1 to 64", "a two-byte ceiling each, 1 to 1,001": a state that is not within these limits is in range in no policy.
 pub own-limits : {f : List ℕ} {l : Layout} → Laid f l → (s : State) → length (s .clocks) ≡ 4 →
     inRange 64 (replicate 4 1001) s ≡ false → stateGood (policyOf (l .reading) f) s ≡ false
 own-limits {f} {l} k s vs out = go (stateGood (policyOf (l .reading) f) s) refl
@@ -175,7 +175,7 @@ module _ (reading : ℕ) (file marks : List ℕ) where
     λ k. none-refused (unless (stateGood (policyOf reading file) s) 16) _ .1 (none-unless _ 15 .1 (k .0), none-unless _ 15 .1 (k .1)),
   )
 
--- The code finds them by what the check answers.
+-- The code finds the refusals up to 10 by what the check answers.
 pub marks-by : (reading : ℕ) (file marks : List ℕ) {r : Checked} → r ≡ checkedUnder reading file →
     (r .refusal orElse unless (leb (r .layout .states) (length marks)) 10) ≡ marksRefusal reading file marks
 unfolding marksRefusal

@@ -10,7 +10,7 @@ use Rattle.policy.specs.Rules.{Policy, Place, unlimited, step}
 use Rattle.stepping.specs.Code.{eventXY}
 use Rattle.explaining.specs.Reasons.{Reason, kept, rule, unmatched, ticks, rests, kindOf, countOf, Lasting, SaysWhy, by-rule, by-none, by-ticks, by-rests, SaysIn, most-rests, most-ticks, at-once, not-lasting, rule-stops, none-stops, says-one, ticks-next, rests-next}
 
--- A count of rests, against the reason so far; and a count of ticks.
+-- A count of rests goes before all else, and the greater of two stands.
 abbrev pub withRests : ℕ → Reason → Reason
 withRests j kept = rests j
 withRests j (rule i) = rests j
@@ -34,7 +34,7 @@ better r unmatched = r
 better r (ticks j) = withTicks j r
 better r (rests j) = withRests j r
 
--- Its number is one of the two.
+-- The number of the one that goes first is below each bound that both numbers are below.
 rests-few : {m : ℕ} (j : ℕ) (r : Reason) → j < m → countOf r < m → countOf (withRests j r) < m
 rests-few j kept h g = h
 rests-few j (rule i) h g = h
@@ -49,7 +49,7 @@ ticks-few j unmatched h g = h
 ticks-few j (ticks k) h g = omega arith
 ticks-few j (rests k) h g = g
 
--- Its number is below each bound that both numbers are below.
+-- The same of `better`.
 pub better-few : {m : ℕ} (b r : Reason) → countOf b < m → countOf r < m → countOf (better b r) < m
 better-few b kept h g = h
 better-few b (rule i) h g = h
@@ -82,7 +82,7 @@ module _ {p : Policy} {s : Place} {x : ℕ} where
       not-lasting (a .2) (subst (Lasting p) (Option·some-injective t (a .0) (sym q ∙ a .1)) l)
 
 module _ {p : Policy} {s : Place} {n x : ℕ} where
-  -- The output n is a violation,
+  -- The output n is a violation: the reason so far stays.
   more-stop : {b : Reason} → SaysIn p s n x b → step unlimited p s (eventXY x n) ≡ none → SaysIn p s (suc n) x b
   more-stop (most-rests {k = k} {y = y} l h m) q =
       most-rests {y = y} (omega arith) h
@@ -93,7 +93,7 @@ module _ {p : Policy} {s : Place} {n x : ℕ} where
       (λ z t i. last n (λ z. (t : Place) → step unlimited p s (eventXY x z) ≡ some t → Lasting p t → ⊥) (λ z i t. f z t i) (λ t e. absurd (clash q e)) z i t)
   more-stop (at-once f w) q = at-once (last n (λ z. step unlimited p s (eventXY x z) ≡ none) f q) w
 
-  -- has a count of ticks,
+  -- The output n has a count of ticks, and all lower outputs are violations: that count is the reason.
   first-ticks : {j : ℕ} → ((z : ℕ) → z < n → step unlimited p s (eventXY x z) ≡ none) → SaysWhy p s (eventXY x n) (ticks j) → SaysIn p s (suc n) x (ticks j)
   first-ticks {j} f g =
       most-ticks {y = n} (omega arith) g
@@ -122,7 +122,7 @@ module _ {p : Policy} {s : Place} {n x : ℕ} where
   more-ticks o (at-once f (by-ticks e t)) g = absurd (clash (f 0 o) e)
   more-ticks o (at-once f (by-rests e t)) g = absurd (clash (f 0 o) e)
 
-  -- or lets the stream go on for ever.
+  -- The output n has a count of rests, and no lower one has: that count is the reason.
   first-rests : {j : ℕ} → ((z i : ℕ) → z < n → SaysWhy p s (eventXY x z) (rests i) → ⊥) → SaysWhy p s (eventXY x n) (rests j) → SaysIn p s (suc n) x (rests j)
   first-rests {j} f g =
       most-rests {y = n} (omega arith) g

@@ -38,7 +38,7 @@ fast-prepares {reading} {file} {before} {work = work} h l =
     let k = as-plain reading file before (shortest work) l in
     record { said = h .said ∙ ap summaryWord (k .0); marks = h .marks ∙ k .1 }
 
--- "Unless 23 is given" it is that call too, whatever the slices are,
+-- "Unless 23 is given" it is that call too, whatever the slices are.
 pub fast-unless : {reading : ℕ} {file before after : List ℕ} {work left : Work} {r : ℕ} →
     FastCall reading file before work r after left → (r % 256 ≡ 23 → ⊥) → PrepareCall reading file before r after
 unfolding prepareWord
@@ -46,7 +46,7 @@ fast-unless {reading} {file} {before} {work = work} h not-short =
     let k = unless-short reading file before (shortest work) (λ e. not-short (ap (λ (n : ℕ). n % 256) (h .said ∙ ap summaryWord e))) in
     record { said = h .said ∙ ap summaryWord (k .0); marks = h .marks ∙ k .1 }
 
--- and so "both are proved to leave equal marks and give equal verdicts, counts and refusals for every policy and both readings": their words are equal, and
+-- So "both are proved to leave equal marks and give equal verdicts, counts and refusals for every policy and both readings": their words are equal, and
 -- all that is in them.
 pub same-answers : {reading : ℕ} {file before after also : List ℕ} {work left : Work} {r q : ℕ} →
     PrepareCall reading file before r after → FastCall reading file before work q also left → (q % 256 ≡ 23 → ⊥) → (r ≡ q) × (after ≡ also)

@@ -25,7 +25,7 @@ pub index-fields : (file index : List ℕ) → buildRefusal file index % 256 ≡
 index-fields file index = let h = build-le file index in omega arith
 
 module _ (reading : ℕ) (file index marks state : List ℕ) where
-  -- With the file's index the calls return and leave what the present ones do.
+  -- With the file's index, numbers that are no state are refused as without an index.
   odd-same : index ≡ indexOf file → oddIndexed reading file index marks ≡ oddRefusal reading file marks true
   unfolding oddIndexed oddRefusal
   odd-same e = ap (λ (n : ℕ). n orElse 16) (early-same reading file index marks e)

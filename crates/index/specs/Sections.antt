@@ -61,7 +61,7 @@ module _ {f : List ℕ} {l : Layout} (k : Sections f l) where
             ∙ rw (sections-rules, e, lower-below a (rising f (k .passes))) (sym (number-level a (rising f (k .passes)))),
       )
 
-  -- They end within the section, which is short.
+  -- The rules of lower locations are at most 256, in at most 5,888 bytes.
   pub sections-passed : (a first : ℕ) → first ≡ lower a (rulesOf f) → (first ≤ 256) × (first * ruleSize (l .clocks) ≤ 256 * 23)
   sections-passed a first e =
       let few : first ≤ 256 = omega (arith, sections-level a first e, sections-limits) in

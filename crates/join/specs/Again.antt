@@ -38,7 +38,7 @@ same-equal (x ∷ xs) (y ∷ ys) e =
     let h = and-eq-true-iff (eqb x y) (sameTags xs ys) .0 e in
     ap₂ (λ (z : ℕ) (zs : List ℕ). z ∷ zs) (eqb-true x y (h .0)) (same-equal xs ys (h .1))
 
--- 12 is given exactly if the "two policies differ in signal tags or their order".
+-- The test behind 12, that "two policies differ in signal tags or their order": it passes exactly if both lists of tags are the same.
 pub sameTags-is : (xs ys : List ℕ) → (sameTags xs ys ≡ true) ↔ (xs ≡ ys)
 sameTags-is xs ys = (same-equal xs ys, λ e. rw (← e) (same-itself xs))
 

@@ -37,7 +37,7 @@ module _ (a b out : List ℕ) where
   unfoldable pub joinedFile : List ℕ
   joinedFile = bytesOf (join (said a) (said b))
 
-  -- 14: "the slice to be written is too short".
+  -- "A by 1 to 9, B likewise, then 12, 13, 14." 14: "the slice to be written is too short".
   unfoldable pub joinRefusal : ℕ
   joinRefusal =
       refusalOf a orElse refusalOf b orElse unless (sameSignals (said a) (said b)) 12

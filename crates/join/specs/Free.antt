@@ -6,11 +6,11 @@ use lib.ListN.{length}
 use Rattle.policy.specs.Rules.{Rule, Policy}
 use Rattle.policy.specs.Bytes.{pairsBytes, boundsBytes, ruleBytes, rulesBytes, countsBytes, bytesOf}
 
--- It matches every event and leads back to the start.
+-- The rule that matches every event and leads back to the start.
 abbrev pub always : Rule
 always = record { source = 0; inCare = 0; inValue = 0; outCare = 0; outValue = 0; reset = 0; target = 0; bounds = [] }
 
--- One location that may rest, no clocks, one rule.
+-- The policy that permits all: one location that may rest, no clocks, one rule.
 abbrev pub free : ℕ → List ℕ → List ℕ → Policy
 free reading ins outs = record { reading = reading; inputs = ins; outputs = outs; ceilings = []; locations = 1; left = 0 ∷ []; rules = always ∷ [] }
 

@@ -38,7 +38,7 @@ module _ (reading : ℕ) (ins outs : List ℕ) where
   free-steps [] = refl
   free-steps (e ∷ es) = rw (free-step e) (free-steps es)
 
-  -- It permits every stream of events within the signals, and rests after each.
+  -- The policy that permits all permits every stream of events within the signals.
   pub free-permits : (w : Stream) → Fits p w → Permits p .permits w
   unfolding Runs
   free-permits w f = (f, (start p, free-steps w))
@@ -48,7 +48,7 @@ module _ (reading : ℕ) (ins outs : List ℕ) where
   unfolding Rests rests
   free-rests w = (start p, free-steps w, refl)
 
--- Over the signals of a checked policy its file is not refused,
+-- Over the signals of a well-formed policy, the policy that permits all is well formed.
 pub free-well : (reading : ℕ) (p : Policy) → WellFormed p → WellFormed (free reading (p .inputs) (p .outputs))
 unfolding allPass maskGood headGood boundsGood ruleRefusal rulesRefusal statesOf
 free-well reading p w =
@@ -68,7 +68,7 @@ free-well reading p w =
       states = omega arith;
     }
 
--- and under each reading it is that policy.
+-- Its file, under each reading, is that policy.
 pub free-read : (reading : ℕ) (p : Policy) → WellFormed p → policyOf reading (freeFile (p .inputs) (p .outputs)) ≡ free reading (p .inputs) (p .outputs)
 free-read reading p w =
     ap (policyOf reading) (sym (free-bytes (p .inputs) (p .outputs) reading))

@@ -29,7 +29,7 @@ pub record PartsReady (f : List ℕ) (x : Layout) (g : List ℕ) (y : Layout) : 
   pub signals : sameSignals (said f) (said g) ≡ true
   pub within : limits x y ≡ true
 
--- How many rules the join has, and their bytes.
+-- How many rules the join has.
 abbrev pub joinedCount : List ℕ → List ℕ → ℕ
 joinedCount f g = length (join (said f) (said g) .rules)
 
@@ -41,7 +41,7 @@ joinedRules f g = rulesBytes (join (said f) (said g) .rules)
 abbrev pub clocksFor : Layout → ℕ
 clocksFor x = 2 + x .inputs + x .outputs
 
--- The bytes before the rules: A's signals, the clocks of both, the locations, and how many rules there are.
+-- How many clocks there are, and their ceilings, A's first.
 abbrev pub clocksPart : List ℕ → ℕ → ℕ → List ℕ → ℕ → ℕ → List ℕ
 clocksPart f p k g q j = (k + j) ∷ bytesFrom f (p + 1) (2 * k) ++ bytesFrom g (q + 1) (2 * j)
 
@@ -53,7 +53,7 @@ leftPart f x g y = leftBelow (said f) (said g) (x .locations * y .locations)
 abbrev pub placesPart : List ℕ → Layout → List ℕ → Layout → ℕ → List ℕ
 placesPart f x g y rules = (x .locations * y .locations) ∷ leftPart f x g y ++ pairBytes rules
 
--- All bytes before the rules.
+-- All bytes before the rules: A's signals, the clocks of both, the locations, and how many rules there are.
 abbrev pub countsFrom : List ℕ → Layout → List ℕ → Layout → ℕ → List ℕ
 countsFrom f x g y rules =
     bytesFrom f 0 (clocksFor x)

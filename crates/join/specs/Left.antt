@@ -29,7 +29,7 @@ unfolding rests
 rests-is p k = refl
 
 module _ (a b : Policy) where
-  -- There is one for each pair, and it stands at the pair's number.
+  -- There is a location byte for each of the first m pairs.
   pub left-length : (m : ℕ) → length (leftBelow a b m) ≡ m
   unfolding leftBelow
   left-length zero = refl

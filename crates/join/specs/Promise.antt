@@ -33,7 +33,7 @@ pub join-one : {a b before after later : List ℕ} {r s : Joined} → JoinPromis
     (r ≡ s) × (after ≡ later)
 join-one {r = r} {s = s} g h = (said-one r s (g .answers ∙ sym (h .answers)), g .writes ∙ sym (h .writes))
 
--- The join refuses by 1 to 14 alone.
+-- No refusal of the join is above 14.
 refusals-le : (a b out : List ℕ) → joinRefusal a b out ≤ 14
 unfolding joinRefusal
 refusals-le a b out =

@@ -174,7 +174,7 @@ module _ (station totals : List ℕ) (granted : newRefusal station totals ≡ 0)
   unfolding newTotals
   fresh-both = rw good
 
-  -- and the state is the start.
+  -- The state of a station that is set up is the start.
   pub new-state : stationState (newStation station totals c) ≡ startState
   unfolding newStation
   new-state = rw good
@@ -216,7 +216,7 @@ module _ (reading : ℕ) (file marks : List ℕ) where
       one-tick (m .station) (m .totals) c (t .count) (answered m t)
       (turned reading file marks (m .station) (m .totals) (t .count % 65536) (t .x) (t .y)) e
 
-  -- From a last reading that the count c shows as: the totals together rise by the advance from c to the last accepted count,
+  -- From a last reading that the count c shows as, the totals together rise by the advance from c to the last accepted count.
   pub sums :
       (m : Meter) (c : ℕ) (ts : List Turn) → lastReading (m .station) ≡ c % 65536 → Fewer m c ts →
       both (meterOf m ts .totals) + c ≡ both (m .totals) + lastAccepted m c ts
@@ -229,7 +229,7 @@ module _ (reading : ℕ) (file marks : List ℕ) where
       let w = o .whole (f .0) in
       omega arith
 
-  -- without the proviso by the same modulo 65,536,
+  -- Without the proviso they do so modulo 65,536.
   pub sums-round :
       (m : Meter) (c : ℕ) (ts : List Turn) → lastReading (m .station) ≡ c % 65536 →
       (both (meterOf m ts .totals) + c) % 65536 ≡ (both (m .totals) + lastAccepted m c ts) % 65536
@@ -243,14 +243,14 @@ module _ (reading : ℕ) (file marks : List ℕ) where
       in
       round-on (both (meterOf (after m t) ts .totals)) (both (answered m t .totals)) (both (m .totals)) c k (lastAccepted (after m t) k ts) h (o .round)
 
-  -- the last reading is that count's,
+  -- The last reading is the one that the last accepted count shows as.
   pub last-shown :
       (m : Meter) (c : ℕ) (ts : List Turn) → lastReading (m .station) ≡ c % 65536 → lastReading (meterOf m ts .station) ≡ lastAccepted m c ts % 65536
   unfolding meterOf lastAccepted
   last-shown m c [] e = e
   last-shown m c (t ∷ ts) e = last-shown (after m t) (reached (answered m t .answer) c (t .count)) ts (one m c t e .last)
 
-  -- and no total ever falls, wherever it starts.
+  -- No total ever falls, wherever it starts.
   pub never-falls :
       (m : Meter) (ts : List Turn) → (billed (m .totals) ≤ billed (meterOf m ts .totals)) × (unbilled (m .totals) ≤ unbilled (meterOf m ts .totals))
   unfolding meterOf

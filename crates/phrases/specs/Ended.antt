@@ -154,7 +154,7 @@ pub rule-stored : (inputs source n : ℕ) (p : Parsed) {bit : ℕ} → bit ≡ 2
 unfolding ruleBy ruleBytes
 rule-stored inputs source n p e = rw e
 
--- A part of a number below 256 is.
+-- The rest of a division by at most 128 is below 256.
 pub rest-small : (m b : ℕ) → 0 < b → b ≤ 128 → m % b < 256
 rest-small m b h l = let e = mod-lt m {m = b} h in omega (arith, e)
 

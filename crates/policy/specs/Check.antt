@@ -23,7 +23,7 @@ sectionRefusal f at width n low high size =
     unless (leb (at + width) (length f)) 1 orElse unless (leb low n && leb n high) 2
     orElse unless (leb (at + width + n * size) (length f)) 1
 
--- 3: "a tag is not A to Z or is repeated".
+-- A letter A to Z.
 abbrev pub isCapital : ℕ → Bool
 isCapital t = leb 65 t && leb t 90
 
@@ -32,7 +32,7 @@ unfoldable pub among : ℕ → List ℕ → Bool
 among t [] = false
 among t (a ∷ rest) = eqb a t || among t rest
 
--- The tags that follow those before them in the file.
+-- 3: "a tag is not A to Z or is repeated", of tags that follow those in `before`.
 unfoldable pub tagsGood : List ℕ → List ℕ → Bool
 tagsGood before [] = true
 tagsGood before (t ∷ ts) = isCapital t && (not (among t before) && tagsGood (before ++ (t ∷ [])) ts)
@@ -45,12 +45,12 @@ ceilingGood c = leb 1 c && leb c 1001
 abbrev pub locationGood : ℕ → Bool
 locationGood b = leb b 1
 
--- 6: "A value has no bit outside its care mask; care and reset masks have no bit beyond their section. Sources never fall from one rule to the next. A
--- source is a location. A target is a location or 255, the violation."
+-- "A value has no bit outside its care mask", nor has the mask one beyond its section.
 unfoldable pub maskGood : ℕ → ℕ → ℕ → Bool
 maskGood signals care value = ltb care (2 ^ signals) && eqb (bitAnd value care) value
 
--- All of 6 for one rule; `before` is the source of the rule before it.
+-- 6: "A value has no bit outside its care mask; care and reset masks have no bit beyond their section. Sources never fall from one rule to the next. A
+-- source is a location. A target is a location or 255, the violation." `before` is the source of the rule before it.
 unfoldable pub headGood : (inputs outputs clocks locations before : ℕ) → Rule → Bool
 headGood inputs outputs clocks locations before r =
     leb before (r .source) && (ltb (r .source) locations
@@ -80,7 +80,7 @@ rulesRefusal inputs outputs cs locations before (r ∷ rs) =
     ruleRefusal inputs outputs cs locations before r orElse rulesRefusal inputs outputs cs locations (r .source) rs
 
 module _ (f : List ℕ) where
-  -- Each section: count, limit, length, contents.
+  -- Each section goes by count, limit, length, contents. The inputs: at most four, each tag A to Z and new.
   unfoldable pub inputsRefusal : ℕ
   inputsRefusal = sectionRefusal f 0 1 (File.inputCount f) 0 4 1 orElse unless (tagsGood [] (File.inputTags f)) 3
 

@@ -11,7 +11,7 @@ use Rattle.streams.specs.AnswerLaws.{none-refused, unless-le, else-le}
 use Rattle.policy.specs.Rules.{Rule}
 use Rattle.policy.specs.Check.{clocksRefusal, inputsRefusal, locationsRefusal, outputsRefusal, readingRefusal, refusalOf, refusalUnder, ruleRefusal, rulesRefusal, rulesSectionRefusal, sectionRefusal}
 
--- The check refuses by 1 to 9 alone.
+-- No refusal of a section is above 9.
 section-le : (f : List ℕ) (at width n low high size : ℕ) → sectionRefusal f at width n low high size ≤ 9
 unfolding sectionRefusal
 section-le f at width n low high size = search (else-le, unless-le)

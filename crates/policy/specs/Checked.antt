@@ -1,4 +1,4 @@
--- What holds of the policy of a file that is not refused: of its tags and ceilings, and of each rule.
+-- The policy of a file that is not refused is well formed; and what that says of its ceilings and of each rule.
 -- In order: the policy is well formed; passed tests as facts; what the check makes sure of in one rule, and in all; the same of a well-formed policy.
 use mathlib.Core.Path.{_≡_, refl, ap}
 use mathlib.Core.Bool.{Bool, true, and-eq-true-iff, false≢true}

@@ -5,7 +5,7 @@ use Prim.Native.Nat.{ℕ, zero, suc, _+_, _*_}
 use lib.ListN.{getD, take, drop}
 use Rattle.policy.specs.Rules.{Bound, Rule, Policy}
 
--- The byte at a position, and the number in the two bytes there. Past the end stands 0.
+-- The byte at a position. Past the end stands 0.
 abbrev pub byteAt : List ℕ → ℕ → ℕ
 byteAt f at = getD f at 0
 
@@ -88,7 +88,7 @@ module _ (f : List ℕ) where
   abbrev pub ruleCount : ℕ
   ruleCount = pairAt f rulesAt
 
-  -- Where the first rule stands, and where the last one ends.
+  -- Where the first rule stands.
   unfoldable pub rulesStart : ℕ
   rulesStart = rulesAt + 2
 
@@ -100,7 +100,7 @@ module _ (f : List ℕ) where
   abbrev pub ruleSection : List ℕ
   ruleSection = part f rulesStart (ruleCount * ruleSize clockCount)
 
-  -- What the sections say.
+  -- The tags of the inputs.
   abbrev pub inputTags : List ℕ
   inputTags = part f 1 inputCount
 

@@ -24,13 +24,13 @@ section-fits f at width n low high size e =
     let c = and-eq-true-iff (leb low n) _ .0 (none-unless _ 1 .0 (b .0)) in
     (leb-true _ _ (c .0), leb-true _ _ (c .1), leb-true _ _ (none-unless _ 0 .0 (b .1)))
 
--- A section before its contents.
+-- Where neither a section nor its contents are refused, the section fits as above.
 pub section : (f : List ℕ) (at width n low high size contents : ℕ) → sectionRefusal f at width n low high size orElse contents ≡ 0 →
     ((low ≤ n) × (n ≤ high) × (at + width + n * size ≤ length f)) × (contents ≡ 0)
 section f at width n low high size contents e =
     let k = none-refused (sectionRefusal f at width n low high size) contents .0 e in (section-fits f at width n low high size (k .0), k .1)
 
--- What is read has as many items as are asked for; bytes, where they stand in the file.
+-- A part has as many bytes as are asked for, where they stand in the file.
 pub part-length : (f : List ℕ) (at n : ℕ) → at + n ≤ length f → length (part f at n) ≡ n
 part-length f at n h = simp (length-take, length-drop) (omega arith)
 
@@ -123,7 +123,7 @@ passed f e =
 pub frame : (f : List ℕ) → refusalOf f ≡ 0 → Framed f
 frame f e = passed f e .frame
 
--- So every position is in the file.
+-- So the sections stand one after another, and the rules begin within the file or at its end.
 pub in-order : (f : List ℕ) → Framed f →
     (outputsAt f < clocksAt f) × (clocksAt f < locationsAt f) × (locationsAt f < rulesAt f) × (rulesAt f < rulesStart f) × (rulesStart f ≤ length f)
 in-order f k = omega arith

@@ -40,7 +40,7 @@ module _ (f : List ℕ) where
   unfolding checkedOf
   checked-says = (from-number (refusalOf f) (layoutOf 1 f), λ e. ap (λ (c : Checked). c .layout) (checked-passed e))
 
--- Under a reading too.
+-- The same under a reading.
 module _ (reading : ℕ) (f : List ℕ) where
   -- A file that passes under the reading gets its layout under it.
   pub under-passed : refusalUnder reading f ≡ 0 → checkedUnder reading f ≡ record { refusal = 0; layout = layoutOf reading f }

@@ -58,7 +58,7 @@ module _ (f : List ℕ) (at len : ℕ) where
 pub rules-part : (f : List ℕ) (clocks at n : ℕ) → rulesFrom clocks (part f at (n * ruleSize clocks)) 0 n ≡ rulesFrom clocks f at n
 rules-part f clocks at n = rules-within f at (n * ruleSize clocks) clocks 0 at n (omega arith) (omega arith)
 
--- The first j rules, and those after them.
+-- The first j of n rules are the j rules from the same position on.
 pub rules-take : (clocks : ℕ) (f : List ℕ) (at j n : ℕ) → j ≤ n → take j (rulesFrom clocks f at n) ≡ rulesFrom clocks f at j
 unfolding rulesFrom
 rules-take clocks f at zero n h = refl

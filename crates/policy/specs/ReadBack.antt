@@ -31,7 +31,7 @@ module _ (f : List ℕ) where
   pub part-read : (at : ℕ) (xs g : List ℕ) → drop at f ≡ xs ++ g → part f at (length xs) ≡ xs
   part-read at xs g e = rw e (take-append-seam xs g)
 
-  -- Of any number: one above 65,535 is read back from a first element that is no byte.
+  -- A two-byte number that is written at a position is read there; also one above 65,535, from a first element that is no byte.
   pub pair-read : (at n : ℕ) (g : List ℕ) → drop at f ≡ pairBytes n ++ g → pairAt f at ≡ n
   pair-read at n g e =
       ap₂ (λ (a b : ℕ). a * 256 + b) (byte-read at _ e 0 at (omega arith)) (byte-read at _ e 1 (at + 1) refl) ∙ div-add-mod' n 256
@@ -121,7 +121,7 @@ rules-read f clocks at (each-more {r = r} {rs = rs} b bs) g e =
     let rest = rules-read f clocks (at + ruleSize clocks) bs g e₃ in
     λ i. first i ∷ rest i
 
--- The file from each section on.
+-- The file from the count of rules on.
 abbrev pub fromRules : Policy → List ℕ
 fromRules p = pairBytes (length (p .rules)) ++ rulesBytes (p .rules)
 
@@ -196,7 +196,7 @@ module _ (p : Policy) where
   pub count-locations : locationCount (bytesOf p) ≡ p .locations
   count-locations = count-read (bytesOf p) (locationsAt (bytesOf p)) (p .left) (fromRules p) at-locations
 
-  -- What the sections before the rules say.
+  -- The input tags are read back.
   pub inputs-back : inputTags (bytesOf p) ≡ p .inputs
   inputs-back = items-read (bytesOf p) 0 (p .inputs) (fromOutputs p) at-inputs refl
 
@@ -213,7 +213,7 @@ module _ (p : Policy) where
       (items-at (bytesOf p) at (pairsBytes (p .ceilings)) (fromLocations p) at-clocks))
 
 module _ (p : Policy) (w : NearlyFormed p) where
-  -- There is a byte for each location, so the rules stand after as many bytes as the count of locations says.
+  -- The bytes of the locations are read back: there is one for each.
   pub locations-back : locationBytes (bytesOf p) ≡ p .left
   locations-back = items-read (bytesOf p) (locationsAt (bytesOf p)) (p .left) (fromRules p) (at-locations p) (w .bytes)
 
@@ -275,7 +275,8 @@ module _ (p : Policy) (w : NearlyFormed p) where
       )
 
 module _ (p : Policy) (w : WellFormed p) where
-  -- No bound on the numbers is used, only that each location has a byte and each rule a bound for each clock.
+  -- The file of a policy reads back as that policy. No bound on the numbers is used, only that each location has a byte and each rule a bound for
+  -- each clock.
   pub read-back : policyOf (p .reading) (bytesOf p) ≡ p
   unfolding policyOf
   read-back =

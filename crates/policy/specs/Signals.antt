@@ -52,7 +52,7 @@ module _ (reading : ℕ) (f : List ℕ) (ok : refusalUnder reading f ≡ 0) (tag
       let l : length (outputTags f) ≤ 4 = omega (arith, outputs-length f k, k .outputs) in
       ap (weightOf tag) (take-all 4 (outputTags f) l)
 
--- A weight is there exactly if the tag is among the tags,
+-- A tag without a weight is not among the tags.
 pub weight-none : (tag : ℕ) (ts : List ℕ) → weightOf tag ts ≡ 0 → among tag ts ≡ false
 unfolding weightOf among
 weight-none tag [] e = refl
@@ -62,7 +62,7 @@ weight-none tag (t ∷ ts) e = go (eqb t tag) (weight-none tag ts) e
     go true h e = absurd (omega arith)
     go false h e = h (omega arith)
 
--- so that a tag with a weight is among them,
+-- A tag with a weight is among them.
 pub weight-some : (tag : ℕ) (ts : List ℕ) → (weightOf tag ts ≡ 0 → ⊥) → among tag ts ≡ true
 unfolding weightOf among
 weight-some tag [] h = absurd (h refl)
@@ -72,7 +72,7 @@ weight-some tag (t ∷ ts) h = go (eqb t tag) (weight-some tag ts) h
     go true h z = refl
     go false h z = h (λ e. z (omega arith))
 
--- and is then one bit, by the signal's place among the signals.
+-- A weight is one bit, by the signal's place among the signals.
 pub weight-bit : (tag : ℕ) (ts : List ℕ) → (weightOf tag ts ≡ 0 → ⊥) → (i : ℕ) × (i < length ts) × (weightOf tag ts ≡ 2 ^ i)
 unfolding weightOf
 weight-bit tag [] h = absurd (h refl)

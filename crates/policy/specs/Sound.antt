@@ -86,7 +86,8 @@ pub each-weak : {P Q : Rule → Type 0} → ((r : Rule) → P r → Q r) → {rs
 each-weak f each-none = each-none
 each-weak f (each-more {r = r} p h) = each-more (f r p) (each-weak f h)
 
--- A rule of a policy with so many clocks and locations.
+-- A rule of a policy with so many clocks and locations: its values are within their masks, its resets among the clocks; it has a bound for each clock,
+-- and its target is a location or 255.
 pub record Formed (clocks locations : ℕ) (r : Rule) : Type 0 where
   pub inputs : bitAnd (r .inValue) (r .inCare) ≡ r .inValue
   pub outputs : bitAnd (r .outValue) (r .outCare) ≡ r .outValue

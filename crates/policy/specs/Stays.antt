@@ -28,7 +28,7 @@ Of P (some a) = P a
 pub of-some : {A : Type 0} (P : A → Type 0) {d : Option A} {a : A} → d ≡ some a → Of P d → P a
 of-some P e = subst (Of P) e
 
--- The decided rule is one of the rules.
+-- What holds of each rule holds of the one that decides, if one does.
 pub decides-of : {P : Rule → Type 0} {rs : List Rule} → Each P rs → (s : Place) (e : Event) → Of P (decides rs s e)
 unfolding decides
 decides-of each-none s e = tt
@@ -50,7 +50,7 @@ module _ (on : ℕ → ℕ → ℕ) where
   advance-length mask (c ∷ cs) [] e = e
   advance-length mask (c ∷ cs) (v ∷ vs) e = ap suc (advance-length (mask / 2) cs vs (omega arith))
 
-  -- The first k clocks go on by themselves.
+  -- The first k clocks go on as if they were alone.
   pub advance-take : (mask k : ℕ) (cs vs : List ℕ) → take k (advance on mask cs vs) ≡ advance on mask (take k cs) (take k vs)
   unfolding advance
   advance-take mask zero cs vs = refl
@@ -172,7 +172,7 @@ module _ (p : Policy) where
   pub start-inside : Sound p → Inside p (start p)
   start-inside k = subst (Inside p) (start-stops p) (stop-inside (start p) (start-in p k))
 
-  -- Nothing is left to stop, at once or after the first time.
+  -- At a place inside the policy no clock is left to stop.
   pub stop-same : (s : Place) → Inside p s → stop p s ≡ s
   stop-same s h = ap (λ (z : List ℕ). record { location = s .location; clocks = z }) (mins-same (p .ceilings) (s .clocks) (h .clocks) (h .stopped))
 

@@ -63,7 +63,7 @@ module _ (p : Policy) (ok : WellFormed p) {w : Stream} {s : Place} (h : Leads p 
         shows = v .2;
       }
 
-  -- The tick of a permitted event, as the stopped clocks show it.
+  -- A permitted event is within the signals and, over clocks that stop, leads to a place.
   pub leads-by : (e : Event) → Permits p .permits (w ++ (e ∷ [])) → (u : Place) × FitsOne p e × (step stopped p s e ≡ some u)
   unfolding shown
   leads-by e r =

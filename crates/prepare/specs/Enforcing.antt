@@ -17,7 +17,7 @@ use Rattle.stepping.specs.State.{isMarked}
 use Rattle.stepping.specs.Tick.{Progress}
 use Rattle.trimming.specs.Table.{marksOf}
 
--- How many signals there are.
+-- How many inputs there are.
 abbrev pub ins : Policy → ℕ
 ins p = length (p .inputs)
 
@@ -29,7 +29,7 @@ outs p = length (p .outputs)
 abbrev pub EnforcedBy : Policy → Stream → List Event → List Event → Type 0
 EnforcedBy p = Enforced corrections (Permits p) (ins p) (outs p)
 
--- The marks of prepare. Past them anything may stand.
+-- Marks that say of each state what the marks of prepare say. Past them anything may stand.
 abbrev pub AsPrepared : Policy → List ℕ → Type 0
 AsPrepared p marks = (n : ℕ) → n < states p → isMarked marks n ≡ isMarked (marksOf p) n
 

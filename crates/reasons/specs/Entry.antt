@@ -36,7 +36,7 @@ module _ (reading : ℕ) (file marks : List ℕ) (s : State) (x y : ℕ) where
   answers-one (explains a h) (refuses b) = absurd (omega arith)
   answers-one (explains a h) (explains b g) = let e = explained-one h g in λ d. gives (record { input = e .0 d; output = e .1 d })
 
-  -- It refuses by 22, 1 to 10, 16, 20 and 15 alone.
+  -- No refusal is above 22.
   refusal-le : whyRefusal ≤ 22
   unfolding whyRefusal stateRefusal
   refusal-le = let m = marks-le reading file marks in search (else-le, unless-le) depth 9

@@ -11,7 +11,7 @@ use Rattle.policy.specs.File.{ruleSize, ruleFrom, rulesFrom}
 use Rattle.stepping.specs.Code.{decider}
 
 module _ (k : ℕ) (f : List ℕ) (s : Place) (e : Event) where
-  -- It is one of the n, and it is the rule that decides.
+  -- The number of the rule that decides among n is below n.
   pub decider-lt : (n at i : ℕ) → decider (rulesFrom k f at n) s e ≡ some i → i < n
   unfolding decider rulesFrom
   decider-lt zero at i p = absurd (Option·none-ne-some i p)

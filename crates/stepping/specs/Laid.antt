@@ -77,7 +77,7 @@ four-past vs i h =
     let e : i ≡ length vs + (i - length vs) = omega arith in
     rw e (getD-append-add vs (replicate (4 - length vs) 0) (i - length vs) 0 ∙ zeros (4 - length vs) (i - length vs))
 
--- The layout of a file that passes the check.
+-- For a file that passes the check, `layoutOf` gives its layout.
 pub laid-out : (reading : ℕ) (f : List ℕ) → refusalOf f ≡ 0 → Laid f (layoutOf reading f)
 unfolding policyOf
 laid-out reading f p =
@@ -119,7 +119,7 @@ module _ {f : List ℕ} {l : Layout} (k : Laid f l) where
   pub laid-sections : Sections f l
   laid-sections = record { passes = k .passes; clocks = k .clocks; locations = k .locations; rules = k .rules; start = k .start; end = k .end }
 
-  -- The policy is as the check leaves it, and the numbers of the layout are within their limits.
+  -- The policy is well formed.
   pub laid-well : WellFormed (policyOf (l .reading) f)
   laid-well = checked-file (l .reading) f (k .passes)
 
@@ -131,7 +131,7 @@ module _ {f : List ℕ} {l : Layout} (k : Laid f l) where
   pub laid-section : l .«rules_start» + l .rules * ruleSize (l .clocks) ≡ l .«rules_end»
   laid-section = sections-filled laid-sections
 
-  -- Of inputs and outputs there are as many values as the code counts, at most 16.
+  -- Of inputs there are as many values as the code counts, at most 16.
   pub laid-inputs : (2 ^ l .inputs ≡ inputValues (policyOf (l .reading) f)) × (2 ^ l .inputs ≤ 16)
   unfolding policyOf
   laid-inputs = rw (k .inputs) (sym (ap (λ (n : ℕ). 2 ^ n) (inputs-length f framed)), pow-le-pow-right {n = 2} (omega arith) (framed .inputs))
@@ -164,7 +164,7 @@ module _ {f : List ℕ} {l : Layout} (k : Laid f l) where
   laid-ceiling : (i : ℕ) → i < l .clocks → getD (l .ceilings) i 0 ≡ getD (policyOf (l .reading) f .ceilings) i 0
   laid-ceiling i g = sym (getD-take (l .clocks) (l .ceilings) i 0 g) ∙ ap (λ (cs : List ℕ). getD cs i 0) laid-ceilings
 
-  -- Locations and ceilings are within their limits, whatever the clock.
+  -- There are at most 64 locations.
   pub laid-locations : l .locations ≤ 64
   laid-locations = omega (arith, k .locations, framed .locations)
 
@@ -219,7 +219,7 @@ module _ {f : List ℕ} {l : Layout} (k : Laid f l) where
   pub here-seen : {s : State} {h : Here} → HereOf f l s h → place (l .clocks) (h .seen) ≡ looked stopped (policyOf (l .reading) f) (place (l .clocks) s)
   here-seen {s} o = ap (place (l .clocks)) (o .seen) ∙ laid-seen s
 
-  -- The place that a state is, and its number, by the layout alone.
+  -- The place that a state is, by the layout, is the one by the policy.
   pub laid-place : (s : State) → place (l .clocks) s ≡ placeIn (policyOf (l .reading) f) s
   laid-place s = rw laid-clocks
 
@@ -229,7 +229,7 @@ module _ {f : List ℕ} {l : Layout} (k : Laid f l) where
       rw (← number-take (l .ceilings) (l .clocks) (s .location) (s .clocks), ← laid-clocks)
       (number-ceilings (l .ceilings) (l .clocks) (s .location) (take (l .clocks) (s .clocks)) (policyOf (l .reading) f .ceilings) laid-ceiling)
 
-  -- The state that a place is stands for that place by the layout too, and has its number.
+  -- The state that a place is stands for that place by the layout too.
   pub place-back : {t : Place} → Inside (policyOf (l .reading) f) t → place (l .clocks) (stateOf t) ≡ t
   place-back {t} h = laid-place (stateOf t) ∙ placeIn-stateOf (policyOf (l .reading) f) h
 
@@ -237,7 +237,7 @@ module _ {f : List ℕ} {l : Layout} (k : Laid f l) where
   pub next-number : {t : Place} → Inside (policyOf (l .reading) f) t → stateNumber l (stateOf t) ≡ numberOf (policyOf (l .reading) f) t
   next-number {t} h = laid-number (stateOf t) ∙ ap (numberOf (policyOf (l .reading) f)) (place-back h)
 
-  -- So has it if all four clocks are taken in.
+  -- It has that number also if all four clocks are taken in.
   pub four-number : {t : Place} → Inside (policyOf (l .reading) f) t → numberFrom (l .ceilings) 4 (t .location) (four (t .clocks)) ≡ numberOf (policyOf (l .reading) f) t
   unfolding policyOf
   four-number {t} h =
@@ -263,7 +263,7 @@ module _ {f : List ℕ} {l : Layout} (k : Laid f l) where
         laid-clocks,
       )
 
-  -- A step leads to a place of the policy.
+  -- A step from a place of the policy leads to one, or to a violation.
   pub next-inside : (s : State) (e : Event) → Inside (policyOf (l .reading) f) (place (l .clocks) s) →
       Of (Inside (policyOf (l .reading) f)) (step stopped (policyOf (l .reading) f) (place (l .clocks) s) e)
   next-inside s e h = step-inside (policyOf (l .reading) f) (well-sound (policyOf (l .reading) f) laid-well) (place (l .clocks) s) h e
@@ -271,7 +271,7 @@ module _ {f : List ℕ} {l : Layout} (k : Laid f l) where
   -- By the answer r of a step that has a next state: whether the event reaches a marked place is said by the mark of that state's number.
   module _ (marks : List ℕ) (s : State) (x y : ℕ) {r : Step}
       (e : r ≡ stepFrom s (step stopped (policyOf (l .reading) f) (place (l .clocks) s) (eventXY x y))) where
-    -- The number of the next state is below that of the states, and its mark is the answer.
+    -- The next state has a number below that of the states, and its mark says whether the event reaches a marked place.
     pub reaches-next : Inside (policyOf (l .reading) f) (place (l .clocks) s) → r .permitted ≡ true →
         Numbered (l .reading) f marks (numberFrom (l .ceilings) 4 (r .state .location) (r .state .clocks)) (reaches (policyOf (l .reading) f) marks (place (l .clocks) s) x y)
     unfolding reaches

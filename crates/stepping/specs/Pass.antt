@@ -25,7 +25,7 @@ use Rattle.stepping.specs.Ways.{room, holds, takes, leads, gathered, all
 use Rattle.stepping.specs.WaysLaws.{gathered-keeps, gathered-empty, gathered-own, allowed-any}
 use Rattle.choice.specs.Changed.{Changed, changed-one, changed-by, changed-not, zeros}
 
--- No number below n passes if none does.
+-- A test that nothing passes is passed by no number below n.
 none-any : (n : ℕ) → someBelow (λ x. ltb 0 0) n ≡ false
 none-any n = some-fails _ n (λ z h. refl)
 
@@ -71,12 +71,12 @@ module _ (s : Place) where
   parts-so e few within = record { few = few; within = within; same = λ x l. rw e }
 
   module _ {r : Rule} {n : ℕ} {left : List ℕ} (e : holds s r ≡ true) where
-    -- Nothing of that is left,
+    -- Nothing of that is left: the answer is no, and the three numbers are 0.
     pub parted-taken : false ≡ someBelow (λ x. ltb 0 (agreed (r .inCare) (r .inValue) (outs (r .outCare) (r .outValue)) x (getD left x 0))) n → Parted r n left false 0 0 0
     unfolding takes
     parted-taken d = parted-nothing (rw e d)
 
-    -- or something.
+    -- Something of that is left: the answer is yes, with the rule's own numbers.
     pub parted-so : r .inCare < 16 → bitAnd (r .inValue) (r .inCare) ≡ r .inValue →
         true ≡ someBelow (λ x. ltb 0 (agreed (r .inCare) (r .inValue) (outs (r .outCare) (r .outValue)) x (getD left x 0))) n →
         Parted r n left true (r .inCare) (r .inValue) (outs (r .outCare) (r .outValue))
@@ -159,7 +159,7 @@ module _ (s : Place) (p : Policy) (marks : List ℕ) where
 
   module _ {r : Rule} {n : ℕ} {left rest : List ℕ} {care value set : ℕ} (k : Parts (looked stopped p s) r care value set)
       (c : Changed (λ x. bitXor (getD left x 0) (agreed care value set x (getD left x 0))) n left rest) (found : List ℕ) where
-    -- All of it is found, or nothing.
+    -- If the rule leads to a marked place, all that it takes is found; if not, nothing.
     pub gathers-led : {led : ℕ} → led ≡ cond (leads s p marks r) set 0 → {more : List ℕ} →
         Changed (λ x. bitOr (getD found x 0) (agreed care value led x (getD left x 0))) n found more → Gathers r n left rest found more
     gathers-led {led} e g =
@@ -240,7 +240,7 @@ module _ (s : Place) (p : Policy) (marks : List ℕ) where
       let a = some-from _ (inputValues p) (q .0) in
       allowed-any p k marks s ∙ some-has _ (inputValues p) (a .0) (a .1) (lt-ltb 0 _ (takes-found g (q .1) (a .0) (a .1) (ltb-true _ _ (a .2))))
 
-  -- After the last rule.
+  -- After the last rule the found sets are the allowed ones.
   pub gathering-done : {found left : List ℕ} → Gathering [] left found → (x : ℕ) → getD found x 0 ≡ allowed p marks s x
   unfolding gathered allowed
   gathering-done {found} {left} g x = go (ltb x (inputValues p)) refl
@@ -267,7 +267,7 @@ module _ (s : Place) (p : Policy) where
   pub led-one : {r : Rule} {a b : Bool} {m n : ℕ} → Led r a m → Led r b n → (a ≡ b) × (m ≡ n)
   led-one {a = a} {b = b} w v = marked-one a b (λ marks. sym (w .mark marks) ∙ v .mark marks) (w .nowhere) (v .nowhere)
 
-  -- So it does, if its bounds hold.
+  -- Where the rule r leads, if its bounds hold; if they do not, nowhere.
   pub record Held (r : Rule) (some : Bool) (to : ℕ) : Type 0 where
     pub mark : (marks : List ℕ) → (holds (looked stopped p s) r && leads s p marks r) ≡ (some && isMarked marks to)
     pub below : some ≡ true → to < states p
@@ -329,7 +329,7 @@ module _ (s : Place) (p : Policy) where
         on marks h true e v = rw (h to (found e)) at v
         on marks h false e v = v
 
-    -- It leads to a state that was not found: some event does, by marks that have that state alone.
+    -- It leads to a marked state, and no state found before is marked: some event leads to a marked place.
     pub passing-found : WellFormed p → some ≡ true → (marks : List ℕ) → ((t : ℕ) → F t → isMarked marks t ≡ false) → isMarked marks to ≡ true →
         someBelow (mayStand p marks s) (inputValues p) ≡ true
     passing-found k e marks h m = gathering-found s p marks k (g .gathering marks h) (rw (e, m) at (w .went marks))
@@ -338,7 +338,7 @@ module _ (s : Place) (p : Policy) where
   pub passing-empty : {F : ℕ → Type 0} {rs : List Rule} {left : List ℕ} → Passing F rs left → ((x : ℕ) → x < inputValues p → getD left x 0 ≡ 0) → Passing F [] left
   passing-empty g z = record { gathering = λ marks h. gathering-empty s p marks (g .gathering marks h) z }
 
-  -- After the last rule: no event leads to a state that was not found.
+  -- After the last rule: where no found state is marked, no event leads to a marked place.
   pub passing-done : WellFormed p → {F : ℕ → Type 0} {left : List ℕ} → Passing F [] left → (marks : List ℕ) →
       ((t : ℕ) → F t → isMarked marks t ≡ false) → someBelow (mayStand p marks s) (inputValues p) ≡ false
   passing-done k g marks h = gathering-nothing s p marks k (g .gathering marks h)

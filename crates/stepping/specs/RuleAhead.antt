@@ -20,7 +20,7 @@ use Rattle.policy.specs.declared.own.Own.{Own}
 use Rattle.stepping.specs.Ready.{Laid}
 use Rattle.stepping.specs.Laid.{laid-well, laid-clocks, own-fits, own-rules}
 
--- The location's own rules, where they stand in the file.
+-- A rule that is formed for so many clocks and locations, with care bits for at most four inputs.
 pub record Cared (clocks locations : ℕ) (r : Rule) : Type 0 where
   pub formed : Formed clocks locations r
   pub care : r .inCare < 16
@@ -30,7 +30,7 @@ well-cared p k =
     each-weak (λ r g. let l = pow-le-pow-right {n = 2} (omega arith) (k .inputs) in record { formed = g .formed; care = omega (arith, g .inCare) })
     (well-ruled p k)
 
--- A rule of the location a that passes the check, with care bits for at most four inputs.
+-- The same, of a rule of the location a.
 pub record Ours (clocks locations a : ℕ) (r : Rule) : Type 0 where
   pub source : r .source ≡ a
   pub formed : Formed clocks locations r

@@ -10,7 +10,7 @@ use Rattle.policy.specs.Check.{allPass}
 use Rattle.policy.specs.Number.{four}
 use Rattle.stepping.specs.declared.state.State.{State}
 
--- The place that a state is, in a policy with so many clocks; and the state that a place is.
+-- The place that a state is, in a policy with so many clocks.
 abbrev pub place : ℕ → State → Place
 place clocks s = record { location = s .location; clocks = take clocks (s .clocks) }
 

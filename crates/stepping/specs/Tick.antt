@@ -48,11 +48,11 @@ module _ (p : Policy) (marks : List ℕ) where
     unfoldable pub moved : ℕ → ℕ → Option ReleasedTick
     moved x y = bind (step stopped p s (record { x = x; y = y })) (λ t. some (record { event = record { x = x; y = y }; place = t }))
 
-    -- The output half with its move, and the two halves one after the other: the input first, without a look at y.
+    -- The output half with its move.
     unfoldable pub outputTick : ℕ → ℕ → Option ReleasedTick
     outputTick x y = bind (outputChoice x y) (λ z. moved x z)
 
-    -- Both halves: the output half gets the input that was chosen.
+    -- The two halves one after the other: the input first, without a look at y. The output half gets the input that was chosen.
     unfoldable pub tick : Event → Option ReleasedTick
     tick e = bind (inputChoice (e .x)) (λ x. outputTick x (e .y))
 

@@ -12,7 +12,7 @@ use Rattle.streams.specs.ChooseLaws.{nearest-is}
 use Rattle.policy.specs.Rules.{Policy, Place, inputValues, outputValues, stopped, step, FitsOne}
 use Rattle.stepping.specs.Tick.{ReleasedTick, reaches, mayStand, inputChoice, outputChoice, moved, outputTick, tick, put, ran}
 
--- The parts of a tick.
+-- The parts of a tick: the input chosen, the output chosen for it, and where the two lead.
 pub record TickedBy (p : Policy) (marks : List ℕ) (s : Place) (e : Event) (r : ReleasedTick) : Type 0 where
   pub input : inputChoice p marks s (e .x) ≡ some (r .event .x)
   pub output : outputChoice p marks s (r .event .x) (e .y) ≡ some (r .event .y)
@@ -28,7 +28,7 @@ module _ (p : Policy) (marks : List ℕ) (s : Place) where
       let m = bind-eq-some-iff (step stopped p s (record { x = i .0; y = o .0 })) _ .0 (o .2) in
       subst (TickedBy p marks s e) (Option·some-injective _ r (m .2)) (record { input = i .1; output = o .1; moves = m .1 })
 
-  -- What is chosen is one of the values, and may stand.
+  -- The input that is chosen is one of the values, and may stand.
   pub input-stands : (x z : ℕ) → inputChoice p marks s x ≡ some z → Among (mayStand p marks s) (inputValues p) z
   unfolding inputChoice
   input-stands x z h = nearest-is (mayStand p marks s) x (inputValues p) h .may
@@ -42,7 +42,7 @@ module _ (p : Policy) (marks : List ℕ) (s : Place) where
   pub ticked-fits : {e : Event} {r : ReleasedTick} → TickedBy p marks s e r → FitsOne p (r .event)
   ticked-fits t = record { x = input-stands _ _ (t .input) .0; y = output-stands _ _ _ (t .output) .0 }
 
-  -- A run goes on after a tick, and ends where there is none.
+  -- A run goes on after a tick.
   pub ran-on : (e : Event) (es : Stream) (r : ReleasedTick) → tick p marks s e ≡ some r → ran p marks s (e ∷ es) ≡ put p marks r (ran p marks (r .place) es)
   unfolding ran
   ran-on e es r h = rw (h, ran)

@@ -8,7 +8,7 @@ use lib.Dec.{leb}
 use borrow.Author.Tests.{leb-true}
 use Rattle.streams.specs.Answer.{UpTo, _orElse_, answer, gives, unless}
 
--- Two refusals give none exactly if neither is given; one gives none exactly if its test passes.
+-- Of two refusals none is given exactly if neither is.
 pub none-refused : (a b : ℕ) → (a orElse b ≡ 0) ↔ ((a ≡ 0) × (b ≡ 0))
 none-refused zero b = (λ e. (refl, e), λ k. k .1)
 none-refused (suc a) b = (λ e. absurd (omega arith), λ k. k .0)
@@ -18,7 +18,7 @@ pub none-unless : (t : Bool) (n : ℕ) → (unless t (suc n) ≡ 0) ↔ (t ≡ t
 none-unless true n = (λ e. refl, λ e. refl)
 none-unless false n = (λ e. absurd (omega arith), λ e. absurd (false≢true e))
 
--- The first refusal that is given is the answer, and where the first is not given the next one is.
+-- Where the first refusal is given, it decides.
 pub first-refused : (a b : ℕ) → (a ≡ 0 → ⊥) → (a orElse b) ≡ a
 first-refused zero b h = absurd (h refl)
 first-refused (suc a) b h = refl
@@ -33,8 +33,7 @@ pub given-only : {A : Type 0} (n : ℕ) (a b : A) → answer n a ≡ gives b →
 given-only zero a b e = (refl, cc)
 given-only (suc n) a b e = let z : _≡_ {A = ℕ} 0 1 = cc in absurd (omega arith)
 
--- How large a refusal can be: a test's is at most its number, the first that is given is at most the largest, and so is what the entry answers. With
--- the first two, `search` finds the bound of refusals in any order.
+-- The refusal of a test is at most k if its number is. With this law and the next, `search` finds the bound of refusals in any order.
 pub unless-le : (t : Bool) (n k : ℕ) → leb n k ≡ true → unless t n ≤ k
 unless-le true n k h = zero-le
 unless-le false n k h = leb-true n k h

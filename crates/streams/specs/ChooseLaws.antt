@@ -17,7 +17,7 @@ use Rattle.streams.specs.Choose.{Among, someBelow, better, nearest}
 below : (P : ℕ → Type 0) (n : ℕ) → ((z : ℕ) → z < n → P z) → P n → (z : ℕ) → z < suc n → P z
 below P n f p z h = ⊎-elim (λ (e : z ≡ n). rw e p) (f z) (eq-or-lt-of-le (le-of-suc-le-suc h))
 
--- If `someBelow` says yes, a number below n that passes.
+-- If `someBelow` says yes, some number below n passes.
 pub some-from : (p : ℕ → Bool) (n : ℕ) → someBelow p n ≡ true → (z : ℕ) × (z < n) × (p z ≡ true)
 unfolding someBelow
 some-from p zero e = absurd (false≢true e)

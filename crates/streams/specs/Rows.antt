@@ -25,12 +25,12 @@ unfoldable pub firstOf : (ℕ → Bool) → ℕ → List ℕ → Option ℕ
 firstOf may n [] = none
 firstOf may n (a ∷ row) = cond (ltb a n && may a) (some a) (firstOf may n row)
 
--- The test of a row for a wanted value: each value is below k and nearer than the next one.
+-- A value and the row after it: it is nearer to the wanted one than the next, if there is a next.
 abbrev pub leads : ℕ → ℕ → List ℕ → Bool
 leads wanted a [] = true
 leads wanted a (b ∷ row) = nearer wanted a b
 
--- The whole row passes: each value is below k, and nearer to the wanted one than the next.
+-- The test of a row for a wanted value: each value is below k, and nearer to the wanted one than the next.
 unfoldable pub rising : ℕ → ℕ → List ℕ → Bool
 rising k wanted [] = true
 rising k wanted (a ∷ row) = ltb a k && leads wanted a row && rising k wanted row

@@ -29,7 +29,7 @@ module _ {w a b : ℕ} where
       ⊎-elim (λ (e : p .at ≡ q .at). q .changed (subst (λ (i : ℕ). signal a i ≡ signal w i) e (p .left)))
       (λ (l : p .at < q .at). p .changed (q .before (p .at) l ∙ p .left)) (eq-or-lt-of-le h)
 
-  -- The two differ in the first signal.
+  -- a leaves the first signal as it is wanted, and b does not: a wins.
   pub here : a % 2 ≡ w % 2 → (b % 2 ≡ w % 2 → ⊥) → Spares w a b
   unfolding signal
   here h d = record { at = 0; before = λ i l. absurd (not-suc-le-zero l); left = h; changed = d }

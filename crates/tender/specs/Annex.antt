@@ -109,7 +109,8 @@ unfoldable pub onTheWay : {parts : List (List ℕ)} {f : List ℕ} → JoinOf pa
 onTheWay (alone {a = a}) = a ∷ []
 onTheWay (joined {h = h} i j k) = h ∷ (onTheWay i ++ onTheWay j)
 
--- What the joins along the way leave of a: f permits no more than a does and rests nowhere else, over the same signals, and a passes the check.
+-- What the joins along the way leave of a: f permits no more than a does and rests nowhere else, over the same signals; a passes the check if f does,
+-- and has no more states.
 record WithinPart (reading : ℕ) (f a : List ℕ) : Type 0 where
   permits : Permits (policyOf reading f) narrows Permits (policyOf reading a)
   signals : tags f ≡ tags a
@@ -247,11 +248,11 @@ module _ (reading : ℕ) where
               enforced-one corrections _ _ (Permits part) (c-ticks-release k o j .enforced) (unedited es rs (c-ticks-release h z i .enforced));
         }
 
-  -- "A joined with B",
+  -- "A joined with B": the join keeps both of its parts.
   pub of-two : {a b f : List ℕ} → JoinMade a b f → Keeps reading f a × Keeps reading f b
   of-two j = (never-loosens (as-first itself j), never-loosens (as-second itself j))
 
-  -- by join's code, and by groovepawn_join.
+  -- What join's code wrote keeps both of its parts.
   pub code-of-two :
       {a b before after : List ℕ} {n : ℕ} → JoinPromise a b before (Code.Length n) after →
       CodeKeeps reading (take n after) a × CodeKeeps reading (take n after) b
@@ -263,13 +264,13 @@ module _ (reading : ℕ) where
       CKeeps reading (take (r / 256) after) a × CKeeps reading (take (r / 256) after) b
   c-of-two h z = let j = c-joined h z in (c-keeps (as-first itself j), c-keeps (as-second itself j))
 
--- "any number of policies joined one after another": each of them went into their join,
+-- "any number of policies joined one after another": each of them went into their join.
 pub part-went : {parts : List (List ℕ)} {f : List ℕ} → JoinOf parts f → (a : List ℕ) → List·Memᴰ a parts → WentInto a f
 part-went (alone {a = b}) a m = subst (λ (c : List ℕ). WentInto c b) (sym (List·Memᴰ·eq-of-singleton m)) itself
 part-went (joined {these = these} i j k) a m =
     ⊎-elim (λ u. as-first (part-went i a u) k) (λ u. as-second (part-went j a u) k) (List·Memᴰ·append-cases these m)
 
--- and so did each join made on the way.
+-- So did each join made on the way.
 pub way-went : {parts : List (List ℕ)} {f : List ℕ} (i : JoinOf parts f) (a : List ℕ) → List·Memᴰ a (onTheWay i) → WentInto a f
 unfolding onTheWay
 way-went (alone {a = b}) a m = subst (λ (c : List ℕ). WentInto c b) (sym (List·Memᴰ·eq-of-singleton m)) itself

@@ -170,7 +170,7 @@ module _ {reading : ℕ} {file lent marks : List ℕ} {s : Summary} (h : Prepare
   pub bays-release : TicksReleased (policyOf reading file) es os (bayState last bay)
   bays-release = ticks-release h (own-ticks reading file marks new is (calls-told reading file marks calls) ticks)
 
-  -- And no bay ever stops: whatever is read there next, the input half gives an input; and for it and whatever the controller answers the output half
+  -- The bay never stops: whatever is read there next, the input half gives an input; and for it and whatever the controller answers the output half
   -- gives an output, also where other bays had their turns in between.
   pub bays-go-on :
       (x : ℕ) (a : HalfAnswer) → x < inputValues (policyOf reading file) → BayInputPromise reading file marks last bay x a →
@@ -228,7 +228,7 @@ bays-stay {reading} {file} {marks} {states} {last} {rs} h bay is none =
     unmoved reading file marks states last bay rs is (calls-told reading file marks h) none .1
 
 -- "ticks of different bays may be exchanged in order without changing any answer": two halves of different bays, asked in either order, get the same answers
--- and leave the same list;
+-- and leave the same list.
 pub bays-exchange :
     {reading : ℕ} {file marks states last end : List ℕ} (c d : Call) {a b also too : Said.Answer ℕ} → ¬ (c .bay ≡ d .bay) →
     BayCalls reading file marks states (replied (c .bay) (c .half) a ∷ replied (d .bay) (d .half) b ∷ []) last →
@@ -247,7 +247,7 @@ bays-exchange {reading} {file} {marks} {states} c d {a} {b} {also} {too} apart h
       sym (t .1) ∙ x .list ∙ u .1,
     )
 
--- and so in any two orders that keep each bay's own.
+-- Calls in any two orders that keep each bay's own get the same answers and leave the same list.
 pub bays-any-order :
     {reading : ℕ} {file marks states last end : List ℕ} {rs qs : List BayReply} →
     BayCalls reading file marks states rs last → BayCalls reading file marks states qs end →
@@ -297,7 +297,7 @@ module _ {reading : ℕ} {file lent marks : List ℕ} {v : ℕ} (h : PrepareCall
             .0,
       )
 
--- What a bay is answered goes by its own alone, no tick alters another's state, and the order of different bays' turns changes nothing.
+-- In C, from two lists of as many bays, in which the bay has the same state, the same halves asked of it get the same answers.
 pub c-bays-alone :
     {reading : ℕ} {file marks states others last end : List ℕ} {rs qs : List BayReply} →
     CBayCalls reading file marks states rs last → CBayCalls reading file marks others qs end → bayCount states ≡ bayCount others →

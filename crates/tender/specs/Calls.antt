@@ -106,7 +106,7 @@ asTaken (refused n) = Taken.Refused n
 abbrev pub takenIn : ℕ → Taken
 takenIn w = asTaken (answerIn w)
 
--- It says so.
+-- Each says the answer that it was made from.
 prepared-says : (a : Said.Answer Summary) → preparedSaid (asPrepared a) ≡ a
 prepared-says (gives s) = refl
 prepared-says (refused n) = refl
@@ -135,7 +135,7 @@ taken-says (refused n) = refl
 pub half-read : (w : ℕ) → answerSaid (halfIn w) ≡ answerIn w
 half-read w = half-says (answerIn w)
 
--- The number n in the low eight bits is that refusal, and 0 is none.
+-- An answer by the number k refuses by a number above 0 exactly if k is that number.
 answer-refused : {A : Type 0} (k n : ℕ) (a : A) → (answer k a ≡ refused (suc n)) ↔ (k ≡ suc n)
 answer-refused zero n a = (λ e. let z : _≡_ {A = ℕ} 0 1 = cc in absurd (omega arith), λ e. absurd (omega arith))
 answer-refused (suc k) n a = (λ e. cc, λ e. ap refused e)
@@ -172,7 +172,7 @@ written-given w {n} e = given-only (w % 256) (w / 256) n (sym (written-says (ans
 pub taken-given : (w : ℕ) {n : ℕ} → takenIn w ≡ Taken.Count n → (w % 256 ≡ 0) × (w / 256 ≡ n)
 taken-given w {n} e = given-only (w % 256) (w / 256) n (sym (taken-says (answerIn w)) ∙ ap takenSaid e)
 
--- groovepawn_prepare, groovepawn_prepare_fast.
+-- groovepawn_prepare keeps the promise of prepare.
 pub c-prepare : {reading : ℕ} {file before marks : List ℕ} {v : ℕ} → PrepareCall reading file before v marks → PreparePromise reading file before (preparedIn v) marks
 c-prepare {reading} {file} {before} {v = v} h =
     record { said = prepared-says (summaryIn v) ∙ ap summaryIn (h .said) ∙ prepare-fields reading file before; marks = h .marks }
@@ -202,7 +202,7 @@ module _ {reading : ℕ} {file marks state : List ℕ} (five : length state ≡ 
             ∙ ap (λ (t : Bool). cond t (inputOf reading file marks (stateIn state) x) (refused (oddRefusal reading file marks true))) (is-state state five);
       }
 
-  -- The state moves to five numbers again.
+  -- groovepawn_output leaves the state of the output half, as five numbers.
   output-moves : {x y r : ℕ} {after : List ℕ} → OutputCall reading file marks state x y r after →
       after ≡ stateWords (outputOf reading file marks (stateIn state) x y .state)
   unfolding outputState
@@ -226,18 +226,18 @@ module _ {reading : ℕ} {file marks state : List ℕ} (five : length state ≡ 
       let there : stateIn after ≡ o .state = ap stateIn (output-moves h) ∙ words-in (o .state) (output-four reading file marks (stateIn state) x y refl) in
       record { said = ap₂ {C = OutputAnswer} (λ (a : Said.Answer ℕ) (s : State). record { answer = a; state = s }) said there }
 
--- groovepawn_join.
+-- groovepawn_join keeps the promise of join.
 pub c-join : {a b before after : List ℕ} {r : ℕ} → JoinCall a b before r after → JoinPromise a b before (joinedIn r) after
 c-join {a} {b} {before} {r = r} h = record { answers = joined-says (answerIn r) ∙ ap answerIn (h .said) ∙ join-fields a b before; writes = h .out }
 
--- groovepawn_clean.
+-- groovepawn_clean keeps the promise of clean.
 pub c-clean :
     {reading : ℕ} {file out list outAfter listAfter : List ℕ} {r : ℕ} → CleanCall reading file out list r outAfter listAfter →
     CleanPromise reading file out list (cleanedIn r) outAfter listAfter
 c-clean {reading} {file} {out} {list} {r = r} h =
     record { said = clean-says (lengthsIn r) ∙ ap lengthsIn (h .said) ∙ clean-fields reading file out list; cleaned = h .cleaned; struck = h .struck }
 
--- groovepawn_bays_new, groovepawn_bay_input, groovepawn_bay_output.
+-- groovepawn_bays_new keeps the promise of new bays.
 pub c-bays-new : {before after : List ℕ} {r : ℕ} → NewCall before r after → NewPromise before r after
 c-bays-new h = record { said = h .said; states = h .states }
 
@@ -253,7 +253,7 @@ module _ {reading : ℕ} {file marks states : List ℕ} {bay x r : ℕ} where
       let next = h .next in
       record { said = λ k. record { answer = said k; states = next k } }
 
--- groovepawn_meter_new, groovepawn_meter_input, groovepawn_meter_output.
+-- groovepawn_meter_new keeps the promise of a new station.
 pub c-meter-new :
     {station totals after risen : List ℕ} {register r : ℕ} → MeterNewCall station totals register r after risen →
     MeterNewPromise station totals register r after risen
@@ -274,7 +274,7 @@ module _ {reading : ℕ} {file marks station : List ℕ} {register x r : ℕ} wh
       let sums = h .sums in
       record { said = λ k. record { answer = said k; station = next k; totals = sums k } }
 
--- groovepawn_wave_write, groovepawn_wave_read.
+-- groovepawn_wave_write keeps the promise of the wave writer.
 pub c-wave-write : {file events before after : List ℕ} {r : ℕ} → WaveWriteCall file events before r after → WritePromise file events before (writtenIn r) after
 c-wave-write {file} {events} {before} {r = r} h =
     record { answers = written-says (answerIn r) ∙ ap answerIn (h .said) ∙ wave-write-fields file events before; writes = h .text }
@@ -284,7 +284,7 @@ pub c-wave-read : {file text before after : List ℕ} {r : ℕ} → WaveReadCall
 c-wave-read {file} {text} {before} {after} {r} h =
     record { reads = subst (λ (a : Said.Answer ℕ). Reads file text before a after) (sym (taken-says (answerIn r))) (wave-read-fields h) }
 
--- groovepawn_text_read, groovepawn_text_write, groovepawn_text_line_of_rule and the three for names, where the line or the place is below 2 ^ 32.
+-- groovepawn_text_read keeps the promise of reading a policy's text, where the line is below 2 ^ 32.
 pub c-text-read : {text before after : List ℕ} {r : ℕ} → textReadOf text before .line < 2 ^ 32 → TextReadCall text before r after → ReadTextPromise text before (textReadIn r) after
 c-text-read {text} {before} l h = record { says = ap textReadIn (h .said) ∙ text-read-fields text before l; writes = h .file }
 

@@ -45,7 +45,7 @@ pub record CleanedFrom (reading : ℕ) (file policy list : List ℕ) : Type 0 wh
   pub written : policy ≡ take (lengths .cleaned) (cleanedOut reading file slice other)
   pub listed : list ≡ take (lengths .struck) (struckOut reading file slice other)
 
--- The code's promise says so.
+-- What clean's code wrote without a refusal is such a policy and such a list.
 pub code-cleaned :
     {reading : ℕ} {file slice other after otherAfter : List ℕ} {n : Lengths} → CleanPromise reading file slice other (Code.Gives n) after otherAfter →
     CleanedFrom reading file (take (n .cleaned) after) (take (n .struck) otherAfter)
@@ -59,7 +59,7 @@ code-cleaned {slice = slice} {other} {n = n} h =
       listed = ap (take (n .struck)) (h .struck);
     }
 
--- So does the call of groovepawn_clean, whose word holds both lengths.
+-- So is what groovepawn_clean wrote without a refusal; its word holds both lengths.
 pub c-cleaned :
     {reading : ℕ} {file slice other after otherAfter : List ℕ} {r : ℕ} → CleanCall reading file slice other r after otherAfter → r % 256 ≡ 0 →
     CleanedFrom reading file (take (r / 256 % 16777216) after) (take (r / 4294967296) otherAfter)
@@ -80,7 +80,7 @@ module _ {reading : ℕ} {file policy list : List ℕ} (m : CleanedFrom reading 
   unfolding cleanOf
   only = given-only (cleanRefusal reading file (m .slice) (m .other)) _ (m .lengths) (m .given)
 
-  -- The policy and the list are those of the file, whatever the slices held before.
+  -- The policy is the file's, cleaned, whatever the slice held before.
   pub policy-is : policy ≡ cleanedFile reading file
   unfolding cleanedOut
   policy-is =
@@ -147,7 +147,7 @@ module _ {reading : ℕ} {file policy list : List ℕ} (m : CleanedFrom reading 
   again-list : struckList reading policy ≡ []
   again-list = ap (struckList reading) policy-is ∙ promised .nothing
 
-  -- "Cleaning a cleaned policy strikes nothing": into every slice that is as long as the policy it writes the same bytes, and the list is empty.
+  -- "Cleaning a cleaned policy strikes nothing": into every slice that holds the policy it writes the same bytes, and the list is empty.
   pub again-made :
       (slice other : List ℕ) → length policy ≤ length slice →
       (cleanOf reading policy slice other ≡ gives (record { cleaned = length policy; struck = 0 }))
@@ -191,8 +191,8 @@ pub joined-cleaned :
     CleanedFrom reading f (cleanedFile reading f) (struckList reading f)
 joined-cleaned {f = f} j reading named slice other = cleaned-into reading f slice other (under-none reading f .1 (named, made j .passed))
 
--- The same over the promises of the code. What prepare's code said of the two files, with slices for the marks that are long enough, and what run's code then
--- released with the marks that it wrote.
+-- The same over the promises of the code, with slices for the marks that are long enough: prepare's code refuses both files by 11, or gives a summary
+-- of each, and then run's code releases the same for both with the marks that prepare wrote.
 pub code-same :
     {reading : ℕ} {file slice other after otherAfter : List ℕ} {n : Lengths} → CleanPromise reading file slice other (Code.Gives n) after otherAfter →
     {x m y k : List ℕ} {r q : Prepared} → PreparePromise reading (take (n .cleaned) after) x r m → PreparePromise reading file y q k →
@@ -200,7 +200,7 @@ pub code-same :
     ((r ≡ Prepared.Refused 11) × (q ≡ Prepared.Refused 11)) ⊎ SameGiven reading (take (n .cleaned) after) m file k r q
 code-same h = code-alike (alike (code-cleaned h))
 
--- What clean's code answers of a policy that it wrote.
+-- Clean's code strikes nothing from a policy that it wrote, and writes the same bytes.
 pub code-again :
     {reading : ℕ} {file slice other after otherAfter next last nextAfter lastAfter : List ℕ} {n : Lengths} {r : CodeCleaned} →
     CleanPromise reading file slice other (Code.Gives n) after otherAfter →

@@ -1,5 +1,5 @@
--- Demands 2 and 3 over the promises of the code, those that stand in the `ensures` of the entries, and for each reading: nobody has to join a promise
--- and a theorem over the definitions himself. The two halves are in specs/TickByTick.antt, and the program is in specs/Program.antt.
+-- Demands 2 and 3 over the promises of the code, those that stand in the `ensures` of the entries, and for each reading: nobody has to put a
+-- promise and a theorem over the definitions together. The two halves are in specs/TickByTick.antt, and the program is in specs/Program.antt.
 -- In order: prepare; never 17; what a run releases; the same in C, and the two halves in C; joins; two files that are alike.
 use mathlib.Core.Path.{_≡_, refl, sym, ap, ap₂, subst, _∙_}
 use mathlib.Core.Bool.{Bool, true, false, cond}
@@ -87,7 +87,7 @@ module _ {reading : ℕ} {file before marks : List ℕ} {r : Prepared} (h : Prep
       run-never-17 reading file before passed long s events out
       (subst (λ (m : List ℕ). runOf reading file m s events out .refusal ≡ 17) (h .marks) (ap (λ (z : RunAnswer). z .refusal) (sym (k .said)) ∙ e))
 
--- The start of every policy, as a state: location 0 and four clocks at 0.
+-- Where prepare gives a summary, the start is the state `startState`: location 0 and four clocks at 0.
 from-start :
     (reading : ℕ) (file before events out : List ℕ) (s : Summary) → prepareOf reading file before ≡ gives s →
     fromStart reading file before events out ≡ runOf reading file (preparedMarks reading file before) startState events out
@@ -125,7 +125,7 @@ c-start = refl
 abbrev pub runRead : ℕ → (state out : List ℕ) → RunAnswer
 runRead r state out = record { refusal = r % 256; count = r / 256; state = stateIn state; out = out }
 
--- What the word of prepare holds is what prepare answers.
+-- Where the word of groovepawn_prepare has no refusal, prepare gives a summary.
 pub prepare-read : {reading : ℕ} {file before marks : List ℕ} {v : ℕ} → PrepareCall reading file before v marks → v % 256 ≡ 0 →
     (s : Summary) × (prepareOf reading file before ≡ gives s)
 prepare-read {reading} {file} {before} {v = v} h z =
@@ -169,7 +169,7 @@ module _ {reading : ℕ} {file before marks : List ℕ} {v : ℕ} (h : PrepareCa
       go true e = omega arith
       go false e = omega arith
 
-  -- "With the marks of prepare .. run and the input half never give 17."
+  -- groovepawn_input never gives 17.
   pub c-input-never-17 : {state : List ℕ} {x w : ℕ} → InputCall reading file marks state x w → ¬ (w % 256 ≡ 17)
   c-input-never-17 {state} {x} {w} i e = go (isState state) refl
     where
@@ -198,8 +198,8 @@ module _ {reading : ℕ} {file before marks : List ℕ} {v : ℕ} (h : PrepareCa
               (subst (λ (m : List ℕ). runOf reading file m (stateIn state) events out .refusal ≡ 17) (h .marks) d)
           by false d = odd-never _ d
 
--- groovepawn_prepare refused nothing, and groovepawn_run ran from there with those marks, over fewer than 2^56 events: what it answered is what the definitions
--- say of a run from the start.
+-- groovepawn_prepare refused nothing, and groovepawn_run ran from the five zeros with those marks, over fewer than 2^56 events: what it answered is
+-- what the definitions say of a run from the start, where that is demand 2's stream.
 c-runs :
     {reading : ℕ} {file before marks events out state written : List ℕ} {v r : ℕ} → PrepareCall reading file before v marks → v % 256 ≡ 0 →
     RunCall reading file marks cStart events out r state written → length events < 2 ^ 56 →
@@ -243,7 +243,7 @@ pub data CTicks (reading : ℕ) (file marks : List ℕ) : List ℕ → (read rel
       InputCall reading file marks state (e .x) (r .x * 256) → OutputCall reading file marks state (r .x) (e .y) (r .y * 256) next →
       CTicks reading file marks next es rs last → CTicks reading file marks state (e ∷ es) (r ∷ rs) last
 
--- A word without a refusal is the answer of five numbers.
+-- A word without a refusal comes from five numbers, and its value is the answer.
 value-said : (v : ℕ) (t : Bool) (a : Answer ℕ) (n : ℕ) → answerIn (v * 256) ≡ cond t a (refused n) → (t ≡ true) × (gives v ≡ a)
 value-said v true a n e = let f = answer-fields v in (refl, rw (f .0, f .1) at e)
 value-said v false a n e = let f = answer-fields v in let h : gives v ≡ refused n = rw (f .0, f .1) at e in let z : _≡_ {A = ℕ} 0 1 = cc in absurd (omega arith)
@@ -323,7 +323,7 @@ c-ticks-run {reading} {file} {marks} {state} {last} {out} {es = es} {rs} {r} h f
       k .released ∙ ap (λ (t : Bool). cond t (q .out) out) is ∙ ap (λ (z : RunAnswer). z .out) same,
     )
 
--- "Wherever the joins named are made": what join's code wrote is a join that was made, and so is what groovepawn_join wrote.
+-- "Wherever the joins named are made": what join's code wrote is a join that was made.
 pub code-joined : {a b before after : List ℕ} {n : ℕ} → JoinPromise a b before (Code.Length n) after → JoinMade a b (take n after)
 code-joined {before = before} {n = n} h = record { slice = before; size = n; given = sym (h .answers); written = ap (take n) (h .writes) }
 
@@ -339,7 +339,7 @@ c-joined {a} {b} {before} {r = r} h z =
     }
 
 -- So demand 3 speaks of the files that the code wrote: "the join permits exactly the streams that all its parts permit", and "rests only where all
--- parts rest together", read under one reading,
+-- parts rest together", read under one reading.
 pub code-permits :
     (reading : ℕ) {a b before after : List ℕ} {n : ℕ} → JoinPromise a b before (Code.Length n) after →
     Permits (policyOf reading (take n after)) ≋ Permits (policyOf reading a) alongside Permits (policyOf reading b)
@@ -351,7 +351,8 @@ pub c-permits :
     Permits (policyOf reading (take (r / 256) after)) ≋ Permits (policyOf reading a) alongside Permits (policyOf reading b)
 c-permits reading h z = permits-exactly reading (c-joined h z)
 
--- "A with B or B with A", "grouped either way with C", "A with itself", "A with the policy that permits all", on either side: of what join's code wrote,
+-- "A with B or B with A", "grouped either way with C", "A with itself", "A with the policy that permits all", on either side: of what join's code wrote, and
+-- of what groovepawn_join wrote.
 module _ (reading : ℕ) (named : readingRefusal reading ≡ 0) where
   -- A with B and B with A are alike.
   pub code-order :
@@ -377,7 +378,7 @@ module _ (reading : ℕ) (named : readingRefusal reading ≡ 0) where
   pub code-unit-first : {a x f : List ℕ} {n : ℕ} → JoinPromise (permitsAll a) a x (Code.Length n) f → Alike reading (take n f) a
   code-unit-first j = unit-law-first reading named (code-joined j)
 
-  -- and of what groovepawn_join wrote.
+  -- In C: A with B and B with A are alike.
   pub c-order :
       {a b x f y g : List ℕ} {r q : ℕ} → JoinCall a b x r f → r % 256 ≡ 0 → JoinCall b a y q g → q % 256 ≡ 0 →
       Alike reading (take (r / 256) f) (take (q / 256) g)
@@ -427,8 +428,8 @@ same-runs {reading} {f} {g = g} {events = events} c {a} {b} one two =
       );
     }
 
--- "hopeless together, or the same released stream for every event stream", of the code: what prepare's code said of two files that are alike, with slices
--- for the marks that are long enough, and what run's code then released from `State::start()` with the marks m and n that it wrote.
+-- Prepare's code gave a summary for both files, and run's code, from `State::start()` and with the marks m and n that prepare wrote, releases the same
+-- for both.
 pub record SameGiven (reading : ℕ) (f m g n : List ℕ) (r q : Prepared) : Type 0 where
   pub first : (s : Summary) × (r ≡ Prepared.Gives s)
   pub second : (s : Summary) × (q ≡ Prepared.Gives s)
@@ -437,7 +438,8 @@ pub record SameGiven (reading : ℕ) (f m g n : List ℕ) (r q : Prepared) : Typ
       RunPromise reading f m startState events out a after → RunPromise reading g n startState events out b also →
       SameRuns reading f g events out (ranSaid a after) (ranSaid b also)
 
--- Of two files that are alike, prepare's code refuses both by 11, or run's code releases the same for both.
+-- "hopeless together, or the same released stream for every event stream": of two files that are alike, and with slices for the marks that are long
+-- enough, prepare's code refuses both by 11, or run's code releases the same for both.
 pub code-alike :
     {reading : ℕ} {f x m g y n : List ℕ} {r q : Prepared} → Alike reading f g → PreparePromise reading f x r m → PreparePromise reading g y q n →
     states (policyOf reading f) ≤ length x → states (policyOf reading g) ≤ length y →
@@ -458,7 +460,8 @@ code-alike {reading} {f} {x} {m} {g} {y} {n} {r} {q} alike h k l o =
       runs = λ events out after also a b good long u v. same-runs (d .2 events out good long) (code-runs of-f u) (code-runs of-g v);
     })) (alike .together x y l o)
 
--- The same in C: what groovepawn_prepare said of the two, and what groovepawn_run then released from { 0, 0, 0, 0, 0 }, over fewer than 2^56 events.
+-- The same in C: groovepawn_prepare refused neither file, and groovepawn_run, from { 0, 0, 0, 0, 0 } and over fewer than 2^56 events, releases the same
+-- for both.
 pub record CSameGiven (reading : ℕ) (f m g n : List ℕ) (v w : ℕ) : Type 0 where
   pub given : (v % 256 ≡ 0) × (w % 256 ≡ 0)
   pub runs :

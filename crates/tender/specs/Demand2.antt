@@ -75,7 +75,7 @@ pub record Agree (reading : ℕ) (file marks : List ℕ) (s : State) (b : ℕ) :
       runOf reading file marks s (b ∷ bs) (o ∷ out)
       ≡ after (byteOf (record { x = x; y = y })) (runOf reading file marks (outputOf reading file marks s x (b / 16) .state) bs out)
 
--- Or both are refused, by the same number.
+-- The input half and the run are both refused, by the same number.
 pub record Refuse (reading : ℕ) (file marks : List ℕ) (s : State) (b : ℕ) : Type 0 where
   pub number : ℕ
   pub input : inputOf reading file marks s (b % 16) ≡ refused (suc number)
@@ -98,11 +98,11 @@ pub record Demand2 : Type 0 where
   pub hopeless-exactly :
       (reading : ℕ) (file marks : List ℕ) → refusalUnder reading file ≡ 0 → states (policyOf reading file) ≤ length marks →
       (prepareOf reading file marks ≡ refused 11) ↔ Hopeless (Permits (policyOf reading file))
-  -- "Otherwise" prepare gives the summary,
+  -- "Otherwise" prepare gives the summary.
   pub prepared-otherwise :
       (reading : ℕ) (file marks : List ℕ) → refusalUnder reading file ≡ 0 → states (policyOf reading file) ≤ length marks →
       (¬ Hopeless (Permits (policyOf reading file))) ↔ (prepareOf reading file marks ≡ gives (summaryOf (policyOf reading file)))
-  -- and a run releases what is to be released. Two answers that meet this are the same.
+  -- A run releases what is to be released. Two answers that meet this are the same.
   pub releases : Right runOf
   pub released-one :
       {p : Policy} {events before : List ℕ} {r q : RunAnswer} → Released p events before r → Released p events before q → r ≡ q

@@ -36,7 +36,7 @@ pub data JoinOf : List (List ℕ) → List ℕ → Type 0 where
   alone : {a : List ℕ} → JoinOf (a ∷ []) a
   joined : {these those : List (List ℕ)} {f g h : List ℕ} → JoinOf these f → JoinOf those g → JoinMade f g h → JoinOf (these ++ those) h
 
--- The same policies, in whatever order, and each as often as you like.
+-- The same policies, in whatever order, and each once or more often.
 abbrev pub SamePolicies : List (List ℕ) → List (List ℕ) → Type 0
 SamePolicies these those = (a : List ℕ) → List·Memᴰ a these ↔ List·Memᴰ a those
 
@@ -105,13 +105,13 @@ pub record Demand3 : Type 0 where
       Permits (policyOf reading f) ≋ Permits (policyOf reading a) alongside Permits (policyOf reading b)
   pub permits-all : (reading : ℕ) {parts : List (List ℕ)} {f : List ℕ} → JoinOf parts f → Permits (policyOf reading f) ≋ AllOf reading parts
   -- "Clauses bind alike in any order", for each reading that 22 does not refuse: two joins of the same policies, taken in whatever order, grouped in whatever
-  -- way and each as often as you like, are alike. Where one of them passes the check, so does the other; a join that was made always does.
+  -- way and each once or more often, are alike. Where one of them passes the check, so does the other; a join that was made always does.
   pub any-order :
       (reading : ℕ) → readingRefusal reading ≡ 0 → {these those : List (List ℕ)} {f g : List ℕ} →
       JoinOf these f → JoinOf those g → SamePolicies these those → refusalOf f ≡ 0 → Alike reading f g
-  -- Of that law: "A with B or B with A",
+  -- Of that law: "A with B or B with A".
   pub order : (reading : ℕ) → readingRefusal reading ≡ 0 → {a b f g : List ℕ} → JoinMade a b f → JoinMade b a g → Alike reading f g
-  -- "grouped either way with C",
+  -- "grouped either way with C".
   pub grouping :
       (reading : ℕ) → readingRefusal reading ≡ 0 → {a b c f g h k : List ℕ} →
       JoinMade a b f → JoinMade f c h → JoinMade b c g → JoinMade a g k → Alike reading h k

@@ -90,7 +90,7 @@ module _ (reading : ℕ) where
   pub permits-exactly : {a b f : List ℕ} → JoinMade a b f → Permits (policyOf reading f) ≋ Permits (policyOf reading a) alongside Permits (policyOf reading b)
   permits-exactly j = made j .permits reading
 
-  -- To each part, and from both.
+  -- The join permits no more than its first part, and rests nowhere else.
   pub to-first : {a b f : List ℕ} → JoinMade a b f → Permits (policyOf reading f) narrows Permits (policyOf reading a)
   to-first j = narrows-trans (permits-exactly j .0) (alongside-first _ _)
 
@@ -143,7 +143,7 @@ some-part (alone {a = b}) = (b, List·Memᴰ·head refl)
 some-part (joined {those = those} i j k) = let p = some-part i in (p .0, Memᴰ·append-left those (p .1))
 
 module _ (reading : ℕ) where
-  -- What is released goes by the permitted streams alone: two files that pass, with the same signals and the same permitted streams, are alike.
+  -- Two files that pass, with the same signals and the same permitted streams.
   module _ (f g : List ℕ) (first : refusalUnder reading f ≡ 0) (second : refusalUnder reading g ≡ 0) (same : tags f ≡ tags g)
       (permit : Permits (policyOf reading f) ≋ Permits (policyOf reading g)) where
     equally : Equal (policyOf reading f) (policyOf reading g)
@@ -159,7 +159,7 @@ module _ (reading : ℕ) where
         subst (λ (t : List ℕ × List ℕ). Enforced corrections (Permits (policyOf reading g)) (length (t .0)) (length (t .1)) [] (map eventOf events) rs) same
         (equally .releases corrections _ _ [] (map eventOf events) rs .0 h)
 
-    -- Files that pass, with the same signals and the same permitted streams, are alike.
+    -- They are alike: what is released goes by the permitted streams alone.
     pub permits-alike : Alike reading f g
     permits-alike = record { passed = (first, second); signals = same; together = together }
       where
@@ -281,7 +281,7 @@ module _ (reading : ℕ) (named : readingRefusal reading ≡ 0) where
   unit-first {a} {b} free j =
       let s = made j in unit-any-first (permits-more reading a b (s .first) (sym (s .tags-second) ∙ s .tags-first) free) j
 
-  -- With the file that permits all, over the signals of a.
+  -- A with the file that permits all, over its signals, is like A.
   pub unit-law : {a f : List ℕ} → JoinMade a (permitsAll a) f → Alike reading f a
   unit-law {a} j = unit (is-permits-all reading a (made j .first)) j
 
@@ -310,23 +310,23 @@ demand-3 =
 abbrev pub forward : Run
 forward reading file marks s events out = record { refusal = 0; count = length events; state = s; out = events ++ drop (length events) out }
 
--- Whatever the reading and the two files are, it answers the same,
+-- Whatever the reading and the two files are, it answers the same.
 pub forward-alike :
     (reading : ℕ) (f m g n events out : List ℕ) (s t : State) → SameAnswer (forward reading f m s events out) (forward reading g n t events out)
 forward-alike reading f m g n events out s t = record { refusal = refl; count = refl; out = refl }
 
--- and what it released comes back unchanged;
+-- What it released comes back unchanged.
 pub forward-back :
     (reading : ℕ) (file marks events out again : List ℕ) (s : State) →
     let released = take (length events) (forward reading file marks s events out .out) in
     forward reading file marks s released again .out ≡ released ++ drop (length events) again
 forward-back reading file marks events out again s = rw (take-at events _ _ refl)
 
--- but it does not release the streams of demand 2, as `SameReleased` asks.
+-- But it is not right: it does not release the streams of demand 2, as `SameReleased` asks.
 pub forward-wrong : ¬ Right forward
 forward-wrong right = not-forwarding forward right refl
 
--- Such joins are made: sample T with itself.
+-- Joins are made: sample T with itself.
 pub T-joined : JoinMade T T (take 40 (joinedOut T T (replicate 40 0)))
 unfolding the-file the-check the-bytes the-join Rules.rests
 T-joined = record { slice = replicate 40 0; size = 40; given = refl; written = refl }

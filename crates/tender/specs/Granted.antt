@@ -77,7 +77,7 @@ module _ (reading : ℕ) (file marks : List ℕ) where
         ap (λ (z : Place). isMarked marks (numberOf (policyOf reading file) z)) (placeIn-stateOf (policyOf reading file) (k .inside)) ∙ k .marked,
       )
 
-  -- From a place that is ready nothing is refused.
+  -- From a marked place the run answers as `ran` goes: nothing else is refused.
   pub run-ready :
       marksRefusal reading file marks ≡ 0 → (t : Place) → MarkedPlace (policyOf reading file) marks t →
       (events out : List ℕ) → length events ≤ length out → allPass (eventGood reading file) events ≡ true →
@@ -114,7 +114,7 @@ module _ (reading : ℕ) (file marks : List ℕ) (passed : refusalUnder reading 
   unfolding preparedMarks
   prepared-granted = marks-granted reading file (preparedMarks reading file marks) .1 (passed, rw (granted, length-append, marks-length) (omega arith))
 
-  -- The start ends and is refused by 11, or it goes on for ever and the summary is given.
+  -- The policy is hopeless and refused by 11, or it can go on for ever from the start and the summary is given.
   pub judged :
       (Hopeless (Permits (policyOf reading file)) × (prepareOf reading file marks ≡ refused 11))
       ⊎ (GoesOn (Permits (policyOf reading file)) [] × (prepareOf reading file marks ≡ gives (summaryOf (policyOf reading file))))

@@ -57,13 +57,14 @@ loop reading file marks s (e ∷ es) =
     ]
 
 module _ (reading : ℕ) (file marks : List ℕ) (s : State) (e : Event) (es : Stream) where
-  -- One tick of the loop, and its end where the input half refuses.
+  -- One tick of the loop, where neither half refuses.
   pub loop-more :
       {x y : ℕ} → inputOf reading file marks s (e .x) ≡ gives x → outputOf reading file marks s x (e .y) .answer ≡ gives y →
       loop reading file marks s (e ∷ es) ≡ before (record { x = x; y = y }) (loop reading file marks (outputOf reading file marks s x (e .y) .state) es)
   unfolding loop
   loop-more h k = rw (h, k, loop)
 
+  -- The loop ends where the input half refuses.
   loop-ends : {n : ℕ} → inputOf reading file marks s (e .x) ≡ refused n →
       loop reading file marks s (e ∷ es) ≡ record { refusal = n; released = []; state = s }
   unfolding loop
@@ -136,7 +137,7 @@ module _ (reading : ℕ) (file marks : List ℕ) where
   abbrev p : Policy
   p = policyOf reading file
 
-  -- The halves of one tick, from a place that is ready.
+  -- The halves of one tick, from a marked place.
   module _ (granted : marksRefusal reading file marks ≡ 0) {t : Place} (k : MarkedPlace p marks t) where
     here : placeIn p (stateOf t) ≡ t
     here = placeIn-stateOf p (k .inside)
@@ -154,7 +155,7 @@ module _ (reading : ℕ) (file marks : List ℕ) where
         outputOf reading file marks (stateOf t) x y ≡ outputFrom (stateOf t) (chosen 0 (outputTick p marks t x y))
     output-here x y f g = output-answer reading file marks (stateOf t) x y f g ∙ rw (none-here, here)
 
-  -- From such a place the loop goes as the run does.
+  -- From a marked place the loop goes as the run does.
   pub loop-ran :
       marksRefusal reading file marks ≡ 0 → {t : Place} → MarkedPlace p marks t → {es : Stream} → Fits p es →
       loop reading file marks (stateOf t) es ≡ ranAs (ran p marks t es)
@@ -202,7 +203,7 @@ module _ (reading : ℕ) (file marks : List ℕ) where
       (run-ready reading file marks (k .0) t ready events out long good
       ∙ sym (ap (λ (l : Looped). asRun l out) (loop-ran (k .0) ready (good-fits reading file events good))))
 
--- From the start and with the marks of prepare, that is demand 2's stream.
+-- From the start and with the marks of prepare, the loop releases demand 2's stream.
 pub loop-releases :
     (reading : ℕ) (file marks : List ℕ) (s : Summary) → prepareOf reading file marks ≡ gives s →
     (events out : List ℕ) → allPass (eventGood reading file) events ≡ true → length events ≤ length out →

@@ -18,8 +18,8 @@ use Rattle.tender.specs.Demand3.{JoinMade}
 use Rattle.join.specs.Computing.{the-join}
 use Rattle.prepare.specs.Computing.{the-file, the-check, a-step, the-marks, the-run, the-bytes}
 
--- The outputs are the pump P, in bit 0, and the valve V, in bit 1: event 10 is the pump alone, 20 the valve alone, 30 both. The clauses: the pump runs
--- only with the valve open; the pump stays off; the valve stays shut.
+-- The outputs are the pump P, in bit 0, and the valve V, in bit 1: event 10 is the pump alone, 20 the valve alone, 30 both. The first clause: the
+-- pump runs only with the valve open.
 abbrev pub pumpWithValve : List ℕ
 pumpWithValve =
     0x00 ∷ 0x02 ∷ 0x50 ∷ 0x56 ∷ 0x00 ∷ 0x01 ∷ 0x00 ∷ 0x00 ∷ 0x02
@@ -40,7 +40,7 @@ valveShut =
     ∷ 0x00 ∷ 0x00 ∷ 0x00 ∷ 0x02 ∷ 0x02 ∷ 0x00 ∷ 0xFF
     ∷ 0x00 ∷ 0x00 ∷ 0x00 ∷ 0x00 ∷ 0x00 ∷ 0x00 ∷ 0x00 ∷ []
 
--- Each with the first clause, joined.
+-- The pump runs only with the valve open, and the pump stays off.
 abbrev pub withPumpOff : List ℕ
 withPumpOff =
     0x00 ∷ 0x02 ∷ 0x50 ∷ 0x56 ∷ 0x00 ∷ 0x01 ∷ 0x00 ∷ 0x00 ∷ 0x04
@@ -111,11 +111,11 @@ unfolding the-file the-check a-step the-marks the-run annexCases
 annex-cases =
     each-reading (λ reading. map (λ c. said (c .reading) (c .file) (c .asked)) (annexCases reading) ≡ map (λ c. c .expected) (annexCases reading)) refl refl
 
--- What one enforcer releases for the events, and what two in a row do: B's reads what A's released. Each from the start, with the marks of prepare.
+-- What A's enforcer releases for the events, from the start and with the marks of prepare.
 abbrev pub alone : (reading : ℕ) (a events : List ℕ) → List ℕ
 alone reading a events = run reading a events .out
 
--- What B's enforcer releases of what A's released.
+-- What two in a row release: B's enforcer reads what A's released.
 abbrev pub inARow : (reading : ℕ) (a b events : List ℕ) → List ℕ
 inARow reading a b events = alone reading b (alone reading a events)
 

@@ -77,14 +77,14 @@ module _ {reading : ℕ} {file before marks : List ℕ} {v : ℕ} (h : PrepareCa
     pub c-dead : (getD marks n 0 ≡ 0) ↔ Dead (policyOf reading file) (placeOf (policyOf reading file) n)
     c-dead = prepare-dead (c-prepare h) passed long l
 
--- "A refusal returns its number, and the by-value half also hands back the state it was given"; a run "count 0 and the state given, unless it is 17. Nothing is
--- written".
+-- "A refusal returns its number, and the by-value half also hands back the state it was given": a call of groovepawn_output that is refused leaves the
+-- state as it was.
 pub c-output-stays :
     {reading : ℕ} {file marks state after : List ℕ} {x y r : ℕ} → OutputCall reading file marks state x y r after → ¬ (r % 256 ≡ 0) → after ≡ state
 c-output-stays {reading} {file} {marks} {state} {x = x} {y} h some =
     h .next ∙ output-stays reading file marks state x y (λ z. some (ap (λ (n : ℕ). n % 256) (h .said) ∙ z))
 
--- A run that is refused by another number than 17 leaves the state and the slice as they were.
+-- A run gives "the state given, unless it is 17. Nothing is written": one that is refused by another number leaves the state and the slice as they were.
 pub c-run-stays :
     {reading : ℕ} {file marks state events before after written : List ℕ} {r : ℕ} → RunCall reading file marks state events before r after written →
     ¬ (r % 256 ≡ 0) → ¬ (r % 256 ≡ 17) → (after ≡ state) × (written ≡ before)
@@ -93,7 +93,7 @@ c-run-stays {reading} {file} {marks} {state} {events} {before} h some other =
     let k = run-stays reading file marks state events before (λ z. some (word ∙ z)) (λ z. other (word ∙ z)) in
     (h .next ∙ k .0, h .released ∙ k .1)
 
--- 12/13, "built once": what index::build's code wrote without a refusal is the file's index, and so is what groovepawn_index wrote;
+-- 12/13, "built once": what index::build's code wrote without a refusal is the file's index.
 pub code-index : {file before after : List ℕ} → BuildPromise file before 0 after → take 128 after ≡ indexOf file
 unfolding builtIndex
 code-index {file} {before} h =
@@ -103,7 +103,8 @@ code-index {file} {before} h =
 pub c-index : {file before after : List ℕ} → IndexCall file before 0 after → take 128 after ≡ indexOf file
 c-index h = code-index (record { refuses = h .said; writes = h .index })
 
--- "With it the halves give the same answers as the present ones for every input": with the index that was built they keep the promises of the present halves,
+-- "With it the halves give the same answers as the present ones for every input": with the index that was built they keep the promises of the
+-- halves without one.
 module _ {file before after : List ℕ} (built : BuildPromise file before 0 after) where
   -- The input half's two promises, with that index and without one, are the same.
   pub code-input-indexed :
@@ -121,7 +122,7 @@ module _ {file before after : List ℕ} (built : BuildPromise file before 0 afte
       subst (λ (index : List ℕ). OutputIndexedPromise reading file index marks s x y r ↔ OutputPromise reading file marks s x y r) (sym (code-index built))
       (output-alike reading file marks s x y r)
 
--- and the calls are those of groovepawn_input and groovepawn_output: what is said of these holds of them.
+-- In C, with the index that was built: the calls are those of groovepawn_input and groovepawn_output, so what is said of these holds of them.
 module _ {file before after : List ℕ} (built : IndexCall file before 0 after) where
   -- A call of groovepawn_input_indexed with that index is one of groovepawn_input.
   pub c-input-indexed :
@@ -135,7 +136,7 @@ module _ {file before after : List ℕ} (built : IndexCall file before 0 after) 
   c-output-indexed {reading} {marks} {state} {x = x} {y} h =
       let k = output-call-same reading file (take 128 after) marks state (c-index built) x y in record { said = h .said ∙ k .0; next = h .next ∙ k .1 }
 
--- "Any other index is refused": 28 exactly if the check passes and the numbers are not the file's index; of the code,
+-- "Any other index is refused": 28 exactly if the check passes and the numbers are not the file's index. Here of the code.
 module _ {reading : ℕ} {file index marks : List ℕ} {s : State} {x : ℕ} where
   -- With an index, the code's input half gives 28 exactly if the file passes and the index is not the file's.
   pub code-input-28 :
@@ -154,7 +155,7 @@ module _ {reading : ℕ} {file index marks : List ℕ} {s : State} {x : ℕ} whe
       let said = ap (λ (a : OutputAnswer). a .answer) (h .said) in
       (λ e. k .0 (sym said ∙ ap answerSaid e), λ e. answer-one (r .answer) (Half.Refused 28) (said ∙ k .1 e))
 
--- and of the functions in C, whatever numbers stand for the state.
+-- The same of the functions in C, whatever numbers stand for the state.
 module _ (reading : ℕ) (file index marks state : List ℕ) where
   abbrev Wrong : Type 0
   Wrong = (refusalUnder reading file ≡ 0) × (¬ (index ≡ indexOf file))
@@ -189,7 +190,7 @@ module _ (reading : ℕ) (file index marks state : List ℕ) where
       by-state (isState state) r (ap answerIn (h .said) ∙ output-indexed-fields reading file index marks state x y)
       (output-28 reading file index marks (stateIn state) x y)
 
--- 2/13: where groovepawn_why refuses nothing, its word holds a reason for each half that is true, and given exactly if the half was edited.
+-- 2/13: where groovepawn_why refuses nothing, its word holds for each half a reason that is true, given exactly if the half was edited.
 pub c-why :
     {reading : ℕ} {file marks state : List ℕ} {x y r : ℕ} → WhyCall reading file marks state x y r → r % 256 ≡ 0 →
     (told : Reasons)
@@ -211,7 +212,7 @@ c-why {reading} {file} {marks} {state} {x} {y} {r} h z = go (isState state) refl
     go true e = let a = h .said e in by (a .1) (a .2) (a .3)
     go false e = absurd (omega (arith, h .odd e, odd-some reading file marks true, odd-le reading file marks true))
 
--- 4/13: "each written file reads back as its stream", and the reader "takes back exactly what the writer makes".
+-- 4/13: "each written file reads back as its stream".
 pub c-written-reads :
     {file events before after out later : List ℕ} {r q : ℕ} → WaveWriteCall file events before r after → r % 256 ≡ 0 →
     WaveReadCall file (take (r / 256) after) out q later → length events ≤ length out →
@@ -221,7 +222,7 @@ c-written-reads {file} {events} {before} {after} {r = r} {q} w z t long =
     let k = written-reads (subst (λ (a : Written). WritePromise file events before a after) e (c-wave-write w)) (c-wave-read t) long in
     let g = taken-given q (k .0) in (g .0, g .1, k .1)
 
--- What groovepawn_wave_read took, groovepawn_wave_write writes as the same text.
+-- 4/13: the reader "takes back exactly what the writer makes". What groovepawn_wave_read took, groovepawn_wave_write writes as the same text.
 pub c-read-writes :
     {file text out later before after : List ℕ} {q r : ℕ} → WaveReadCall file text out q later → q % 256 ≡ 0 →
     WaveWriteCall file (take (q / 256) later) before r after → length text ≤ length before →

@@ -39,7 +39,7 @@ K-passes = refl
 abbrev pub clockAt : ℕ → Place
 clockAt v = record { location = 0; clocks = v ∷ [] }
 
--- The clock's values are 0 to its ceiling 3, so there are four states, and all of them are live.
+-- K's marks, and `rest` after them. The clock's values are 0 to its ceiling 3, so there are four states, and all of them are live.
 abbrev live : List ℕ → List ℕ
 live rest = 1 ∷ 1 ∷ 1 ∷ 1 ∷ rest
 

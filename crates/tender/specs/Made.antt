@@ -178,7 +178,7 @@ module _ (a : List ℕ) (passed : refusalOf a ≡ 0) where
       let none = none-refused a (permitsAll a) f (unit-unrefused f (le-refl (length f))) in
       longest f (frame f (joined-passes a (permitsAll a) f none))
 
-  -- So join's code gives a length.
+  -- So into a slice of 5,974 bytes or more join's code gives a length.
   pub unit-given : {before after : List ℕ} {r : Code.Joined} → JoinPromise a (permitsAll a) before r after → 5974 ≤ length before →
       (n : ℕ) × (r ≡ Variants.Length n)
   unit-given {before} h long =
@@ -186,7 +186,7 @@ module _ (a : List ℕ) (passed : refusalOf a ≡ 0) where
       let e = given-of a (permitsAll a) before (unit-unrefused before (omega (arith, unit-room before))) in
       (n, join-one {s = Variants.Length n} h (record { answers = sym e; writes = refl }) .0)
 
--- Three policies joined "either way": K, the credit always off, and K again.
+-- The join of a and b, in a slice of so many bytes.
 abbrev joinedIn : (size : ℕ) (a b : List ℕ) → List ℕ
 joinedIn size a b = take size (joinedOut a b (replicate size 0))
 
@@ -198,7 +198,7 @@ left = joinedIn 54 K alwaysOff
 abbrev pub right : List ℕ
 right = joinedIn 54 alwaysOff K
 
--- Both ways of joining the three are made.
+-- Three policies joined "either way": K, the credit always off, and K again. All four joins are made.
 pub three-made :
     JoinMade K alwaysOff left × JoinMade left K (joinedIn 132 left K) × JoinMade alwaysOff K right × JoinMade K right (joinedIn 132 K right)
 unfolding the-file the-check the-bytes the-join Rules.rests

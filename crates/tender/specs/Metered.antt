@@ -33,7 +33,7 @@ pub record Read : Type 0 where
   pub y : ℕ
 
 module _ (reading : ℕ) (file : List ℕ) where
-  -- The event that is read then: in x, P is set exactly when pulses is not 0.
+  -- The event that is read then: in x, P is set exactly if there were pulses.
   abbrev pub eventRead : (station : List ℕ) → Read → Event
   eventRead station t = record { x = withPulse (weightP reading file) (pulsesOf (t .register) (lastReading station)) (t .x); y = t .y }
 
@@ -169,7 +169,7 @@ c-refused-stays {reading} {file} {marks} {station} {totals} {register = register
     let k = meter-output-stays reading file marks station totals register x y (λ z. some (ap (λ (n : ℕ). n % 256) (h .said) ∙ z)) in
     (h .next ∙ k .0, h .sums ∙ k .1)
 
--- Any calls of groovepawn_meter_output, accepted or refused, from a station that groovepawn_meter_new set up.
+-- Any calls of groovepawn_meter_output, accepted or refused, one after the other.
 pub data CTurns (reading : ℕ) (file marks : List ℕ) : (station totals : List ℕ) → List Turn → (last sums : List ℕ) → Type 0 where
   c-turns-none : {station totals : List ℕ} → CTurns reading file marks station totals [] station totals
   c-turns-more : {station totals next risen last sums : List ℕ} {t : Turn} {ts : List Turn} {r : ℕ} →

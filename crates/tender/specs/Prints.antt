@@ -58,7 +58,7 @@ refused-not-summary : (s : Summary) (events released : List ℕ) (n : ℕ) → �
 unfolding verdictLine refusedLine
 refused-not-summary s events released n e = omega (arith, ap (λ (l : List ℕ). getD l 0 0) e)
 
--- The events are refused by 1, 2, 8 and 15, and never by 11.
+-- The count and the bytes of the events are refused by no number above 8, so never by 11.
 frame-le : (input : List ℕ) → eventsFrameRefusal input ≤ 8
 unfolding countRefusal
 frame-le input = search (else-le, unless-le)

@@ -27,12 +27,12 @@ use Rattle.tender.specs.Bays.{}
 use Rattle.tender.specs.Metered.{Read, MeterTicks, meter-none, meter-release}
 use Rattle.tender.specs.Transfer.{Transfer, all-live, event, four, live, quiet-0, quiet-1, quiet-2, quiet-3, quiet-tick, stale, stands, transfer-tick}
 
--- The pulses of a transfer, tick after tick: some in each, and fewer than 65,536.
+-- The pulses of all ticks together.
 unfoldable pub sum : List ℕ → ℕ
 sum [] = 0
 sum (d ∷ ds) = d + sum ds
 
--- In each tick there are some pulses, and fewer than 65,536.
+-- The pulses of a transfer, tick after tick: some in each, and fewer than 65,536.
 unfoldable pub Flows : List ℕ → Type 0
 Flows [] = Unit {0}
 Flows (d ∷ ds) = (0 < d) × (d < 65536) × Flows ds
@@ -46,7 +46,7 @@ transferReads c (d ∷ ds) = record { register = (c + d) % 65536; x = 0; y = 1 }
 abbrev pub quiet : ℕ → Read
 quiet c = record { register = c % 65536; x = 0; y = 0 }
 
--- The controller asks for K.
+-- A tick without pulses in which the controller asks for K.
 abbrev pub credit : ℕ → Read
 credit c = record { register = c % 65536; x = 0; y = 2 }
 
@@ -158,13 +158,13 @@ module _ {reading : ℕ} {lent marks : List ℕ} {s : Summary} (h : PreparePromi
   pub quiet-for-65537 : (ds : List ℕ) → Flows ds → sum ds ≤ 4294967295 → Story reading marks fresh zeros c ds 65537
   quiet-for-65537 ds f l = story ds f l 65537 (omega arith)
 
--- A long transfer: a hundred ticks of 1,000 pulses each. From 65,000 on the register rolls over twice in it, and 100,000 pulses are billed.
+-- Ticks with as many pulses each, some and fewer than 65,536, are a transfer.
 same-flow : (n d : ℕ) → 0 < d → d < 65536 → Flows (replicate n d)
 unfolding Flows
 same-flow zero d p l = tt
 same-flow (suc n) d p l = (p, l, same-flow n d p l)
 
--- A hundred ticks of 1,000 pulses are a transfer, of 100,000 pulses.
+-- A long transfer: a hundred ticks of 1,000 pulses each, 100,000 together. From 65,000 on the register rolls over twice in it.
 pub a-long-transfer : Flows (replicate 100 1000) × (sum (replicate 100 1000) ≡ 100000)
 unfolding sum
 a-long-transfer = (same-flow 100 1000 (omega arith) (omega arith), refl)

@@ -1,4 +1,5 @@
--- The policy of a transfer with a meter: "credit K only while the clock is at most 2", where a pulse of the meter starts the clock anew; and the ticks of a station with it.
+-- The policy of a transfer with a meter: "credit K only while the clock is at most 2", where a pulse of the meter starts the clock anew; and the ticks of
+-- a station with it.
 -- In order: the policy and its four states; its ticks by where the clock is; the ticks of a station, quiet or with pulses.
 use mathlib.Core.Path.{_≡_, refl, sym, ap, ap₂, subst, _∙_}
 use mathlib.Core.Bool.{true, false}
@@ -43,7 +44,7 @@ Transfer-passes : refusalOf Transfer ≡ 0
 unfolding the-file the-check
 Transfer-passes = refl
 
--- The clock's values are 0 to its ceiling 3, so there are four states, and all of them are live.
+-- Its marks, and `rest` after them. The clock's values are 0 to its ceiling 3, so there are four states, and all of them are live.
 abbrev pub live : List ℕ → List ℕ
 live rest = 1 ∷ 1 ∷ 1 ∷ 1 ∷ rest
 
@@ -96,32 +97,32 @@ module _ (reading : ℕ) (named : readingRefusal reading ≡ 0) where
           output = λ rest. output-answer reading Transfer (live rest) (stateOf (clockAt v)) x y (f rest .2) (f rest .3) ∙ rw (none-here rest, f rest .5);
         }
 
-  -- A pulse with D on from the clock at 0,
+  -- A pulse with D on, from the clock at 0: D passes, and the clock is at 0 again.
   transfers : StoryGoes reading 0 1 1 1 0
   unfolding marks-of
   transfers = goes 0 1 1 1 0 (each-reading (λ r. Chosen r 0 1 1 1 0) (λ rest. (refl, refl, refl, refl, refl, refl)) (λ rest. (refl, refl, refl, refl, refl, refl)) reading named)
 
-  -- quiet ticks, to the ceiling and on there,
+  -- A quiet tick takes the clock from 0 to 1.
   pub quiet-0 : StoryGoes reading 0 0 0 0 1
   unfolding marks-of
   quiet-0 = goes 0 0 0 0 1 (each-reading (λ r. Chosen r 0 0 0 0 1) (λ rest. (refl, refl, refl, refl, refl, refl)) (λ rest. (refl, refl, refl, refl, refl, refl)) reading named)
 
-  -- from the clock at 1 to 2,
+  -- A quiet tick takes the clock from 1 to 2.
   pub quiet-1 : StoryGoes reading 1 0 0 0 2
   unfolding marks-of
   quiet-1 = goes 1 0 0 0 2 (each-reading (λ r. Chosen r 1 0 0 0 2) (λ rest. (refl, refl, refl, refl, refl, refl)) (λ rest. (refl, refl, refl, refl, refl, refl)) reading named)
 
-  -- from the clock at 2 to 3,
+  -- A quiet tick takes the clock from 2 to 3.
   pub quiet-2 : StoryGoes reading 2 0 0 0 3
   unfolding marks-of
   quiet-2 = goes 2 0 0 0 3 (each-reading (λ r. Chosen r 2 0 0 0 3) (λ rest. (refl, refl, refl, refl, refl, refl)) (λ rest. (refl, refl, refl, refl, refl, refl)) reading named)
 
-  -- from the clock at 3, where it stays,
+  -- A quiet tick leaves the clock at 3, its ceiling.
   pub quiet-3 : StoryGoes reading 3 0 0 0 3
   unfolding marks-of
   quiet-3 = goes 3 0 0 0 3 (each-reading (λ r. Chosen r 3 0 0 0 3) (λ rest. (refl, refl, refl, refl, refl, refl)) (λ rest. (refl, refl, refl, refl, refl, refl)) reading named)
 
-  -- and the stale credit there, which does not pass.
+  -- The stale credit with the clock at 3 does not pass.
   pub stale : StoryGoes reading 3 0 2 0 3
   unfolding marks-of
   stale = goes 3 0 2 0 3 (each-reading (λ r. Chosen r 3 0 2 0 3) (λ rest. (refl, refl, refl, refl, refl, refl)) (λ rest. (refl, refl, refl, refl, refl, refl)) reading named)
@@ -156,11 +157,11 @@ has-D z = let w = weight-D in omega arith
 abbrev pub event : ℕ → ℕ → Event
 event x y = record { x = x; y = y }
 
--- The station with the clock at v and the last reading, and what the two halves of its tick answer. The slices may be longer: `past` and `more` stand after
--- the station and after the totals.
+-- The numbers of a station with the clock at v and the last reading. The slice may be longer: `past` stands after them.
 abbrev pub stands : List ℕ → ℕ → ℕ → List ℕ
 stands past v last = stateWords (stateOf (clockAt v)) ++ (last ∷ past)
 
+-- What the two halves of a tick answer. `more` stands after the totals.
 module _ (reading : ℕ) (named : readingRefusal reading ≡ 0) (rest past more : List ℕ) where
   -- The first half, with P set or cleared as x says.
   first-half : {v x y y' v' : ℕ} → StoryGoes reading v x y y' v' → (register last : ℕ) → withPulse 1 (pulsesOf register last) 0 ≡ x →

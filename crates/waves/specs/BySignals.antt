@@ -32,7 +32,7 @@ use Rattle.waves.specs.Promise.{TakePromise, WritePromise, writtenSaid}
 abbrev pub goodFor : (inputs outputs : ℕ) → ℕ → Bool
 goodFor inputs outputs e = ltb (e % 16) (2 ^ inputs) && ltb (e / 16) (2 ^ outputs)
 
--- The same, by the signals of a policy that passes its checks.
+-- The promises of the writer and the reader, by the signals of a policy that passes its checks.
 module _ (inputs outputs : List ℕ) where
   -- The refusals of the writer after the policy's own: 29, 15 and 14.
   abbrev pub refusalBy : (events out : List ℕ) → ℕ
@@ -53,7 +53,7 @@ module _ (inputs outputs : List ℕ) where
     given : (z : List ℕ) {n : ℕ} → text ≡ waveText inputs outputs z → AllFit inputs outputs z → length z ≤ 16384 → length z ≤ length out → n ≡ length z →
         TakenBy text out (Taken.Count n) (z ++ drop (length z) out)
 
--- Past the ones, and within them.
+-- A number above n ones is at least 2 to the power n.
 pub past-ones : (n v r : ℕ) → r ≡ 2 ^ n - 1 → r < v → 2 ^ n ≤ v
 past-ones n v r e h = omega arith
 

@@ -160,7 +160,7 @@ any-reading reading text = go (readLines 1 empty (linesOf text))
     go (stops n line) = refl
     go (reads d) = refl
 
--- As a file: it passes the file's own check.
+-- Read as a file, the text of a policy gives the bytes of that policy.
 pub file-back : (p : Policy) → WellFormed p → fileFromText (textOf p) ≡ reads (bytesOf p)
 file-back p w =
     sym (any-reading (p .reading) (textOf p)) ∙ ap filed (text-back p w) ∙ ap (λ (n : ℕ). passed n (bytesOf p)) (written-passes p w)

@@ -20,7 +20,7 @@ pub words-alone : (text other : List ℕ) → linesOf text ≡ linesOf other →
 unfolding fileFromText policyFromText
 words-alone text other e = ap (λ (ls : List Line). filed (saidBy 1 (readLines 1 empty ls))) e
 
--- So is the text of its words alone, each line with one space between them.
+-- The text of its words alone, each line with one space between them.
 unfoldable pub tidied : List ℕ → List ℕ
 tidied text = laid (λ l. 0) (linesOf text)
 
@@ -29,7 +29,7 @@ pub tidied-alike : (text : List ℕ) → fileFromText (tidied text) ≡ fileFrom
 unfolding tidied
 tidied-alike text = words-alone (tidied text) text (laid-read (λ l. 0) (linesOf text) (lines-whole text))
 
--- A byte in front of the first of some lines, which begins with a byte of the kind k.
+-- The words of a line with the byte c in front of it, where the line begins with a byte of the kind k.
 abbrev wordOnto : ℕ → ℕ → Line → Line
 wordOnto c k l = cond (eqb c 35) [] (cond (eqb (kind c) 0) l (cond (eqb k (kind c)) (onto c l) ((c ∷ []) ∷ l)))
 
@@ -145,7 +145,7 @@ module _ (b : ℕ) (h : isBlank b ≡ true) where
       go true = ap (λ (ls : List Line). [] ∷ ls) (blank-there d back)
       go false = ap (lineOnto a (kind b)) (blank-there d back) ∙ each (linesOf (d ∷ back))
 
-  -- In front of a text.
+  -- A blank in front of a text that is not empty changes nothing.
   pub blank-first : (d : ℕ) (back : List ℕ) → fileFromText (b ∷ d ∷ back) ≡ fileFromText (d ∷ back)
   blank-first d back = words-alone (b ∷ d ∷ back) (d ∷ back) (blank-there d back)
 
@@ -163,13 +163,13 @@ unfolding split
 last-split c [] h = rw (h .0)
 last-split c (d ∷ ds) h = rw (h .0, last-split d ds (h .1))
 
--- A comment, as far as its line's end.
+-- A comment may be left out, as far as its line's end.
 pub comment-gone : (front comment back : List ℕ) → Unended comment → fileFromText (front ++ (35 ∷ (comment ++ (10 ∷ back)))) ≡ fileFromText (front ++ (10 ∷ back))
 unfolding linesOf split wordsOf kind parts
 comment-gone front comment back h =
     read-alike front (record { first = refl; lines = ap eachWords (line-split (35 ∷ comment) back (refl, h)) })
 
--- One that ends the text does what a blank does.
+-- A comment that ends the text does what a blank does.
 pub comment-last : (front comment : List ℕ) → Unended comment → fileFromText (front ++ (35 ∷ comment)) ≡ fileFromText (front ++ (32 ∷ []))
 unfolding linesOf split wordsOf kind parts
 comment-last front comment h = read-alike front (record { first = refl; lines = ap eachWords (one-line comment h) })
@@ -222,6 +222,6 @@ file-aside text = go (readLines 1 empty (linesOf text)) ∙ ap fileBy (lines-asi
     go (stops n line) = refl
     go (reads d) = refl
 
--- Blank lines move nothing but the numbers of the lines.
+-- Blank lines change nothing but the numbers of the lines.
 pub blank-lines : (text other : List ℕ) → spoken (linesOf text) ≡ spoken (linesOf other) → lineAside (fileFromText text) ≡ lineAside (fileFromText other)
 blank-lines text other e = file-aside text ∙ ap (λ (ls : List Line). fileBy (through readLine empty ls)) e ∙ sym (file-aside other)

@@ -50,7 +50,7 @@ same-small n c h = let e = pow-succ' 2 n in omega arith
 bit-free : (n c : ℕ) → c < 2 ^ n → unset c n ≡ true
 bit-free n c h = rw (div-eq-of-lt h)
 
--- A value within its care mask.
+-- A value is within its care mask in the lowest bit, and in the others.
 pub value-bit : (value care : ℕ) → bitAnd value care ≡ value → (value % 2 ≤ care % 2) × (bitAnd (value / 2) (care / 2) ≡ value / 2)
 value-bit value care h = let s = and-step value care in (omega arith, omega arith)
 
@@ -64,7 +64,7 @@ odd-false m h = let f = eqb-false (m % 2) 1 h in omega arith
 abbrev pub saying : ℕ → ℕ → List Bound → Begun
 saying care value bounds = record { part = more; care = care; value = value; bounds = bounds; target = 0; reset = 0 }
 
--- One letter is no longer word.
+-- A word of one letter is not the same as a longer one.
 pub letter-other : (t a b : ℕ) (cs : Word) → same (t ∷ []) (a ∷ b ∷ cs) ≡ false
 unfolding same
 letter-other t a b cs = and-false (eqb t a)
@@ -90,7 +90,7 @@ module _ (d : Draft) (xs zs : List ℕ) (t : ℕ) (e : d .inputs ++ d .outputs �
       let none : value + 0 * 2 ^ length xs ≡ value = omega arith in
       rw (signal-found, bit-free (length xs) care small, none)
 
--- The signals ts, which stand after xs and before zs.
+-- The conditions on the signals ts, which stand after xs and before zs, are read as the masks c and v.
 pub signals-read : (d : Draft) (xs ts zs : List ℕ) → d .inputs ++ d .outputs ≡ xs ++ (ts ++ zs) → tagsGood xs ts ≡ true →
     (c v : ℕ) → c < 2 ^ length ts → bitAnd v c ≡ v → (care value : ℕ) → care < 2 ^ length xs → (bounds : List Bound) →
     through (ruleWord (scope d)) (saying care value bounds) (signalWords ts c v)
@@ -209,7 +209,7 @@ module _ (d : Draft) (n : ℕ) (e : d .clocks ≡ namesFrom 116 0 n) (u : Unname
       go true s = high-words low high h
       go false s = let z : high ≡ 65535 = omega (arith, ltb-false high 65535 s) in rw z
 
--- Two-byte numbers.
+-- All bounds are two-byte numbers.
 abbrev pub AllSmall : List Bound → Type 0
 AllSmall [] = Unit {0}
 AllSmall (b ∷ bs) = (b .low ≤ 65535) × (b .high ≤ 65535) × AllSmall bs
@@ -261,7 +261,7 @@ resets-read d n e b k (suc j) m mask h small fits =
         rw (one, rest (mask + 2 ^ k) (more-small k mask fits)) (λ i. gives (clearing b (bit-set k m mask (odd-true m a) i)))
     go false a rest one = rw (rest mask (same-small k mask fits)) (λ i. gives (clearing b (bit-clear k m mask (odd-false m a) i)))
 
--- No name is written for an empty mask alone.
+-- 0 for a line without words, 1 for any other.
 some-first : Line → ℕ
 some-first [] = 0
 some-first (w ∷ ws) = 1

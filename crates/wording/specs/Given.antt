@@ -97,7 +97,7 @@ pub said-policy : {text f : List ℕ} (s : Said text f) → policyOf 1 f ≡ pol
 unfolding policyFrom
 said-policy s = ap (policyOf 1) (sym (s .file)) ∙ read-back (policyFrom 1 (s .draft)) (s .formed)
 
--- The file is bytes.
+-- Every number in the file is a byte.
 pub read-bytes : (text f : List ℕ) → fileFromText text ≡ reads f → (i : ℕ) → getD f i 0 < 256
 read-bytes text f h = let s = read-said text f h in rw (← s .file) (bytes-are-bytes (policyFrom 1 (s .draft)) (s .formed))
 

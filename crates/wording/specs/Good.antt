@@ -31,7 +31,7 @@ use Rattle.wording.specs.Kept.{Keeps, stops-here, goes-on, keeps-must, k
 use Rattle.wording.specs.Masks.{within-inputs, within-outputs, outputs-below}
 use Rattle.wording.specs.Fair.{found-below, Fair, words-fair}
 
--- The signals: a name, or none, for each.
+-- The signals: at most 4 of each kind, with good tags, and a name, or none, for each.
 pub record Signals (inputs outputs : List ℕ) (names : List Word) : Type 0 where
   pub fewInputs : length inputs ≤ 4
   pub fewOutputs : length outputs ≤ 4
@@ -56,7 +56,7 @@ unfoldable pub lastOf : ℕ → List Rule → ℕ
 lastOf before [] = before
 lastOf before (r ∷ rs) = lastOf (r .source) rs
 
--- The rules: none before the first `at`, and none from a location after that of the last `at`.
+-- The rules: none before the first `at`; after it at most 256, which pass the check, and none from a location after that of the last `at`.
 pub data Rules (inputs outputs : ℕ) (cs : List ℕ) (locations : ℕ) (rs : List Rule) (stage : ℕ) : Option ℕ → Type 0 where
   before-at : rs ≡ [] → Rules inputs outputs cs locations rs stage none
   after-at : {s : ℕ} → s < locations → rulesRefusal inputs outputs cs locations 0 rs ≡ 0 → lastOf 0 rs ≤ s → length rs ≤ 256 → 5 ≤ stage →
@@ -381,7 +381,7 @@ module _ (d : Draft) (g : Good d) where
       (keeps-cond (is "location" w) _ _ (location-good d g ws)
       (keeps-cond (is "at" w) _ _ (at-good ws) (rule-good (w ∷ ws) (g .rules) refl)))))
 
--- After all lines.
+-- A good draft is good after any lines that are read.
 pub lines-good : (line : ℕ) (d : Draft) (ls : List Line) (e : Draft) → Good d → readLines line d ls ≡ reads e → Good e
 unfolding readLines
 lines-good line d [] e g h = let s : d ≡ e = cc in rw (← s) g
@@ -420,6 +420,6 @@ good-nearly reading d g =
     at (before-at e) = (rw e (omega arith), rw e)
     at (after-at here so-far last few late) = (few, so-far)
 
--- Its file is no longer than any file, also before the check.
+-- Its file has at most 5,974 bytes, also where the check refuses it.
 pub good-at-most : (d : Draft) → Good d → length (bytesOf (policyFrom 1 d)) ≤ 5974
 good-at-most d g = bytes-at-most (policyFrom 1 d) (good-nearly 1 d g)

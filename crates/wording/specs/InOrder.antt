@@ -20,7 +20,7 @@ use Rattle.wording.specs.RuleLines.{isRule, rulesAmong, ruleNumbers}
 use Rattle.wording.specs.Others.{rule-by, clock-aside, location-aside, at-aside, rule-adds}
 use Rattle.wording.specs.Reader.{Draft, empty, withInput, withOutput, inputLine, outputLine, addRule, readLine, reads, proceed, readLines, policyFrom, fileFromText}
 
--- A line that is none of a rule adds no rule.
+-- Which lines add a rule to the draft d.
 module _ (d : Draft) where
   -- After a line that is no rule the draft has the rules that it had.
   pub none-added : (l : Line) → isRule l ≡ false → Keeps (λ e. e .rules ≡ d .rules) (readLine d l)
@@ -36,7 +36,7 @@ module _ (d : Draft) where
       (λ f. keeps-if (is "at" w) _ _ (λ x. keeps-weak (λ e k. k .rules) (at-aside d ws))
       (λ g. absurd (false≢true (sym h ∙ rw (a, b, c, f, g))))))))
 
-  -- One of a rule adds one.
+  -- The line of a rule, if it is read, adds one rule.
   pub one-added : (l : Line) → isRule l ≡ true → Keeps (λ e. (r : Rule) × (e ≡ addRule d r)) (readLine d l)
   unfolding isRule
   one-added [] h = absurd (false≢true h)
@@ -54,7 +54,7 @@ pub record SaysRule (ls : List Line) (i line : ℕ) (r : Rule) : Type 0 where
   pub count : length (before .rules) ≡ i
   pub adds : readLine before (getD ls (line - 1) []) ≡ gives (addRule before r)
 
--- So do lines and rules one after another, from the i-th on.
+-- Lines with these numbers say these rules, one after another, from the i-th on.
 pub data SayRules (ls : List Line) : ℕ → List ℕ → List Rule → Type 0 where
   say-none : {i : ℕ} → SayRules ls i [] []
   say-more : {i n : ℕ} {ns : List ℕ} {r : Rule} {rs : List Rule} → SaysRule ls i n r → SayRules ls (suc i) ns rs → SayRules ls i (n ∷ ns) (r ∷ rs)
@@ -126,7 +126,7 @@ module _ (ls : List Line) where
           let count : length (f .rules) ≡ length (d .rules) = ap length same in
           (on .0, on .1 ∙ ap (λ (z : List Rule). z ++ on .0) same, rw count at (on .2))
 
--- As many rules as lines, and the i-th line says the i-th rule.
+-- There are as many rules as lines that say them.
 same-length : {ls : List Line} {i : ℕ} {ns : List ℕ} {rs : List Rule} → SayRules ls i ns rs → length rs ≡ length ns
 same-length say-none = refl
 same-length (say-more s ss) = ap suc (same-length ss)

@@ -9,7 +9,7 @@ use lib.ListN.{replicate}
 use borrow.Author.Tests.{ltb-true, eqb-true, ne-eqb}
 use Rattle.wording.specs.Words.{Word, Line, parts, kind, firstKind, onto, wordsOf, split, eachWords, linesOf, spacedOut, laid}
 
--- Bytes of one kind; a word of one kind.
+-- All bytes are of the kind k.
 unfoldable pub allOf : ℕ → List ℕ → Bool
 allOf k [] = true
 allOf k (c ∷ cs) = eqb (kind c) k && allOf k cs
@@ -72,7 +72,7 @@ module _ (rest : List ℕ) (other : firstKind rest ≡ 0) where
       let both = simp and-eq-true-iff at h in
       word-from c cs (ltb-true 0 (kind c) (both .0)) (both .1)
 
--- The words of a line.
+-- Whole words with spaces between them are read as these words.
 pub words-read : (ws : Line) → AllWhole ws → wordsOf (spacedOut ws) ≡ ws
 unfolding wordsOf spacedOut kind parts
 words-read [] h = refl
@@ -84,7 +84,7 @@ unfolding wordsOf kind parts
 margin-read zero cs = refl
 margin-read (suc n) cs = margin-read n cs
 
--- No byte ends a line.
+-- No byte is a line feed.
 abbrev pub Unended : List ℕ → Type 0
 Unended [] = Unit {0}
 Unended (c ∷ cs) = (eqb c 10 ≡ false) × Unended cs
@@ -125,7 +125,7 @@ unfolding split
 line-split [] rest h = refl
 line-split (c ∷ cs) rest h = rw (h .0, line-split cs rest (h .1))
 
--- All lines.
+-- Lines of whole words are read as they were laid out.
 pub laid-read : (margin : Line → ℕ) (ls : List Line) → EachWhole ls → linesOf (laid margin ls) ≡ ls
 unfolding linesOf laid split
 laid-read margin [] h = refl

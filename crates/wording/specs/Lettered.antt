@@ -29,12 +29,12 @@ unfoldable pub letterFor : List Named → Word → Word
 letterFor [] w = w
 letterFor (s ∷ ss) w = cond (same (s .name) w) (s .letter ∷ []) (letterFor ss w)
 
--- The same behind an `!`.
+-- The same, also behind an `!`.
 unfoldable pub wordLettered : List Named → Word → Word
 wordLettered ss [] = []
 wordLettered ss (c ∷ cs) = cond (eqb c 33) (33 ∷ letterFor ss cs) (letterFor ss (c ∷ cs))
 
--- The conditions of a rule: its words before the arrow. After it stand names of a location and of clocks.
+-- A rule with letters in its conditions, the words before the arrow. After it stand names of a location and of clocks.
 unfoldable pub ruleLettered : List Named → Line → Line
 ruleLettered ss [] = []
 ruleLettered ss (w ∷ ws) = cond (is "->" w) (w ∷ ws) (wordLettered ss w ∷ ruleLettered ss ws)

@@ -15,7 +15,7 @@ use Rattle.wording.specs.Standing.{stand-none, StandsIn, line-noted}
 use Rattle.wording.specs.LetteredRules.{line-alike}
 use Rattle.wording.specs.LetteredWhole.{capital-none, lettered-whole}
 
--- All lines.
+-- Lines with letters for names are read alike.
 letters-read : (line : ℕ) (d : Draft) → Good d → {ss : List Named} → StandsIn d ss → (ls : List Line) → readLines line d (lettered ss ls) ≡ readLines line d ls
 unfolding lettered readLines
 letters-read line d g k [] = refl

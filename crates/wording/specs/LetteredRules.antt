@@ -76,7 +76,7 @@ alike-word d {ss} k (c ∷ cs) = go (eqb c 33) refl
     go true e = let z : c ≡ 33 = eqb-true c 33 e in rw z (alike-off (scope d) (instead d k cs))
     go false e = alike-plain (scope d) (instead d k (c ∷ cs))
 
--- Before the arrow.
+-- The arrow is still to come.
 abbrev Fore : Part → Type 0
 Fore opening = Unit {0}
 Fore more = Unit {0}
@@ -139,7 +139,7 @@ module _ (s : Scope) (b : Begun) where
   word-fore gone w f e = absurd f
   word-fore clears w f e = absurd f
 
--- The words of a rule.
+-- The words of a rule are read alike with letters for names, from before the arrow on.
 rule-alike : (d : Draft) {ss : List Named} → StandsIn d ss → (b : Begun) (ws : Line) → Fore (b .part) →
     through (ruleWord (scope d)) b (ruleLettered ss ws) ≡ through (ruleWord (scope d)) b ws
 unfolding ruleLettered through
@@ -160,7 +160,7 @@ rule-alike d {ss} k b (w ∷ ws) f = go (is "->" w) refl (λ c. rule-alike d k c
         rw (word-alike (scope d) b (b .part) f (alike-word d k w))
         (step (wordAt (scope d) b (b .part) w) (word-fore (scope d) b (b .part) w f e) rest)
 
--- A line of a rule: its first word stays none of the language.
+-- The line of a rule stays one.
 module _ (d : Draft) {ss : List Named} (k : StandsIn d ss) where
   still-rule : {w v : Word} (ws vs : Line) → Alike (scope d) w v → isRule (w ∷ ws) ≡ true → isRule (v ∷ vs) ≡ true
   unfolding isRule

@@ -12,7 +12,7 @@ use Rattle.wording.specs.Laid.{whole, AllWhole, whole-none, whole-more, 
 use Rattle.wording.specs.RuleLines.{isRule}
 use Rattle.wording.specs.Lettered.{Named, noted, letterFor, wordLettered, ruleLettered, lettered}
 
--- The words stay whole.
+-- Every noted letter is a capital.
 pub data AllCapital : List Named → Type 0 where
   capital-none : AllCapital []
   capital-more : {s : Named} {ss : List Named} → isCapital (s .letter) ≡ true → AllCapital ss → AllCapital (s ∷ ss)

@@ -23,7 +23,7 @@ use Rattle.wording.specs.RuleBack.{Declared, rule-read}
 use Rattle.wording.specs.Reader.{Draft, empty, signalLine, inputLine, outputLine, clockLine, newPlace, locationLine, risen, atLine, addRule, readLine, reads, proceed, readLines, policyFrom}
 use Rattle.wording.specs.Writer.{clockName, placeName, clockLines, leftWords, locationLines, signalLines, isAt, atLines, ruleWords, ruleLines, policyLines}
 
--- Written names are names.
+-- Bytes that pass a test pass each weaker one.
 every-weak : (f g : ℕ → Bool) → ((c : ℕ) → f c ≡ true → g c ≡ true) → (cs : List ℕ) → every f cs ≡ true → every g cs ≡ true
 unfolding every
 every-weak f g w [] h = refl
@@ -34,6 +34,7 @@ or-first : (a b c : Bool) → b ≡ true → (a || (b || c)) ≡ true
 or-first true b c h = refl
 or-first false b c h = rw h
 
+-- Written names are names.
 name-good : (letter k : ℕ) → isLower letter ≡ true → isPlain (nameOf letter k) ≡ true → k < 100 → isName (nameOf letter k) ≡ true
 unfolding isName nameOf
 name-good letter k l p h =
@@ -82,7 +83,7 @@ drafted inputs outputs signals clocks ceilings places left rules stage source =
       source = source;
     }
 
--- Signals.
+-- The same, for the lines of signals alone.
 abbrev signed : (inputs outputs : List ℕ) (signals stage : ℕ) → Draft
 signed inputs outputs signals stage = drafted inputs outputs signals 0 [] 0 [] [] stage none
 
@@ -167,7 +168,7 @@ outputs-read ins done (t ∷ ts) n stage s good room =
     let l : (done ++ (t ∷ [])) ++ ts ≡ done ++ (t ∷ ts) = append-assoc done (t ∷ []) ts in
     (rest .0, rest .1, rw (output-line ins done n stage t s (one .0) (omega arith)) (rest .2 ∙ (λ i. gives (signed ins (l i) (e i) (rest .0)))))
 
--- Clocks and locations.
+-- Among signals without names no clock's name is found.
 clock-free : (m k : ℕ) → find 0 (clockName k) (blank m) ≡ none
 unfolding nameOf
 clock-free m k = blank-none 0 m 116 (decimal k)
@@ -332,7 +333,7 @@ module _ (p : Policy) (w : WellFormed p) where
         through-more readLine _ _ _ _ (at .1) ∙ (rule-then done (at .0) r _ one ∙ (rest .2 ∙ ap (λ (z : List Rule). gives (ruling z (rest .0) (rest .1))) regroup)),
       )
 
-  -- All lines.
+  -- The lines of the locations are read, and say the policy's locations.
   places-said : (next : ℕ) → next ≤ 3 →
       (last : ℕ) × (last ≤ 4) × (through readLine (drafted (p .inputs) (p .outputs) signalCount (length (p .ceilings)) (p .ceilings) 0 [] [] next none)
       (locationLines 0 (p .left)) ≡ gives (ruling [] last none))

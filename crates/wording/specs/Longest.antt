@@ -55,7 +55,7 @@ unfolding laid
 size-both [] ms = omega arith
 size-both (l ∷ ls) ms = simp length-append (omega (arith, size-both ls ms))
 
--- The first word alone says the margin.
+-- The margin of a line is at most 2 bytes.
 margin-most : (w : Word) (ws : Line) → margin (w ∷ ws) ≤ 2
 margin-most w ws = go (isPlain w || is "any" w)
   where
@@ -68,7 +68,7 @@ unfolding room
 when-most true ws n h = h refl
 when-most false ws n h = omega arith
 
--- Names and numbers.
+-- A name with a number below 10 has at most 2 bytes.
 name-long : (letter k : ℕ) → k < 10 → length (nameOf letter k) ≤ 2
 unfolding nameOf
 name-long letter k h = omega (arith, decimal-short k 0 (omega arith))
@@ -80,7 +80,7 @@ place-long letter k h = omega (arith, decimal-short k 1 (omega arith))
 ticks-long : (n : ℕ) → n ≤ 1001 → length (decimal n) ≤ 4
 ticks-long n h = decimal-short n 3 (omega arith)
 
--- The declarations.
+-- Each line of a signal is its first word and three bytes.
 signals-long : (word : Word) → margin (word ∷ []) ≡ 0 → (ts : List ℕ) → size (signalLines word ts) ≡ length ts * (length word + 3)
 unfolding signalLines room laid
 signals-long word h [] = omega arith
@@ -131,7 +131,7 @@ locations-long k (b ∷ bs) h =
       rest,
     )
 
--- The words of a rule.
+-- The word for a signal in a rule has at most 2 bytes.
 signal-long : (t : ℕ) (on : Bool) → length (signalWord t on) ≤ 2
 signal-long t true = omega arith
 signal-long t false = omega arith
@@ -245,7 +245,7 @@ module _ (p : Policy) (w : WellFormed p) where
         target,
       )
 
-  -- A rule is some words.
+  -- A line whose words take at most 143 bytes takes at most 145 with its margin.
   rule-line-most : (ws : Line) (ls : List Line) → room ws ≤ 143 → size (ws ∷ ls) ≤ 145 + size ls
   rule-line-most [] ls h = omega (arith, blank-long ls)
   rule-line-most (v ∷ ws) ls h = omega (arith, line-long v ws ls, margin-most v ws)

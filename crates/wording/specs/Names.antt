@@ -27,13 +27,13 @@ find i w (v ∷ vs) = cond (same v w) (some i) (find (suc i) w vs)
 abbrev pub is : String → Word → Bool
 is k w = same w (ascii k)
 
--- It is none of them.
+-- It is none of these twelve. The other two of the language, `>=` and `<=`, are no names by their bytes.
 unfoldable pub isPlain : Word → Bool
 isPlain w =
     not (is "input" w || (is "output" w || (is "clock" w || (is "location" w || (is "at" w || (is "any" w || (is "->" w
     || (is "violation" w || (is "reset" w || (is "must" w || (is "be" w || is "left" w)))))))))))
 
--- "lower-case letters, digits and underscore, beginning with a letter, at most 16 bytes, no word of the language"
+-- A lower-case letter, a to z.
 abbrev pub isLower : ℕ → Bool
 isLower c = leb 97 c && leb c 122
 
@@ -46,7 +46,7 @@ unfoldable pub every : (ℕ → Bool) → List ℕ → Bool
 every test [] = true
 every test (c ∷ cs) = test c && every test cs
 
--- The whole test of a name.
+-- "lower-case letters, digits and underscore, beginning with a letter, at most 16 bytes, no word of the language"
 unfoldable pub isName : Word → Bool
 isName [] = false
 isName (c ∷ cs) =

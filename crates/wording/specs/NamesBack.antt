@@ -45,7 +45,7 @@ name-few (c ∷ cs) h =
     let l = leb-true (length cs) 15 (and-eq-true-iff (leb (length cs) 15) _ .0 (b .1) .0) in
     omega arith
 
--- No two numbers have one name.
+-- The number in a name, after its letter.
 value : Word → ℕ
 value [] = 0
 value (c ∷ cs) = valueFrom 0 cs
@@ -103,7 +103,7 @@ names-more letter k (suc n) =
     let e : k + suc n ≡ suc k + n = omega arith in
     rw e (ap (λ (z : List Word). nameOf letter k ∷ z) (names-more letter (suc k) n))
 
--- A tag that is not among those before it.
+-- A tag that is not among those before it is found at its place.
 pub find-letter : (i t : ℕ) (xs ts : List ℕ) → among t xs ≡ false → find i (t ∷ []) (lettersOf (xs ++ (t ∷ ts))) ≡ some (i + length xs)
 unfolding find lettersOf same among
 find-letter i t [] ts h = let e : i + 0 ≡ i = omega arith in rw (eq-eqb t t refl, e)
@@ -115,7 +115,7 @@ find-letter i t (x ∷ xs) ts h = go (eqb x t) h (find-letter (suc i) t xs ts)
     go true f rest = absurd (false≢true (sym f))
     go false f rest = let s : suc i + length xs ≡ i + suc (length xs) = omega arith in rest f ∙ ap some s
 
--- A number.
+-- If some bytes pass a test and one more does, all of them do.
 pub every-more : (test : ℕ → Bool) (cs : List ℕ) (c : ℕ) → every test cs ≡ true → test c ≡ true → every test (cs ++ (c ∷ [])) ≡ true
 unfolding every
 every-more test [] c h g = rw g
@@ -141,7 +141,7 @@ pub number-read : {A : Type 0} (n : ℕ) (go : ℕ → Answer A) → n ≤ 65535
 unfolding numbered
 number-read n go h = rw (number-is n, reads-back n, le-leb n 65535 h)
 
--- Digits, letters and names are whole words.
+-- A digit neither parts words nor is of a sign.
 digit-kind : (c : ℕ) → isDigit c ≡ true → kind c ≡ 1
 unfolding kind parts isSign isDigit
 digit-kind c h =

@@ -59,7 +59,7 @@ module _ (d : Draft) where
   abbrev pub tags : List ℕ
   tags = d .inputs ++ d .outputs
 
-  -- Signals and clocks have one space of names.
+  -- The new name of a signal. Signals and clocks have one space of names.
   abbrev pub newSignal : Word → Answer Draft → Answer Draft
   newSignal w a = newName w (d .names) (free (find 0 w (d .clocks)) a)
 
@@ -110,7 +110,7 @@ module _ (d : Draft) where
   unfoldable pub outputLine : Line → Answer Draft
   outputLine ws = must (leb (d .stage) 2) 30 (signalLine (length (d .outputs)) withOutput ws)
 
-  -- 4: a ceiling that is 0 or above 1,001.
+  -- What follows `clock`: `NAME CEILING`. 4: a ceiling that is 0 or above 1,001.
   unfoldable pub clockLine : Line → Answer Draft
   clockLine [] = refused 30
   clockLine (w ∷ []) = refused 30
@@ -147,7 +147,7 @@ module _ (d : Draft) where
         source = d .source;
       }))))
 
-  -- `NAME`, or `NAME must be left`.
+  -- What follows `location`: `NAME`, or `NAME must be left`.
   unfoldable pub locationLine : Line → Answer Draft
   locationLine [] = refused 30
   locationLine (w ∷ []) = newPlace w 0
@@ -156,7 +156,7 @@ module _ (d : Draft) where
   locationLine (w ∷ a ∷ b ∷ c ∷ []) = must (is "must" a && (is "be" b && is "left" c)) 30 (newPlace w 1)
   locationLine (w ∷ a ∷ b ∷ c ∷ v ∷ ws) = refused 30
 
-  -- 34: the location stands before that of the `at` before.
+  -- The location does not stand before that of the last `at`; else 34.
   abbrev pub risen : Option ℕ → ℕ → Bool
   risen none k = true
   risen (some s) k = leb s k
@@ -225,7 +225,7 @@ onSignal b v i =
       reset = b .reset;
     }))
 
--- Both bounds hold, this one and those before it.
+-- At least n, and what was said before.
 abbrev pub atLeastOf : ℕ → Bound → Bound
 atLeastOf n b = record { low = max n (b .low); high = b .high }
 
@@ -353,7 +353,7 @@ module _ (d : Draft) where
         source = d .source;
       }
 
-  -- 7: a bound that is not within its ceiling, or a low above its high.
+  -- The line of a rule. 30: no `at` came before. 7: a bound that is not within its ceiling, or a low above its high. 33: there are 256 already.
   unfoldable pub ruleLine : Line → Option ℕ → Answer Draft
   ruleLine ws none = refused 30
   ruleLine ws (some source) =
@@ -377,17 +377,17 @@ pub data FromText (A : Type 0) : Type 0 where
   stops : (number line : ℕ) → FromText A
   reads : A → FromText A
 
--- Lines one after another, the first with the number `line`.
+-- On with what a line gives; a refusal stops, with the number of the line.
 abbrev pub proceed : ℕ → Answer Draft → (Draft → FromText Draft) → FromText Draft
 proceed line (refused n) go = stops n line
 proceed line (gives d) go = go d
 
--- All lines, or the first refusal with its line.
+-- Lines one after another, the first with the number `line`: what they have said, or the first refusal with its line.
 unfoldable pub readLines : ℕ → Draft → List Line → FromText Draft
 readLines line d [] = reads d
 readLines line d (l ∷ ls) = proceed line (readLine d l) (λ e. readLines (suc line) e ls)
 
--- The reading is the caller's: no text says it.
+-- The policy that a draft says. The reading is the caller's: no text says it.
 unfoldable pub policyFrom : ℕ → Draft → Policy
 policyFrom reading d =
     record {
@@ -409,7 +409,7 @@ saidBy reading (reads d) = reads (policyFrom reading d)
 unfoldable pub policyFromText : ℕ → List ℕ → FromText Policy
 policyFromText reading text = saidBy reading (readLines 1 empty (linesOf text))
 
--- The file, which passes its own check. It has no reading, so any will do here.
+-- The file, or the refusal of its own check, in line 0.
 abbrev pub passed : ℕ → List ℕ → FromText (List ℕ)
 passed zero f = reads f
 passed (suc n) f = stops (suc n) 0
@@ -419,6 +419,6 @@ abbrev pub filed : FromText Policy → FromText (List ℕ)
 filed (stops n line) = stops n line
 filed (reads p) = passed (refusalOf (bytesOf p)) (bytesOf p)
 
--- The file that a text gives, or its refusal.
+-- The file that a text gives, or its refusal. A file has no reading, so any will do here.
 unfoldable pub fileFromText : List ℕ → FromText (List ℕ)
 fileFromText text = filed (policyFromText 1 text)

@@ -171,7 +171,7 @@ module _ (d : Draft) where
       (known-cond (is "location" w) _ _ (known-location ws)
       (known-cond (is "at" w) _ _ (known-at ws) (known-rule (w ∷ ws) (d .source))))))
 
--- Its number, and that its line is one of the text.
+-- The number n is one of them, and the line is one of `count` lines from `first` on.
 abbrev pub Numbered : (first count n line : ℕ) → Type 0
 Numbered first count n line = (inLine n ≡ true) × (first ≤ line) × (line < first + count)
 

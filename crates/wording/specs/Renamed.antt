@@ -47,7 +47,7 @@ pub each-more : (f : Word → Word) (ws : List Word) (w : Word) → each f (ws +
 each-more f [] w = refl
 each-more f (v ∷ ws) w = ap (λ (z : List Word). f v ∷ z) (each-more f ws w)
 
--- A word that names may be changed for is none of the language, no letter and no number.
+-- A name is no letter.
 name-letter : (before : List ℕ) (w : Word) → isName w ≡ true → letter before w ≡ refused 30
 name-letter before [] h = absurd (no-name h)
 name-letter before (c ∷ []) h = let low = name-low c [] h in rw (no-capital c (omega arith))

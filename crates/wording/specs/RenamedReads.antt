@@ -269,7 +269,7 @@ module _ (r : Renaming) where
         go false false false false true ins outs = at-line-to ws
         go false false false false false ins outs = rule-line-to (w ∷ ws) (d .source)
 
-  -- All lines.
+  -- What lines give, with the names of the draft changed.
   abbrev reading : FromText Draft → FromText Draft
   reading (stops n line) = stops n line
   reading (reads d) = reads (redrawn d)

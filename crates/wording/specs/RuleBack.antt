@@ -27,7 +27,7 @@ use Rattle.wording.specs.Reader.{Draft, scope, Begun, Part, opening, mor
 use Rattle.wording.specs.Reader.{signal, signalOr, onSignal, onTarget, condition, wordAt, ruleWord, ends, ruleOf, addRule, ruleLine, readLine}
 use Rattle.wording.specs.Writer.{clockName, when, odd, signalWord, signalWords, boundWords, resetNames, orAny, afterReset, targetWord, conditionWords, ruleWords}
 
--- Words that begin with none of the language.
+-- No words, or some that begin with a plain one.
 pub data Starts : Line → Type 0 where
   starts-none : Starts []
   starts-plain : {w : Word} {ws : Line} → isPlain w ≡ true → Starts (w ∷ ws)
@@ -68,14 +68,14 @@ starts-bounds k (b ∷ bs) =
     starts-both (starts-when (ltb 0 (b .low)) (clockName k) (ascii ">=" ∷ decimal (b .low) ∷ []) (clock-plain k))
     (starts-both (starts-when (ltb (b .high) 65535) (clockName k) (ascii "<=" ∷ decimal (b .high) ∷ []) (clock-plain k)) (starts-bounds (suc k) bs))
 
--- The conditions that are written begin with no word of the language.
+-- The conditions that are written, if any, begin with a plain word.
 pub starts-conditions : (p : Policy) (r : Rule) → Starts (conditionWords p r)
 unfolding conditionWords
 starts-conditions p r =
     starts-both (starts-signals (p .inputs) (r .inCare) (r .inValue))
     (starts-both (starts-signals (p .outputs) (r .outCare) (r .outValue)) (starts-bounds 0 (r .bounds)))
 
--- A plain word is none of the language.
+-- Where neither of two holds, the first fails, and `not` of the second holds.
 pub neither : (a b : Bool) → not (a || b) ≡ true → (a ≡ false) × (not b ≡ true)
 neither true b h = absurd (false≢true h)
 neither false b h = (refl, h)
@@ -204,7 +204,7 @@ small-bounds h (lawful-more {c = c} {b = b} l ls) =
     let high : b .high ≤ 65535 = ⊎-elim (λ (k : b .high < c). omega arith) (λ (k : b .high ≡ 65535). omega arith) (l .high) in
     (omega arith, high, small-bounds (good .1) ls)
 
--- The bounds of a rule that the check passes are within their ceilings.
+-- A high that is below its ceiling, or 65,535, passes the test.
 high-fits : (c high : ℕ) → (high < c) ⊎ (high ≡ 65535) → (ltb high c || eqb high 65535) ≡ true
 high-fits c high (_⊎_.inl l) = rw (lt-ltb high c l)
 high-fits c high (_⊎_.inr e) = rw (eq-eqb high 65535 e) (or-true (ltb high c))

@@ -106,7 +106,7 @@ module _ (letters : List ℕ) (names : List Word) (t : ℕ) (n : Word) where
           let z : 0 + length names ≡ length letters = omega arith in
           rw small (find-last 0 (x ∷ xs) names g ∙ ap some z)
 
--- The names that a line leaves.
+-- A line that declares no signal notes no name.
 noted-other : (ss : List Named) (w : Word) (ws : Line) → is "input" w ≡ false → is "output" w ≡ false → noted ss (w ∷ ws) ≡ ss
 unfolding noted
 noted-other ss w [] a b = refl

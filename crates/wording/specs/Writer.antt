@@ -11,11 +11,11 @@ use Rattle.texts.specs.Text.{ascii, decimal}
 use Rattle.wording.specs.Words.{Word, Line, laid}
 use Rattle.wording.specs.Names.{is, isPlain, nameOf}
 
--- Clocks are t0, t1, ..; locations q0, q1, ..
+-- The name of clock k: t0, t1, ..
 abbrev pub clockName : ℕ → Word
 clockName = nameOf 116
 
--- The name of location k.
+-- The name of location k: q0, q1, ..
 abbrev pub placeName : ℕ → Word
 placeName = nameOf 113
 
@@ -48,12 +48,12 @@ when false ws = []
 abbrev pub odd : ℕ → Bool
 odd n = eqb (n % 2) 1
 
--- The signals that a rule cares about, in their order: on or off.
+-- The word for a signal: on, or off.
 abbrev pub signalWord : ℕ → Bool → Word
 signalWord t true = t ∷ []
 signalWord t false = 33 ∷ t ∷ []
 
--- A word for each signal whose care bit is set.
+-- A word for each signal that the rule cares about, in their order.
 unfoldable pub signalWords : List ℕ → (care value : ℕ) → Line
 signalWords [] care value = []
 signalWords (t ∷ ts) care value =
@@ -93,7 +93,7 @@ abbrev pub afterReset : Line → Line
 afterReset [] = []
 afterReset (w ∷ ws) = ascii "reset" ∷ w ∷ ws
 
--- An `at` where the source is another than that of the rule before.
+-- The source is that of the rule before, so that no `at` is due.
 abbrev pub isAt : Option ℕ → ℕ → Bool
 isAt none source = false
 isAt (some before) source = eqb before source
@@ -136,6 +136,6 @@ margin (w ∷ ws) = cond (isPlain w || is "any" w) 2 0
 unfoldable pub textOf : Policy → List ℕ
 textOf p = laid margin (policyLines p)
 
--- A file says no reading, and its text looks at none.
+-- The text of a file. A file says no reading, so any will do here.
 abbrev pub textOfFile : List ℕ → List ℕ
 textOfFile f = textOf (policyOf 1 f)

@@ -14,7 +14,7 @@ use Rattle.wording.specs.NamesBack.{same-true}
 use Rattle.wording.specs.Names.{same}
 use Rattle.wording.specs.Words.{Word, parts, isSign, kind, onto, wordsOf, split}
 
--- How many bytes at the front part words; how many are of the kind k.
+-- The byte parts words and begins no comment.
 abbrev pub skips : ℕ → Bool
 skips c = eqb (kind c) 0 && not (eqb c 35)
 

@@ -1,4 +1,4 @@
--- Names as parts of the text: where each begins and ends. And the line at a position, and the number of a word, found by counting.
+-- Names as parts of the text: where each begins and ends; and a word looked for among them.
 use mathlib.Core.Path.{_≡_, ap}
 use mathlib.Core.Bool.{true, false, cond}
 use mathlib.Core.List.{List, [], _∷_}
@@ -12,13 +12,13 @@ use Rattle.policy.specs.File.{part}
 use Rattle.wording.specs.Words.{Word}
 use Rattle.wording.specs.Names.{same, find}
 
--- The names k to k + n.
+-- The n names from k on.
 unfoldable pub spans : (text starts ends : List ℕ) → ℕ → ℕ → List Word
 spans text starts ends k zero = []
 spans text starts ends k (suc n) =
     part text (getD starts k 0) (getD ends k 0 - getD starts k 0) ∷ spans text starts ends (suc k) n
 
--- Each is within the text.
+-- Each of the first n names is within the text.
 abbrev pub Within : (text starts ends : List ℕ) → ℕ → Type 0
 Within text starts ends n = (k : ℕ) → k < n → (getD starts k 0 ≤ getD ends k 0) × (getD ends k 0 ≤ length text)
 
