@@ -12,7 +12,7 @@ ghost use Rattle.wording.specs.Writer.{boundWords};
 ghost use Rattle.rule_text.specs.Trail.{trailing};
 ghost use Rattle.rule_text.specs.Pieces.{limitPiece, lowPiece, highPiece, boundPiece};
 
-// The digits of n in decimal. Most numbers of a text have one digit, and `put_decimal` calls itself.
+// The digits of n in decimal. Most numbers of a text have one digit or two, and `put_decimal` calls itself.
 fn put_digits(text: &mut [u8], at: usize, n: usize) -> usize
     requires { ⌜ at + length (decimal n) ≤ length (now text) ⌝ }
     ensures { λ r. ⌜ Wrote (now (text .entry)) at (decimal n) r (now (text .exit)) ⌝ }
@@ -21,6 +21,12 @@ fn put_digits(text: &mut [u8], at: usize, n: usize) -> usize
         let digit = b'0' + n as u8;
         let one = [digit];
         return put_bytes(text, at, &one);
+    }
+    if n < 100 {
+        let first = b'0' + (n / 10) as u8;
+        let last = b'0' + (n % 10) as u8;
+        let two = [first, last];
+        return put_bytes(text, at, &two);
     }
     put_decimal(text, at, n)
 }

@@ -1,5 +1,5 @@
 -- Laws of `decimal`: how it goes on by one digit, and that its digits read back as the number.
-use mathlib.Core.Path.{_≡_, refl}
+use mathlib.Core.Path.{_≡_, refl, ap, _∙_}
 use mathlib.Core.Bool.{Bool, true, false, cond}
 use mathlib.Core.List.{List, [], _∷_, _++_}
 use Prim.Native.Nat.{ℕ, zero, suc, _+_, _-_, _*_, _/_, _^_, _≤_, _<_}
@@ -29,6 +29,10 @@ decimal-one n h = rw (decimal-turn n, lt-ltb n 10 h)
 -- From 10 on: the digits of the tenth part, then the last digit.
 pub decimal-more : (n : ℕ) → 10 ≤ n → decimal n ≡ decimal (n / 10) ++ (digit n ∷ [])
 decimal-more n h = rw (decimal-turn n, le-ltb n 10 h)
+
+-- A number of two digits.
+pub decimal-two : (n : ℕ) → 10 ≤ n → n < 100 → decimal n ≡ digit (n / 10) ∷ digit n ∷ []
+decimal-two n h l = decimal-more n h ∙ ap (λ (ds : List ℕ). ds ++ (digit n ∷ [])) (decimal-one (n / 10) (omega arith))
 
 -- From 10 on there is one digit more than in the tenth part.
 pub decimal-longer : (n : ℕ) → 10 ≤ n → length (decimal n) ≡ length (decimal (n / 10)) + 1
