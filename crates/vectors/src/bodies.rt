@@ -1,185 +1,96 @@
-// The bodies of the records: what a record of each kind holds is read, and lent to its call.
-use crate::calls;
-use crate::differs::CallOutcome;
-use crate::differs::Differs;
-use crate::indexes;
-use crate::marked::policy_record;
+// The body of a record: what it gives is read and lent to the call, and what it expects is compared.
+use crate::calls::Given;
+use crate::calls::answer;
+use crate::lists::LIST;
+use crate::lists::longs;
+use crate::lists::pairs;
+use crate::lists::same_longs;
+use crate::lists::same_pairs;
+use crate::lists::same_words;
+use crate::lists::words;
 use crate::numbers::Cursor;
-use crate::policy_texts;
-use crate::stations;
-use crate::tally::Kind;
+use crate::parts;
+use crate::parts::PARTS;
+use crate::strings::STRING;
+use crate::strings::same_string;
+use crate::strings::string;
 
-fn join_record(cases: &[u8], at: Cursor) -> CallOutcome {
-    let mut a = [0u8; 8192];
-    let mut b = [0u8; 8192];
-    let mut out = [0u8; 8192];
-    let taken = at.string(cases, &mut a);
-    let a_length = taken.count;
-    let next = taken.next;
-    let taken = next.string(cases, &mut b);
-    let b_length = taken.count;
-    let next = taken.next;
-    let taken = next.string(cases, &mut out);
-    let room = taken.count;
-    let next = taken.next;
-    calls::join(
-        cases,
-        next,
-        &a[..a_length],
-        &b[..b_length],
-        &mut out[..room],
-    )
-}
-
-// A record of a wave: a policy, what is read and what is written.
-fn wave_record(cases: &[u8], kind: Kind, at: Cursor) -> CallOutcome {
-    let mut file = [0u8; 8192];
-    let mut given = [0u8; 65600];
-    let mut lent = [0u8; 65600];
-    let taken = at.string(cases, &mut file);
-    let file_length = taken.count;
-    let next = taken.next;
-    let taken = next.string(cases, &mut given);
-    let given_length = taken.count;
-    let next = taken.next;
-    let taken = next.string(cases, &mut lent);
-    let room = taken.count;
-    let next = taken.next;
-    match kind {
-        Kind::WaveWrite => calls::wave_write(
-            cases,
-            next,
-            &file[..file_length],
-            &given[..given_length],
-            &mut lent[..room],
-        ),
-        _ => calls::wave_read(
-            cases,
-            next,
-            &file[..file_length],
-            &given[..given_length],
-            &mut lent[..room],
-        ),
+// The first part that came out different, or `PARTS` if all came out as expected.
+fn compared(
+    cases: &[u8],
+    places: &[usize; PARTS],
+    got: u64,
+    written: &[u8],
+    state: &[u16],
+    totals: &[u32],
+    struck: &[u8],
+    reasons: &[u64],
+) -> usize {
+    let expected = Cursor::new(places[parts::ANSWER]).long(cases);
+    if got != expected.value {
+        parts::ANSWER
+    } else if !same_string(cases, places[parts::WRITTEN_AFTER], written) {
+        parts::WRITTEN_AFTER
+    } else if !same_pairs(cases, places[parts::STATE_AFTER], state) {
+        parts::STATE_AFTER
+    } else if !same_words(cases, places[parts::TOTALS_AFTER], totals) {
+        parts::TOTALS_AFTER
+    } else if !same_string(cases, places[parts::STRUCK_AFTER], struck) {
+        parts::STRUCK_AFTER
+    } else if !same_longs(cases, places[parts::REASONS_AFTER], reasons) {
+        parts::REASONS_AFTER
+    } else {
+        PARTS
     }
 }
 
-fn check_record(cases: &[u8], at: Cursor) -> CallOutcome {
-    let mut file = [0u8; 8192];
-    let taken = at.string(cases, &mut file);
-    let file_length = taken.count;
-    let next = taken.next;
-    calls::check(cases, next, &file[..file_length])
-}
-
-fn index_record(cases: &[u8], at: Cursor) -> CallOutcome {
-    let mut file = [0u8; 8192];
-    let mut index = [0u16; 136];
-    let taken = at.string(cases, &mut file);
-    let file_length = taken.count;
-    let next = taken.next;
-    let taken = next.state(cases, &mut index);
-    let entries = taken.count;
-    let next = taken.next;
-    indexes::index(cases, next, &file[..file_length], &mut index[..entries])
-}
-
-fn bays_new_record(cases: &[u8], at: Cursor) -> CallOutcome {
-    let mut states = [0u16; 136];
-    let taken = at.state(cases, &mut states);
-    let numbers = taken.count;
-    let next = taken.next;
-    stations::bays_new(cases, next, &mut states[..numbers])
-}
-
-fn meter_new_record(cases: &[u8], at: Cursor) -> CallOutcome {
-    let mut station = [0u16; 8];
-    let mut totals = [0u32; 4];
-    let taken = at.state(cases, &mut station);
-    let numbers = taken.count;
-    let next = taken.next;
-    let taken = next.totals(cases, &mut totals);
-    let count = taken.count;
-    let next = taken.next;
-    stations::meter_new(cases, next, &mut station[..numbers], &mut totals[..count])
-}
-
-fn clean_record(cases: &[u8], at: Cursor) -> CallOutcome {
-    let mut file = [0u8; 8192];
-    let mut cleaned = [0u8; 8192];
-    let mut struck = [0u8; 8192];
-    let reading = at.byte(cases);
-    let next = reading.next;
-    let taken = next.string(cases, &mut file);
-    let file_length = taken.count;
-    let next = taken.next;
-    let taken = next.string(cases, &mut cleaned);
-    let room = taken.count;
-    let next = taken.next;
-    let taken = next.string(cases, &mut struck);
-    let list_room = taken.count;
-    let next = taken.next;
-    calls::clean(
-        cases,
-        next,
-        reading.value,
-        &file[..file_length],
-        &mut cleaned[..room],
-        &mut struck[..list_room],
-    )
-}
-
-// A record of a policy's text: what is read and what is written.
-fn text_record(cases: &[u8], kind: Kind, at: Cursor) -> CallOutcome {
-    let mut given = [0u8; 65600];
-    let mut lent = [0u8; 65600];
-    let taken = at.string(cases, &mut given);
-    let given_length = taken.count;
-    let next = taken.next;
-    let taken = next.string(cases, &mut lent);
-    let room = taken.count;
-    let next = taken.next;
-    match kind {
-        Kind::TextRead => policy_texts::read(
-            cases,
-            next,
-            &given[..given_length],
-            &mut lent[..room],
-        ),
-        _ => policy_texts::write(cases, next, &given[..given_length], &mut lent[..room]),
-    }
-}
-
-// A record of where something stands in a text.
-fn point_record(cases: &[u8], kind: Kind, at: Cursor) -> CallOutcome {
-    let mut text = [0u8; 65600];
-    let taken = at.string(cases, &mut text);
-    let text_length = taken.count;
-    let next = taken.next;
-    policy_texts::point(cases, kind, next, &text[..text_length])
-}
-
-// The body of a record.
-pub(crate) fn body(cases: &[u8], kind: Kind, at: Cursor) -> CallOutcome {
-    match kind {
-        Kind::Join => join_record(cases, at),
-        Kind::Ticks => calls::ticks(cases, at),
-        Kind::WaveWrite => wave_record(cases, kind, at),
-        Kind::WaveRead => wave_record(cases, kind, at),
-        Kind::Index => index_record(cases, at),
-        Kind::BaysNew => bays_new_record(cases, at),
-        Kind::MeterNew => meter_new_record(cases, at),
-        Kind::Clean => clean_record(cases, at),
-        Kind::Check => check_record(cases, at),
-        Kind::TextRead => text_record(cases, kind, at),
-        Kind::TextWrite => text_record(cases, kind, at),
-        Kind::TextLineOfRule => point_record(cases, kind, at),
-        Kind::TextNameOfSignal => point_record(cases, kind, at),
-        Kind::TextNameOfClock => point_record(cases, kind, at),
-        Kind::TextNameOfLocation => point_record(cases, kind, at),
-        Kind::Unknown => CallOutcome {
-            differs: Differs::Nothing,
-            next: at.lose(),
-        },
-        _ => policy_record(cases, kind, at),
-    }
+// Makes the call of the record whose parts begin at those places, and says which part came out different.
+pub(crate) fn body(cases: &[u8], kind: u8, places: &[usize; PARTS]) -> usize {
+    let mut first = [0u8; STRING];
+    let first = string(cases, places[parts::FIRST], &mut first);
+    let mut second = [0u8; STRING];
+    let second = string(cases, places[parts::SECOND], &mut second);
+    let mut state = [0u16; LIST];
+    let state = pairs(cases, places[parts::STATE], &mut state);
+    let mut third = [0u8; STRING];
+    let third = string(cases, places[parts::THIRD], &mut third);
+    let mut reasons = [0u64; LIST];
+    let reasons = longs(cases, places[parts::REASONS], &mut reasons);
+    let mut totals = [0u32; LIST];
+    let totals = words(cases, places[parts::TOTALS], &mut totals);
+    let mut rests = [0u32; LIST];
+    let rests = words(cases, places[parts::RESTS], &mut rests);
+    let mut written = [0u8; STRING];
+    let written = string(cases, places[parts::WRITTEN], &mut written);
+    let mut struck = [0u8; STRING];
+    let struck = string(cases, places[parts::STRUCK], &mut struck);
+    let mut work_1 = [0u16; LIST];
+    let work_1 = pairs(cases, places[parts::WORK_1], &mut work_1);
+    let mut work_2 = [0u16; LIST];
+    let work_2 = pairs(cases, places[parts::WORK_2], &mut work_2);
+    let mut work_3 = [0u16; LIST];
+    let work_3 = pairs(cases, places[parts::WORK_3], &mut work_3);
+    let mut work_4 = [0u16; LIST];
+    let work_4 = pairs(cases, places[parts::WORK_4], &mut work_4);
+    let mut work_5 = [0u16; LIST];
+    let work_5 = pairs(cases, places[parts::WORK_5], &mut work_5);
+    let got = answer(
+        kind,
+        Given::read(cases, places),
+        first,
+        second,
+        state,
+        third,
+        reasons,
+        totals,
+        rests,
+        written,
+        struck,
+        work_1,
+        work_2,
+        work_3,
+        work_4,
+        work_5,
+    );
+    compared(cases, places, got, written, state, totals, struck, reasons)
 }

@@ -1,236 +1,172 @@
-// One call of each kind that is no bay's, no meter's and has no index, and what differs afterwards.
-use crate::differs::CallOutcome;
-use crate::differs::first_of;
-use crate::differs::first_of_cleaned;
+// The calls, by the kinds' numbers. What a record does not have is empty or 0, and its entry does not take it.
 use crate::numbers::Cursor;
+use crate::parts;
+use crate::parts::PARTS;
 
-pub(crate) fn prepare(
-    cases: &[u8],
-    at: Cursor,
+// The numbers that a record gives, beside its strings and lists.
+pub struct Given {
     reading: u8,
-    file: &[u8],
-    marks: &mut [u8],
-) -> CallOutcome {
-    let got = groovepawn::groovepawn_prepare(reading, file, marks);
-    let answer = at.long(cases);
-    let next = answer.next;
-    let bytes = next.same_string(cases, marks);
-    let next = bytes.next;
-    CallOutcome {
-        differs: first_of(got == answer.value, bytes.same, true),
-        next,
+    word: u32,
+    tick_length: u32,
+    register: u16,
+    x: u8,
+    y: u8,
+}
+
+impl Given {
+    pub(crate) fn read(cases: &[u8], places: &[usize; PARTS]) -> Self {
+        let reading = Cursor::new(places[parts::READING]).byte(cases);
+        let word = Cursor::new(places[parts::WORD]).word(cases);
+        let tick_length = Cursor::new(places[parts::TICK_LENGTH]).word(cases);
+        let register = Cursor::new(places[parts::REGISTER]).pair(cases);
+        let x = Cursor::new(places[parts::X]).byte(cases);
+        let y = Cursor::new(places[parts::Y]).byte(cases);
+        Self {
+            reading: reading.value,
+            word: word.value,
+            tick_length: tick_length.value,
+            register: register.value,
+            x: x.value,
+            y: y.value,
+        }
     }
 }
 
-pub(crate) fn check(cases: &[u8], at: Cursor, file: &[u8]) -> CallOutcome {
-    let got = groovepawn::groovepawn_check(file);
-    let answer = at.long(cases);
-    let next = answer.next;
-    CallOutcome {
-        differs: first_of(got == answer.value, true, true),
-        next,
+// The calls with strings only, and that of ticks.
+fn by_strings(
+    kind: u8,
+    given: Given,
+    first: &[u8],
+    second: &[u8],
+    written: &mut [u8],
+    struck: &mut [u8],
+) -> u64 {
+    match kind {
+        1 => groovepawn::groovepawn_prepare(given.reading, first, written),
+        5 => groovepawn::groovepawn_join(first, second, written),
+        6 => groovepawn::groovepawn_ticks(given.word, given.tick_length, given.x) as u64,
+        7 => groovepawn::groovepawn_wave_write(first, second, written),
+        8 => groovepawn::groovepawn_wave_read(first, second, written),
+        19 => groovepawn::groovepawn_clean(given.reading, first, written, struck),
+        21 => groovepawn::groovepawn_check(first),
+        23 => groovepawn::groovepawn_text_read(first, written),
+        24 => groovepawn::groovepawn_text_write(first, written),
+        25 => groovepawn::groovepawn_text_line_of_rule(first, given.word),
+        26 => groovepawn::groovepawn_text_name_of_signal(first, given.word),
+        27 => groovepawn::groovepawn_text_name_of_clock(first, given.word),
+        _ => groovepawn::groovepawn_text_name_of_location(first, given.word),
     }
 }
 
-pub(crate) fn input(
-    cases: &[u8],
-    at: Cursor,
-    reading: u8,
-    file: &[u8],
-    marks: &[u8],
-    state: &[u16],
-) -> CallOutcome {
-    let x = at.byte(cases);
-    let next = x.next;
-    let got = groovepawn::groovepawn_input(reading, file, marks, state, x.value);
-    let answer = next.long(cases);
-    let next = answer.next;
-    CallOutcome {
-        differs: first_of(got as u64 == answer.value, true, true),
-        next,
-    }
-}
-
-pub(crate) fn output(
-    cases: &[u8],
-    at: Cursor,
-    reading: u8,
-    file: &[u8],
-    marks: &[u8],
+// The calls with a state, a station, a list of bays or an index.
+fn by_state(
+    kind: u8,
+    given: Given,
+    first: &[u8],
+    second: &[u8],
     state: &mut [u16],
-) -> CallOutcome {
-    let x = at.byte(cases);
-    let next = x.next;
-    let y = next.byte(cases);
-    let next = y.next;
-    let got = groovepawn::groovepawn_output(reading, file, marks, state, x.value, y.value);
-    let answer = next.long(cases);
-    let next = answer.next;
-    let after = next.same_state(cases, state);
-    let next = after.next;
-    CallOutcome {
-        differs: first_of(got as u64 == answer.value, true, after.same),
-        next,
+    totals: &mut [u32],
+    index: &[u16],
+) -> u64 {
+    let reading = given.reading;
+    let x = given.x;
+    let y = given.y;
+    match kind {
+        2 => groovepawn::groovepawn_input(reading, first, second, state, x) as u64,
+        3 => groovepawn::groovepawn_output(reading, first, second, state, x, y) as u64,
+        9 => groovepawn::groovepawn_index(first, state) as u64,
+        10 => groovepawn::groovepawn_input_indexed(reading, first, index, second, state, x) as u64,
+        11 => groovepawn::groovepawn_output_indexed(
+            reading,
+            first,
+            index,
+            second,
+            state,
+            x,
+            y,
+        ) as u64,
+        12 => groovepawn::groovepawn_bays_new(state) as u64,
+        13 => groovepawn::groovepawn_bay_input(reading, first, second, state, given.word, x) as u64,
+        14 => groovepawn::groovepawn_bay_output(
+            reading,
+            first,
+            second,
+            state,
+            given.word,
+            x,
+            y,
+        ) as u64,
+        15 => groovepawn::groovepawn_meter_new(state, totals, given.register) as u64,
+        16 => groovepawn::groovepawn_meter_input(
+            reading,
+            first,
+            second,
+            state,
+            given.register,
+            x,
+        ) as u64,
+        17 => groovepawn::groovepawn_meter_output(
+            reading,
+            first,
+            second,
+            state,
+            totals,
+            given.register,
+            x,
+            y,
+        ) as u64,
+        _ => groovepawn::groovepawn_why(reading, first, second, state, x, y),
     }
 }
 
-pub(crate) fn run(
-    cases: &[u8],
-    at: Cursor,
-    reading: u8,
-    file: &[u8],
-    marks: &[u8],
+// What the entry of the kind gives.
+pub(crate) fn answer(
+    kind: u8,
+    given: Given,
+    first: &[u8],
+    second: &[u8],
     state: &mut [u16],
-    events: &[u8],
-    released: &mut [u8],
-) -> CallOutcome {
-    let got = groovepawn::groovepawn_run(reading, file, marks, state, events, released);
-    let answer = at.long(cases);
-    let next = answer.next;
-    let bytes = next.same_string(cases, released);
-    let next = bytes.next;
-    let after = next.same_state(cases, state);
-    let next = after.next;
-    CallOutcome {
-        differs: first_of(got == answer.value, bytes.same, after.same),
-        next,
-    }
-}
-
-pub(crate) fn join(cases: &[u8], at: Cursor, a: &[u8], b: &[u8], out: &mut [u8]) -> CallOutcome {
-    let got = groovepawn::groovepawn_join(a, b, out);
-    let answer = at.long(cases);
-    let next = answer.next;
-    let bytes = next.same_string(cases, out);
-    let next = bytes.next;
-    CallOutcome {
-        differs: first_of(got == answer.value, bytes.same, true),
-        next,
-    }
-}
-
-pub(crate) fn ticks(cases: &[u8], at: Cursor) -> CallOutcome {
-    let milliseconds = at.word(cases);
-    let next = milliseconds.next;
-    let tick_length = next.word(cases);
-    let next = tick_length.next;
-    let up = next.byte(cases);
-    let next = up.next;
-    let got = groovepawn::groovepawn_ticks(milliseconds.value, tick_length.value, up.value);
-    let answer = next.long(cases);
-    let next = answer.next;
-    CallOutcome {
-        differs: first_of(got as u64 == answer.value, true, true),
-        next,
-    }
-}
-
-pub(crate) fn wave_write(
-    cases: &[u8],
-    at: Cursor,
-    file: &[u8],
-    events: &[u8],
-    text: &mut [u8],
-) -> CallOutcome {
-    let got = groovepawn::groovepawn_wave_write(file, events, text);
-    let answer = at.long(cases);
-    let next = answer.next;
-    let bytes = next.same_string(cases, text);
-    let next = bytes.next;
-    CallOutcome {
-        differs: first_of(got == answer.value, bytes.same, true),
-        next,
-    }
-}
-
-pub(crate) fn wave_read(
-    cases: &[u8],
-    at: Cursor,
-    file: &[u8],
-    text: &[u8],
-    events: &mut [u8],
-) -> CallOutcome {
-    let got = groovepawn::groovepawn_wave_read(file, text, events);
-    let answer = at.long(cases);
-    let next = answer.next;
-    let bytes = next.same_string(cases, events);
-    let next = bytes.next;
-    CallOutcome {
-        differs: first_of(got == answer.value, bytes.same, true),
-        next,
-    }
-}
-
-pub(crate) fn prepare_fast(
-    cases: &[u8],
-    at: Cursor,
-    reading: u8,
-    file: &[u8],
-    marks: &mut [u8],
+    third: &[u8],
+    reasons: &mut [u64],
+    totals: &mut [u32],
+    rests: &mut [u32],
+    written: &mut [u8],
+    struck: &mut [u8],
     work_1: &mut [u16],
     work_2: &mut [u16],
     work_3: &mut [u16],
     work_4: &mut [u16],
     work_5: &mut [u16],
-) -> CallOutcome {
-    let got = groovepawn::groovepawn_prepare_fast(
-        reading,
-        file,
-        marks,
-        work_1,
-        work_2,
-        work_3,
-        work_4,
-        work_5,
-    );
-    let answer = at.long(cases);
-    let next = answer.next;
-    let bytes = next.same_string(cases, marks);
-    let next = bytes.next;
-    CallOutcome {
-        differs: first_of(got == answer.value, bytes.same, true),
-        next,
-    }
-}
-
-pub(crate) fn clean(
-    cases: &[u8],
-    at: Cursor,
-    reading: u8,
-    file: &[u8],
-    cleaned: &mut [u8],
-    struck: &mut [u8],
-) -> CallOutcome {
-    let got = groovepawn::groovepawn_clean(reading, file, cleaned, struck);
-    let answer = at.long(cases);
-    let next = answer.next;
-    let bytes = next.same_string(cases, cleaned);
-    let next = bytes.next;
-    let list = next.same_string(cases, struck);
-    let next = list.next;
-    CallOutcome {
-        differs: first_of_cleaned(got == answer.value, bytes.same, list.same),
-        next,
-    }
-}
-
-pub(crate) fn why(
-    cases: &[u8],
-    at: Cursor,
-    reading: u8,
-    file: &[u8],
-    marks: &[u8],
-    state: &[u16],
-) -> CallOutcome {
-    let x = at.byte(cases);
-    let next = x.next;
-    let y = next.byte(cases);
-    let next = y.next;
-    let got = groovepawn::groovepawn_why(reading, file, marks, state, x.value, y.value);
-    let answer = next.long(cases);
-    let next = answer.next;
-    CallOutcome {
-        differs: first_of(got == answer.value, true, true),
-        next,
+) -> u64 {
+    match kind {
+        4 => groovepawn::groovepawn_run(given.reading, first, second, state, third, written),
+        18 => groovepawn::groovepawn_prepare_fast(
+            given.reading,
+            first,
+            written,
+            work_1,
+            work_2,
+            work_3,
+            work_4,
+            work_5,
+        ),
+        22 => groovepawn::groovepawn_why_run(
+            given.reading,
+            first,
+            second,
+            state,
+            third,
+            reasons,
+            totals,
+            rests,
+            written,
+            work_1,
+            work_2,
+            work_3,
+            work_4,
+            work_5,
+        ),
+        2 | 3 | 9..=17 | 20 => by_state(kind, given, first, second, state, totals, work_1),
+        _ => by_strings(kind, given, first, second, written, struck),
     }
 }

@@ -2,19 +2,12 @@
 // Then the same for a file of wrong expectations, all of which must come out different.
 mod bodies;
 mod calls;
-mod differs;
-mod indexes;
-mod longs;
-mod marked;
+mod lists;
 mod numbers;
-mod policy_texts;
+mod parts;
 mod records;
-mod states;
-mod stations;
 mod strings;
 mod tally;
-mod totals;
-mod why_runs;
 
 use libc::STDOUT_FILENO;
 

@@ -30,23 +30,11 @@ pub struct Long {
     pub next: Cursor,
 }
 
-// What was read into a lent slice: how many places of it, from its start.
-pub struct NumberTaken {
-    pub count: usize,
-    pub next: Cursor,
-}
-
-// Whether what was read is just what a slice holds.
-pub struct Compared {
-    pub same: bool,
-    pub next: Cursor,
-}
-
 impl Cursor {
-    pub(crate) fn start() -> Self
-        ensures { λ r. ⌜ r ≡ record { at = 0; lost = false } ⌝ }
+    pub(crate) fn new(at: usize) -> Self
+        ensures { λ r. ⌜ r ≡ record { at = at; lost = false } ⌝ }
     {
-        Self { at: 0, lost: false }
+        Self { at, lost: false }
     }
 
     pub(crate) fn lose(self) -> Self
@@ -115,6 +103,21 @@ impl Cursor {
         Long {
             value: high.value as u64 * 4294967296 + low.value as u64,
             next,
+        }
+    }
+
+    // So many bytes on.
+    pub(crate) fn skip(self, cases: &[u8], count: usize) -> Self {
+        let at = self.at;
+        if cases.len() < at {
+            return self.lose();
+        }
+        if cases.len() - at < count {
+            return self.lose();
+        }
+        Self {
+            at: at + count,
+            lost: self.lost,
         }
     }
 }

@@ -1,8 +1,11 @@
 // The records of a file, one after the other.
 use crate::bodies::body;
 use crate::numbers::Cursor;
-use crate::tally::KINDS;
-use crate::tally::Kind;
+use crate::parts::ABSENT;
+use crate::parts::KINDS;
+use crate::parts::PARTS;
+use crate::parts::find_parts;
+use crate::tally::Found;
 use crate::tally::Tally;
 use crate::tally::count;
 use crate::tally::print_counts;
@@ -24,20 +27,20 @@ fn ended(next: Cursor, start: usize, length: usize) -> Cursor {
 fn record(cases: &[u8], counts: &mut [u64; KINDS], tally: Tally, number: u32) -> Tally {
     let at = tally.next;
     let head = at.byte(cases);
-    let kind = Kind::of(head.value);
-    count(counts, head.value);
+    let kind = head.value;
+    count(counts, kind);
     let next = head.next;
     let length = next.word(cases);
     let start = length.next;
-    let outcome = body(cases, kind, start);
-    let differs = outcome.differs;
-    let next = outcome.next;
-    tally.add(
-        number,
-        kind,
-        differs,
-        ended(next, start.at, length.value as usize),
-    )
+    let mut places = [ABSENT; PARTS];
+    let end = find_parts(cases, kind, start, &mut places);
+    let next = ended(end, start.at, length.value as usize);
+    let part = if next.lost {
+        PARTS
+    } else {
+        body(cases, kind, &places)
+    };
+    tally.add(Found { number, kind, part }, next)
 }
 
 // All the records.
@@ -53,7 +56,7 @@ fn tallied(cases: &[u8], counts: &mut [u64; KINDS], start: Cursor, total: u32) -
 
 // Goes through the file, which begins with `GPV2` and the number of its records, and writes what was found.
 pub(crate) fn report(cases: &[u8]) {
-    let magic = Cursor::start().word(cases);
+    let magic = Cursor::new(0).word(cases);
     let next = magic.next;
     let total = next.word(cases);
     let next = total.next;

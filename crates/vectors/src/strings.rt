@@ -1,9 +1,10 @@
 // Strings, which are stored in pieces.
-use crate::numbers::Compared;
 use crate::numbers::Cursor;
-use crate::numbers::NumberTaken;
+use crate::parts::ABSENT;
 ghost use Prim.Native.Nat.{_<_};
-ghost use Rattle.vectors.specs.Counts.{Counts};
+
+// The longest string, unpacked.
+pub(crate) const STRING: usize = 65600;
 
 // The piece that is being read: how many bytes it has yet to make, each its own or all the same one.
 struct Pieces {
@@ -90,57 +91,60 @@ impl Pieces {
 }
 
 impl Cursor {
-    // The next string, unpacked to the start of `into`.
-    pub(crate) fn string(self, cases: &[u8], into: &mut [u8]) -> NumberTaken
-        ensures { λ r. ⌜ Counts (r .count) (now (into .exit)) ⌝ }
-    {
+    // Past the string that begins here.
+    pub(crate) fn past_string(self, cases: &[u8]) -> Self {
         let head = self.word(cases);
-        let count = head.value as usize;
         let start = head.next;
-        if into.len() < count {
-            return NumberTaken {
-                count: 0,
-                next: start.lose(),
-            };
+        let mut left = head.value as usize;
+        if STRING < left {
+            return start.lose();
         }
         let mut pieces = Pieces::new(start);
-        let mut i = 0;
-        while i < count {
+        while left > 0 {
             let made = pieces.step(cases);
-            into[i] = made.byte;
             pieces = made.pieces;
-            i += 1;
+            left -= 1;
         }
-        NumberTaken {
-            count,
-            next: pieces.end(),
-        }
+        pieces.end()
     }
+}
 
-    // The next string, which is as long as `held`, compared with what that holds.
-    pub(crate) fn same_string(self, cases: &[u8], held: &[u8]) -> Compared {
-        let head = self.word(cases);
-        let start = head.next;
-        if head.value as usize != held.len() {
-            return Compared {
-                same: false,
-                next: start.lose(),
-            };
-        }
-        let mut pieces = Pieces::new(start);
-        let mut same = true;
-        let mut i = 0;
-        while i < held.len() {
-            let made = pieces.step(cases);
-            if held[i] != made.byte {
-                same = false;
-            }
-            pieces = made.pieces;
-            i += 1;
-        }
-        Compared {
-            same,
-            next: pieces.end(),
-        }
+// The string that begins there, unpacked to the start of `into`. It is empty if there is none, or no room for it.
+pub(crate) fn string<'a>(cases: &[u8], at: usize, into: &'a mut [u8]) -> &'a mut [u8] {
+    let head = Cursor::new(at).word(cases);
+    let count = head.value as usize;
+    if into.len() < count {
+        return &mut into[..0];
     }
+    let mut pieces = Pieces::new(head.next);
+    let mut i = 0;
+    while i < count {
+        let made = pieces.step(cases);
+        into[i] = made.byte;
+        pieces = made.pieces;
+        i += 1;
+    }
+    &mut into[..count]
+}
+
+// Whether the string that begins there, if there is one, is what `held` holds.
+pub(crate) fn same_string(cases: &[u8], at: usize, held: &[u8]) -> bool {
+    if at == ABSENT {
+        return true;
+    }
+    let head = Cursor::new(at).word(cases);
+    if head.value as usize != held.len() {
+        return false;
+    }
+    let mut pieces = Pieces::new(head.next);
+    let mut i = 0;
+    while i < held.len() {
+        let made = pieces.step(cases);
+        if held[i] != made.byte {
+            return false;
+        }
+        pieces = made.pieces;
+        i += 1;
+    }
+    true
 }
