@@ -9,30 +9,31 @@ use Rattle.policy.specs.Rules.{Rule}
 use Rattle.policy.specs.Bytes.{pairBytes, pairsBytes, countsBytes}
 use Rattle.texts.specs.Wrote.{Wrote}
 use Rattle.texts.specs.WroteLaws.{wrote-then}
-use Rattle.wording.specs.Words.{Line}
 use Rattle.wording.specs.Reader.{policyFrom}
 use Rattle.declarations.specs.Table.{draftOf, Fit}
+use Rattle.declarations.specs.Fresh.{spans-long}
 use Rattle.declarations.specs.SignalLine.{inputs-long, outputs-long}
 use Rattle.declarations.specs.declared.table.Table.{Table}
 
-abbrev pub countsOf : Table → ℕ → List ℕ
-countsOf t count =
+abbrev pub countsOf : List ℕ → Table → ℕ → List ℕ
+countsOf left t count =
     (t .inputs ∷ take (t .inputs) (t .tags)) ++ (((t .signals - t .inputs) ∷ take (t .signals - t .inputs) (drop (t .inputs) (t .tags)))
-    ++ ((t .clocks ∷ pairsBytes (take (t .clocks) (t .ceilings))) ++ ((t .places ∷ take (t .places) (t .left)) ++ pairBytes count)))
+    ++ ((t .clocks ∷ pairsBytes (take (t .clocks) (t .ceilings))) ++ ((t .places ∷ take (t .places) left) ++ pairBytes count)))
 
-pub ceilings-long : {text : List ℕ} {t : Table} → Fit text t → length (take (t .clocks) (t .ceilings)) ≡ t .clocks
+pub ceilings-long : {t : Table} → Fit t → length (take (t .clocks) (t .ceilings)) ≡ t .clocks
 ceilings-long {t = t} f = length-take-le (t .clocks) (t .ceilings) (omega (arith, f .clocks, f .ceilings-long))
 
-pub counts-are : {text : List ℕ} {t : Table} (f : Fit text t) (places : Line) (rules : List Rule) (count : ℕ) → length places ≡ t .places → length rules ≡ count →
-    countsBytes (policyFrom 1 (draftOf text places t rules)) ≡ countsOf t count
+pub counts-are : (text starts ends left : List ℕ) {t : Table} (f : Fit t) (rules : List Rule) (count : ℕ) → length rules ≡ count →
+    countsBytes (policyFrom 1 (draftOf text starts ends left t rules)) ≡ countsOf left t count
 unfolding countsBytes policyFrom
-counts-are {t = t} f places rules count d e =
+counts-are text starts ends left {t = t} f rules count e =
     let a = inputs-long f in
     let b = outputs-long f in
     let c = ceilings-long f in
+    let d = spans-long text starts ends 12 (t .places) in
     (λ i.
     (a i ∷ take (t .inputs) (t .tags)) ++ ((b i ∷ take (t .signals - t .inputs) (drop (t .inputs) (t .tags)))
-    ++ ((c i ∷ pairsBytes (take (t .clocks) (t .ceilings))) ++ ((d i ∷ take (t .places) (t .left)) ++ pairBytes (e i)))))
+    ++ ((c i ∷ pairsBytes (take (t .clocks) (t .ceilings))) ++ ((d i ∷ take (t .places) left) ++ pairBytes (e i)))))
 
 -- Two bytes for each clock.
 module _ (cs : List ℕ) (n : ℕ) where

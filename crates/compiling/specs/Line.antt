@@ -13,13 +13,11 @@ use Rattle.policy.specs.File.{part}
 use Rattle.wording.specs.Words.{Word, Line, wordsOf}
 use Rattle.wording.specs.Names.{same, find}
 use Rattle.wording.specs.Reader.{Draft, inputLine, outputLine, clockLine, locationLine, atLine, ruleLine, readLine}
-use Rattle.words.specs.Spans.{spans, placeBelow}
+use Rattle.words.specs.Spans.{placeBelow}
 use Rattle.words.specs.Keywords.{keywords, keyword-is}
 use Rattle.words.specs.Firsts.{NextIn, in-none, in-word}
 use Rattle.conditions.specs.Steps.{Masked}
-use Rattle.declarations.specs.Table.{placeNames, draftOf, lineSaid, Fit}
-use Rattle.declarations.specs.declared.table.Table.{Table}
-use Rattle.declarations.specs.declared.table.Lined.{Lined}
+use Rattle.declarations.specs.Table.{Fit}
 use Rattle.compiling.specs.RuleLine.{ruleSaid}
 use Rattle.compiling.specs.declared.line.Taken.{Taken}
 
@@ -70,19 +68,13 @@ withRule (suc n) rules r = rules ++ (r ∷ [])
 abbrev pub takenRules : List Rule → Taken → List Rule
 takenRules rules r = withRule (r .rule) rules (ruleSaid (r .table) (r .parsed))
 
--- What a line from `at` to `end` says after `count` rules, and the names of the locations before it and after it.
-pub record Took (text : List ℕ) (places : Line) (end at : ℕ) (t : Table) (count : ℕ) (r : Taken) (then : Line) : Type 0 where
-  pub line : (rules : List Rule) → length rules ≡ count →
-      answer (r .refusal) (draftOf text then (r .table) (takenRules rules r)) ≡ readLine (draftOf text places t rules) (wordsOf (part text at (end - at)))
-  pub fit : Fit text (r .table)
+-- What a line from `at` to `end` says after `count` rules: what the lines before it have said with their rules, and what they have said with this one.
+pub record Took (text : List ℕ) (before : List Rule → Draft) (end at count : ℕ) (r : Taken) (after : List Rule → Draft) : Type 0 where
+  pub line : (rules : List Rule) → length rules ≡ count → answer (r .refusal) (after (takenRules rules r)) ≡ readLine (before rules) (wordsOf (part text at (end - at)))
+  pub fit : Fit (r .table)
   pub masked : Masked (r .parsed)
   pub one : r .rule ≤ 1
   pub room : r .refusal ≡ 0 → r .rule ≡ 1 → (r .table .source < 64) × (count < 256)
-
--- A line that declares no location.
-pub same-names : (text starts ends : List ℕ) (t : Table) (r : Lined) (rules : List Rule) → r .table .places ≡ t .places →
-    lineSaid text (placeNames text starts ends (r .table)) rules r ≡ lineSaid text (placeNames text starts ends t) rules r
-same-names text starts ends t r rules e = ap (λ (n : ℕ). lineSaid text (spans text starts ends 0 n) rules r) e
 
 -- By the first word.
 module _ {text : List ℕ} {end at a b : ℕ} (n : NextIn text end at a b) (d : Draft) where

@@ -1,34 +1,36 @@
 -- The lines of a text, one after another, by what the code has of those that it has read.
-use mathlib.Core.Path.{_≡_, refl, ap, sym, subst, _∙_}
+use mathlib.Core.Path.{_≡_, refl, ap, sym, _∙_}
 use mathlib.Core.List.{List, [], _∷_}
 use Prim.Native.Nat.{ℕ, zero, suc, _+_, _-_, _≤_, _<_}
 use native.Mathlib.Omega.{arith}
-use lib.ListN.{length, drop, length-append, drop-of-length-le}
+use lib.ListN.{length, drop, replicate, length-append, length-replicate, getD-replicate, drop-of-length-le}
 use Rattle.streams.specs.Answer.{Answer, answer}
 use Rattle.policy.specs.Rules.{Rule}
 use Rattle.policy.specs.File.{part}
-use Rattle.wording.specs.Words.{Line, wordsOf, eachWords, split, linesOf}
+use Rattle.wording.specs.Words.{wordsOf, eachWords, split, linesOf}
 use Rattle.wording.specs.Reader.{Draft, empty, FromText, stops, reads, proceed, readLines}
 use Rattle.words.specs.Lex.{NextLine}
-use Rattle.declarations.specs.Table.{draftOf}
-use Rattle.declarations.specs.declared.table.Table.{Table}
+use Rattle.declarations.specs.Table.{Named}
 use Rattle.compiling.specs.RuleLine.{ruleSaid}
 use Rattle.compiling.specs.Line.{Took, takenRules, withRule}
 use Rattle.compiling.specs.declared.line.Taken.{Taken}
-use Rattle.compiling.specs.declared.lines.Said.{Said}
-
--- What the code says of all lines, beside what they say.
-abbrev pub Held : List ℕ → Said → FromText Draft → Type 0
-Held text r (stops n line) = (r .refusal ≡ n) × (r .line ≡ line) × (0 < n)
-Held text r (reads d) = (r .refusal ≡ 0) × (d ≡ draftOf text (d .places) (r .table) (d .rules)) × (length (d .rules) ≡ r .count) × (length (d .places) ≡ r .table .places)
 
 -- After `passed` lines, up to `at`, with `count` rules: the lines that are left decide.
-pub record Sofar (text : List ℕ) (places : Line) (t : Table) (rules : List Rule) (count passed at : ℕ) : Type 0 where
+pub record Sofar (text : List ℕ) (draft : List Rule → Draft) (rules : List Rule) (count passed at : ℕ) : Type 0 where
   pub many : length rules ≡ count
-  pub rest : readLines 1 empty (linesOf text) ≡ readLines (suc passed) (draftOf text places t rules) (linesOf (drop at text))
+  pub rest : readLines 1 empty (linesOf text) ≡ readLines (suc passed) (draft rules) (linesOf (drop at text))
 
-pub before-lines : (text : List ℕ) (places : Line) (t : Table) → draftOf text places t [] ≡ empty → Sofar text places t [] 0 0 0
-before-lines text places t e = record { many = refl; rest = ap (λ (d : Draft). readLines 1 d (linesOf text)) (sym e) }
+pub before-lines : (text : List ℕ) (draft : List Rule → Draft) → draft [] ≡ empty → Sofar text draft [] 0 0 0
+before-lines text draft e = record { many = refl; rest = ap (λ (d : Draft). readLines 1 d (linesOf text)) (sym e) }
+
+-- No name stands anywhere yet.
+pub unnamed : (text : List ℕ) → Named text (replicate 76 0) (replicate 76 0)
+unnamed text =
+    record {
+      starts-long = length-replicate {A = ℕ} 76 0;
+      ends-long = length-replicate {A = ℕ} 76 0;
+      within = λ k h. rw (getD-replicate {A = ℕ} 76 k 0 0 h) (omega arith, omega arith);
+    }
 
 -- Where the next line begins.
 pub next-drop : (text : List ℕ) (end next : ℕ) → end ≤ length text → (end < length text → next ≡ end + 1) → (length text ≤ end → next ≡ length text) → drop (end + 1) text ≡ drop next text
@@ -56,50 +58,44 @@ few-rules zero count a b c = omega arith
 few-rules (suc zero) count a b c = let h : count < 256 = c refl in omega arith
 few-rules (suc (suc n)) count a b c = absurd (omega arith)
 
-module _ {text : List ℕ} {places : Line} {t : Table} {rules : List Rule} {count passed at : ℕ} (s : Sofar text places t rules count passed at) where
-  pub lines-end : length text ≤ at → readLines 1 empty (linesOf text) ≡ reads (draftOf text places t rules)
+module _ {text : List ℕ} {draft : List Rule → Draft} {rules : List Rule} {count passed at : ℕ} (s : Sofar text draft rules count passed at) where
+  pub lines-end : length text ≤ at → readLines 1 empty (linesOf text) ≡ reads (draft rules)
   unfolding readLines linesOf split
-  lines-end h = s .rest ∙ ap (λ (l : List ℕ). readLines (suc passed) (draftOf text places t rules) (linesOf l)) (drop-of-length-le text h)
-
-  pub held-end : length text ≤ at → length places ≡ t .places → (r : Said) → r .refusal ≡ 0 → r .count ≡ count → r .table ≡ t → Held text r (readLines 1 empty (linesOf text))
-  held-end h named r z n e =
-      subst (Held text r) (sym (lines-end h)) (z, ap (λ (x : Table). draftOf text places x rules) (sym e), s .many ∙ sym n, named ∙ ap (λ (x : Table). x .places) (sym e))
+  lines-end h = s .rest ∙ ap (λ (l : List ℕ). readLines (suc passed) (draft rules) (linesOf l)) (drop-of-length-le text h)
 
   module _ {end : ℕ} (l : NextLine text at end) (h : at < length text) where
     here : linesOf (drop at text) ≡ wordsOf (part text at (end - at)) ∷ linesOf (drop (end + 1) text)
     unfolding linesOf
     here = ap eachWords (l .lines h)
 
-    module _ {r : Taken} {then : Line} (k : Took text places end at t count r then) where
-      pub line-on : readLines 1 empty (linesOf text)
-          ≡ proceed (suc passed) (answer (r .refusal) (draftOf text then (r .table) (takenRules rules r))) (λ e. readLines (suc (suc passed)) e (linesOf (drop (end + 1) text)))
+    module _ {r : Taken} {after : List Rule → Draft} (k : Took text draft end at count r after) where
+      line-on : readLines 1 empty (linesOf text)
+          ≡ proceed (suc passed) (answer (r .refusal) (after (takenRules rules r))) (λ e. readLines (suc (suc passed)) e (linesOf (drop (end + 1) text)))
       unfolding readLines
       line-on =
-          s .rest ∙ ap (readLines (suc passed) (draftOf text places t rules)) here
+          s .rest ∙ ap (readLines (suc passed) (draft rules)) here
           ∙ ap (λ (a : Answer Draft). proceed (suc passed) a (λ e. readLines (suc (suc passed)) e (linesOf (drop (end + 1) text)))) (sym (k .line rules (s .many)))
 
       stopped : (q : ℕ) → (q ≡ 0 → ⊥) → (d : Draft) (go : Draft → FromText Draft) → proceed (suc passed) (answer q d) go ≡ stops q (suc passed)
       stopped zero z d go = absurd (z refl)
       stopped (suc q) z d go = refl
 
-      pub held-stops : (r .refusal ≡ 0 → ⊥) → (x : Said) → x .refusal ≡ r .refusal → x .line ≡ passed + 1 → Held text x (readLines 1 empty (linesOf text))
-      held-stops z x e y =
-          subst (Held text x) (sym (line-on ∙ stopped (r .refusal) z (draftOf text then (r .table) (takenRules rules r)) (λ e. readLines (suc (suc passed)) e (linesOf (drop (end + 1) text)))))
-          (e, omega arith, positive (r .refusal) z)
-        where
-          positive : (n : ℕ) → (n ≡ 0 → ⊥) → 0 < n
-          positive zero w = absurd (w refl)
-          positive (suc n) w = omega arith
+      pub lines-stop : (r .refusal ≡ 0 → ⊥) → readLines 1 empty (linesOf text) ≡ stops (r .refusal) (passed + 1)
+      lines-stop z =
+          let p : suc passed ≡ passed + 1 = omega arith in
+          line-on
+          ∙ stopped (r .refusal) z (after (takenRules rules r)) (λ e. readLines (suc (suc passed)) e (linesOf (drop (end + 1) text)))
+          ∙ ap (stops (r .refusal)) p
 
       longer : (n : ℕ) → n ≤ 1 → (rs : List Rule) (x : Rule) → length (withRule n rs x) ≡ length rs + n
       longer zero u rs x = omega arith
       longer (suc zero) u rs x = length-append rs (x ∷ [])
       longer (suc (suc n)) u rs x = absurd (omega arith)
 
-      pub sofar-on : r .refusal ≡ 0 → {next : ℕ} → drop (end + 1) text ≡ drop next text → Sofar text then (r .table) (takenRules rules r) (count + r .rule) (passed + 1) next
+      pub sofar-on : r .refusal ≡ 0 → {next : ℕ} → drop (end + 1) text ≡ drop next text → Sofar text after (takenRules rules r) (count + r .rule) (passed + 1) next
       sofar-on z {next} e =
           let p : suc passed ≡ passed + 1 = omega arith in
           record {
             many = longer (r .rule) (k .one) rules (ruleSaid (r .table) (r .parsed)) ∙ ap (λ (n : ℕ). n + r .rule) (s .many);
-            rest = line-on ∙ (λ i. proceed (suc passed) (answer (z i) (draftOf text then (r .table) (takenRules rules r))) (λ d. readLines (suc (p i)) d (linesOf (e i))));
+            rest = line-on ∙ (λ i. proceed (suc passed) (answer (z i) (after (takenRules rules r))) (λ d. readLines (suc (p i)) d (linesOf (e i))));
           }

@@ -1,6 +1,6 @@
 -- What the reader answers, for any bytes, and that one answer alone meets it.
 use mathlib.Core.Path.{_≡_, refl, ap, sym, subst, _∙_}
-use mathlib.Core.Bool.{Bool, cond}
+use mathlib.Core.Bool.{Bool, true, false, cond, false≢true}
 use mathlib.Core.List.{List, _++_}
 use Prim.Native.Nat.{ℕ, zero, suc, _+_, _*_, _≤_, _<_}
 use native.Mathlib.Nat.{mul-le-mul}
@@ -10,7 +10,7 @@ use lib.ListN.{length, getD, take, drop, length-append}
 use lib.Seq.{getD-take}
 use borrow.Author.Tests.{le-leb, lt-leb}
 use Rattle.streams.specs.Answer.{_orElse_, unless}
-use Rattle.policy.specs.Rules.{Policy}
+use Rattle.policy.specs.Rules.{Rule, Policy}
 use Rattle.policy.specs.File.{ruleSize}
 use Rattle.policy.specs.Number.{statesOf, states}
 use Rattle.policy.specs.Check.{refusalOf}
@@ -24,12 +24,12 @@ use Rattle.wording.specs.Reader.{Draft, empty, FromText, stops, reads, readLine
 use Rattle.wording.specs.Good.{Good, all-good, good-nearly}
 use Rattle.wording.specs.Given.{good-refusal}
 use Rattle.declarations.specs.Table.{draftOf, Fit}
+use Rattle.declarations.specs.Fresh.{spans-long}
 use Rattle.declarations.specs.SignalLine.{inputs-long, outputs-long}
 use Rattle.declarations.specs.declared.table.Table.{Table}
-use Rattle.compiling.specs.Lines.{Held}
 use Rattle.compiling.specs.Counts.{countsOf, ceilings-long, counts-are}
-use Rattle.compiling.specs.declared.lines.Said.{Said}
 use Rattle.compiling.specs.declared.reader.ReadText.{ReadText}
+use Rattle.compiling.specs.declared.reader.Judged.{Judged}
 
 -- The file, if the slice has room for it. 14: it has not.
 abbrev pub fitted : List ℕ → FromText (List ℕ) → FromText (List ℕ)
@@ -53,63 +53,62 @@ pub record ReadTextPromise (text before : List ℕ) (r : ReadText) (after : List
 pub read-one : {text before after other : List ℕ} {r s : ReadText} → ReadTextPromise text before r after → ReadTextPromise text before s other → (r ≡ s) × (after ≡ other)
 read-one w v = (w .says ∙ sym (v .says), w .writes ∙ sym (v .writes))
 
--- What the code has where all lines are read.
-pub record Got (text : List ℕ) (r : Said) : Type 0 where
-  pub draft : Draft
-  pub lines : readLines 1 empty (linesOf text) ≡ reads draft
-  pub same : draft ≡ draftOf text (draft .places) (r .table) (draft .rules)
-  pub many : length (draft .rules) ≡ r .count
-  pub named : length (draft .places) ≡ r .table .places
+-- The text is a policy's.
+abbrev pub isRead : FromText (List ℕ) → Bool
+isRead (stops n line) = false
+isRead (reads f) = true
 
-pub got : {text : List ℕ} {r : Said} → Held text r (readLines 1 empty (linesOf text)) → r .refusal ≡ 0 → Got text r
-got {text} {r} h z = go (readLines 1 empty (linesOf text)) refl h
-  where
-    go : (x : FromText Draft) → readLines 1 empty (linesOf text) ≡ x → Held text r x → Got text r
-    go (stops n line) e k = absurd (omega (arith, k .0, k .2))
-    go (reads d) e k = record { draft = d; lines = e; same = k .1; many = k .2; named = k .3 }
+pub record JudgePromise (text before : List ℕ) (r : Judged) (after : List ℕ) : Type 0 where
+  pub read : ReadTextPromise text before (record { refusal = r .refusal; line = r .line; length = r .length }) after
+  pub good : r .good ≡ isRead (fileFromText text)
+
+-- What a judgement says of the text.
+module _ {text before after : List ℕ} {r : Judged} (w : JudgePromise text before r after) where
+  pub judged-not : r .good ≡ false → fileFromText text ≡ stops (r .refusal) (r .line)
+  judged-not e = go (fileFromText text) refl
+    where
+      go : (x : FromText (List ℕ)) → fileFromText text ≡ x → fileFromText text ≡ stops (r .refusal) (r .line)
+      go (stops n line) k =
+          let s = sym (w .read .says ∙ ap (λ (y : FromText (List ℕ)). answered (fitted before y)) k) in
+          k ∙ (λ i. stops (s i .refusal) (s i .line))
+      go (reads f) k = absurd (false≢true (sym e ∙ w .good ∙ ap isRead k))
+
+  pub judged-good : r .good ≡ true → (f : List ℕ) × (fileFromText text ≡ reads f)
+  judged-good e = go (fileFromText text) refl
+    where
+      go : (x : FromText (List ℕ)) → fileFromText text ≡ x → (f : List ℕ) × (fileFromText text ≡ reads f)
+      go (stops n line) k = absurd (false≢true (sym (sym e ∙ w .good ∙ ap isRead k)))
+      go (reads f) k = (f, k)
 
 module _ (text before : List ℕ) where
   promised : {x : FromText (List ℕ)} → fitted before (fileFromText text) ≡ x → {r : ReadText} {after : List ℕ} → r ≡ answered x → after ≡ filled before x → ReadTextPromise text before r after
   promised e a b = record { says = a ∙ ap answered (sym e); writes = b ∙ ap (filled before) (sym e) }
 
-  pub file-stopped : (r : Said) → Held text r (readLines 1 empty (linesOf text)) → (r .refusal ≡ 0 → ⊥) → fileFromText text ≡ stops (r .refusal) (r .line)
+  stopped : {n line : ℕ} → fileFromText text ≡ stops n line → JudgePromise text before (record { refusal = n; line = line; length = 0; good = false }) before
+  stopped e = record { read = promised (ap (fitted before) e) refl refl; good = sym (ap isRead e) }
+
+  pub read-stopped : {n line : ℕ} → readLines 1 empty (linesOf text) ≡ stops n line → JudgePromise text before (record { refusal = n; line = line; length = 0; good = false }) before
   unfolding fileFromText policyFromText
-  file-stopped r h z = go (readLines 1 empty (linesOf text)) refl h
-    where
-      go : (x : FromText Draft) → readLines 1 empty (linesOf text) ≡ x → Held text r x → fileFromText text ≡ stops (r .refusal) (r .line)
-      go (stops n line) e k = ap (λ (x : FromText Draft). filed (saidBy 1 x)) e ∙ (λ i. stops (sym (k .0) i) (sym (k .1) i))
-      go (reads d) e k = absurd (z (k .0))
+  read-stopped e = stopped (ap (λ (x : FromText Draft). filed (saidBy 1 x)) e)
 
-  stopped : {n line : ℕ} → fileFromText text ≡ stops n line → ReadTextPromise text before (record { refusal = n; line = line; length = 0 }) before
-  stopped e = promised (ap (fitted before) e) refl refl
-
-  pub read-stopped : (r : Said) → Held text r (readLines 1 empty (linesOf text)) → (r .refusal ≡ 0 → ⊥) → ReadTextPromise text before (record { refusal = r .refusal; line = r .line; length = 0 }) before
-  read-stopped r h z = stopped (file-stopped r h z)
-
-  module _ {r : Said} (f : Fit text (r .table)) (g : Got text r) where
-    abbrev t : Table
-    t = r .table
+  module _ (starts ends left : List ℕ) {t : Table} (f : Fit t) {rules : List Rule} (lines : readLines 1 empty (linesOf text) ≡ reads (draftOf text starts ends left t rules)) {count : ℕ} (many : length rules ≡ count) where
+    abbrev d : Draft
+    d = draftOf text starts ends left t rules
 
     abbrev p : Policy
-    p = policyFrom 1 (g .draft)
+    p = policyFrom 1 d
 
-    abbrev q : Policy
-    q = policyFrom 1 (draftOf text (g .draft .places) t (g .draft .rules))
+    good : Good d
+    good = all-good (linesOf text) d lines
 
-    good : Good (g .draft)
-    good = all-good (linesOf text) (g .draft) (g .lines)
-
-    same-policy : p ≡ q
-    same-policy = ap (policyFrom 1) (g .same)
+    named : length (d .places) ≡ t .places
+    named = spans-long text starts ends 12 (t .places)
 
     -- The ceilings are those that the check takes.
     pub ceilings-fit : (i : ℕ) → i < t .clocks → getD (t .ceilings) i 0 ≤ 1001
     ceilings-fit i h =
-        let k = good .clocks .good in
-        let cs = ap (λ (d : Draft). d .ceilings) (g .same) in
-        let c = ceiling-at (g .draft .ceilings) k i (omega (arith, ap length cs, ceilings-long f)) in
-        let e : getD (g .draft .ceilings) i 0 ≡ getD (t .ceilings) i 0 = ap (λ (l : List ℕ). getD l i 0) cs ∙ getD-take (t .clocks) (t .ceilings) i 0 h in
-        omega (arith, c .1, e)
+        let c = ceiling-at (d .ceilings) (good .clocks .good) i (omega (arith, ceilings-long f)) in
+        omega (arith, c .1, getD-take (t .clocks) (t .ceilings) i 0 h)
 
     states-taken : (k : ℕ) → k ≤ t .clocks → statesOf (take (t .clocks) (t .ceilings)) k (t .places) ≡ statesOf (t .ceilings) k (t .places)
     unfolding statesOf
@@ -125,64 +124,61 @@ module _ (text before : List ℕ) where
     own-is : refusalOf (bytesOf p) ≡ ownRefusal
     unfolding policyFrom
     own-is =
-        good-refusal (g .draft) good
-        ∙ ap (λ (x : Policy). unless (leb 1 (x .locations)) 2 orElse unless (leb (states x) 65536) 9) same-policy
-        ∙ (λ i. unless (leb 1 (g .named i)) 2 orElse unless (leb (statesOf (take (t .clocks) (t .ceilings)) (ceilings-long f i) (g .named i)) 65536) 9)
+        good-refusal d good
+        ∙ (λ i. unless (leb 1 (named i)) 2 orElse unless (leb (statesOf (take (t .clocks) (t .ceilings)) (ceilings-long f i) (named i)) 65536) 9)
         ∙ ap (λ (n : ℕ). unless (leb 1 (t .places)) 2 orElse unless (leb n 65536) 9) (states-taken (t .clocks) (omega arith))
 
     file-is : fileFromText text ≡ passed (refusalOf (bytesOf p)) (bytesOf p)
     unfolding fileFromText policyFromText
-    file-is = ap (λ (x : FromText Draft). filed (saidBy 1 x)) (g .lines)
+    file-is = ap (λ (x : FromText Draft). filed (saidBy 1 x)) lines
 
     -- How long the file is.
     abbrev pub fileLength : ℕ
-    fileLength = 6 + t .signals + 2 * t .clocks + t .places + r .count * (7 + 4 * t .clocks)
+    fileLength = 6 + t .signals + 2 * t .clocks + t .places + count * (7 + 4 * t .clocks)
 
-    pub file-long : length (bytesOf p) ≡ fileLength
+    file-long : length (bytesOf p) ≡ fileLength
     unfolding policyFrom
     file-long =
-        let n = nearly-length p (good-nearly 1 (g .draft) good) in
-        let i = ap (λ (x : Policy). length (x .inputs)) same-policy ∙ inputs-long f in
-        let o = ap (λ (x : Policy). length (x .outputs)) same-policy ∙ outputs-long f in
-        let c = ap (λ (x : Policy). length (x .ceilings)) same-policy ∙ ceilings-long f in
-        let l = ap (λ (x : Policy). x .locations) same-policy ∙ g .named in
-        let body : length (p .rules) * ruleSize (length (p .ceilings)) ≡ r .count * (7 + 4 * t .clocks) = (λ j. g .many j * ruleSize (c j)) in
-        omega (arith, n, i, o, c, l, body, f .order)
+        let c = ceilings-long f in
+        let body : length (p .rules) * ruleSize (length (p .ceilings)) ≡ count * (7 + 4 * t .clocks) = (λ j. many j * ruleSize (c j)) in
+        omega (arith, nearly-length p (good-nearly 1 d good), inputs-long f, outputs-long f, c, named, body, f .order)
 
-    pub file-own : {n : ℕ} → n ≡ ownRefusal → (n ≡ 0 → ⊥) → fileFromText text ≡ stops n 0
-    file-own {n} e z = go n z (file-is ∙ ap (λ (m : ℕ). passed m (bytesOf p)) (own-is ∙ sym e))
+    pub read-own : {n : ℕ} → n ≡ ownRefusal → (n ≡ 0 → ⊥) → JudgePromise text before (record { refusal = n; line = 0; length = 0; good = false }) before
+    read-own {n} e z = stopped (go n z (file-is ∙ ap (λ (m : ℕ). passed m (bytesOf p)) (own-is ∙ sym e)))
       where
         go : (m : ℕ) → (m ≡ 0 → ⊥) → fileFromText text ≡ passed m (bytesOf p) → fileFromText text ≡ stops m 0
         go zero y h = absurd (y refl)
         go (suc m) y h = h
 
-    pub read-own : {n : ℕ} → n ≡ ownRefusal → (n ≡ 0 → ⊥) → ReadTextPromise text before (record { refusal = n; line = 0; length = 0 }) before
-    read-own e z = stopped (file-own e z)
+    module _ {n : ℕ} (e : n ≡ ownRefusal) (z : n ≡ 0) where
+      file-read : fileFromText text ≡ reads (bytesOf p)
+      file-read = file-is ∙ ap (λ (m : ℕ). passed m (bytesOf p)) (own-is ∙ sym e ∙ z)
 
-    pub file-read : {n : ℕ} → n ≡ ownRefusal → n ≡ 0 → fileFromText text ≡ reads (bytesOf p)
-    file-read e z = file-is ∙ ap (λ (m : ℕ). passed m (bytesOf p)) (own-is ∙ sym e ∙ z)
+      with-room : {b : Bool} → leb (length (bytesOf p)) (length before) ≡ b → fitted before (fileFromText text) ≡ cond b (reads (bytesOf p)) (stops 14 0)
+      with-room h = ap (fitted before) file-read ∙ ap (λ (b : Bool). cond b (reads (bytesOf p)) (stops 14 0)) h
 
-    pub read-short : {n : ℕ} → n ≡ ownRefusal → n ≡ 0 → length before < fileLength → ReadTextPromise text before (record { refusal = 14; line = 0; length = 0 }) before
-    read-short e z h =
-        promised (ap (fitted before) (file-read e z) ∙ ap (λ (b : Bool). cond b (reads (bytesOf p)) (stops 14 0)) (lt-leb (length (bytesOf p)) (length before) (omega (arith, file-long)))) refl refl
+      pub read-short : length before < fileLength → JudgePromise text before (record { refusal = 14; line = 0; length = 0; good = true }) before
+      read-short h = record { read = promised (with-room (lt-leb (length (bytesOf p)) (length before) (omega (arith, file-long)))) refl refl; good = sym (ap isRead file-read) }
 
-    -- The counts, then the rules.
-    pub counts-room : fileLength ≤ length before → length (countsOf t (r .count)) + length (rulesBytes (g .draft .rules)) ≤ length before
-    unfolding bytesOf policyFrom
-    counts-room h =
-        let c = ap (λ (x : Policy). length (countsBytes x)) same-policy ∙ ap length (counts-are f (g .draft .places) (g .draft .rules) (r .count) (g .named) (g .many)) in
-        omega (arith, file-long, length-append (countsBytes p) (rulesBytes (g .draft .rules)), c)
+      -- The counts, then the rules.
+      pub counts-room : fileLength ≤ length before → length (countsOf left t count) + length (rulesBytes rules) ≤ length before
+      unfolding bytesOf policyFrom
+      counts-room h =
+          let c = ap length (counts-are text starts ends left f rules count many) in
+          omega (arith, file-long, length-append (countsBytes p) (rulesBytes rules), c)
 
-    pub read-whole : {n : ℕ} → n ≡ ownRefusal → n ≡ 0 → fileLength ≤ length before → {middle after : List ℕ} {from end : ℕ} → Wrote before 0 (countsOf t (r .count)) from middle →
-        Wrote middle from (rulesBytes (g .draft .rules)) end after → ReadTextPromise text before (record { refusal = 0; line = 0; length = end }) after
-    unfolding bytesOf policyFrom
-    read-whole e z h {after = after} {end = end} w v =
-        let c = ap countsBytes same-policy ∙ counts-are f (g .draft .places) (g .draft .rules) (r .count) (g .named) (g .many) in
-        let both : Wrote before 0 (bytesOf p) end after = subst (λ (b : List ℕ). Wrote before 0 (b ++ rulesBytes (g .draft .rules)) end after) (sym c) (wrote-then (omega arith) w v) in
-        let y : 0 + length (bytesOf p) ≡ length (bytesOf p) = omega arith in
-        let long = both .next ∙ y in
-        promised (ap (fitted before) (file-read e z) ∙ ap (λ (b : Bool). cond b (reads (bytesOf p)) (stops 14 0)) (le-leb (length (bytesOf p)) (length before) (omega (arith, file-long))))
-        (λ i. record { refusal = 0; line = 0; length = long i }) (both .text ∙ ap (λ (n : ℕ). bytesOf p ++ drop n before) y)
+      pub read-whole : fileLength ≤ length before → {middle after : List ℕ} {from end : ℕ} → Wrote before 0 (countsOf left t count) from middle → Wrote middle from (rulesBytes rules) end after →
+          JudgePromise text before (record { refusal = 0; line = 0; length = end; good = true }) after
+      unfolding bytesOf policyFrom
+      read-whole h {after = after} {end = end} w v =
+          let c = counts-are text starts ends left f rules count many in
+          let both : Wrote before 0 (bytesOf p) end after = subst (λ (b : List ℕ). Wrote before 0 (b ++ rulesBytes rules) end after) (sym c) (wrote-then (omega arith) w v) in
+          let y : 0 + length (bytesOf p) ≡ length (bytesOf p) = omega arith in
+          let long = both .next ∙ y in
+          record {
+            read = promised (with-room (le-leb (length (bytesOf p)) (length before) (omega (arith, file-long)))) (λ i. record { refusal = 0; line = 0; length = long i }) (both .text ∙ ap (λ (n : ℕ). bytesOf p ++ drop n before) y);
+            good = sym (ap isRead file-read);
+          }
 
 -- A file's rules take at most 5,888 bytes.
 pub rules-small : (count clocks : ℕ) → count ≤ 256 → clocks ≤ 4 → count * (7 + 4 * clocks) ≤ 5888

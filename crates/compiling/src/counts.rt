@@ -50,18 +50,17 @@ fn put_ceilings(out: &mut [u8], at: usize, ceilings: [u16; 4], clocks: usize) ->
 }
 
 // All sections but the rules, and the number of these.
-pub(crate) fn put_counts(text: &[u8], out: &mut [u8], table: Table, count: usize) -> usize
-    requires { ⌜ (count ≤ 256) × (6 + table .signals + 2 * table .clocks + table .places ≤ length (now out)) × Fit (now text) table ⌝ }
-    ensures { λ r. ⌜ Wrote (now (out .entry)) 0 (countsOf table count) r (now (out .exit)) ⌝ }
+pub(crate) fn put_counts(out: &mut [u8], left: &[u8], table: Table, count: usize) -> usize
+    requires { ⌜ (count ≤ 256) × (6 + table .signals + 2 * table .clocks + table .places ≤ length (now out)) × (length (now left) ≡ 64) × Fit table ⌝ }
+    ensures { λ r. ⌜ Wrote (now (out .entry)) 0 (countsOf (now (left .entry)) table count) r (now (out .exit)) ⌝ }
 {
     let tags = table.tags;
-    let left = table.left;
     let ceilings = table.ceilings;
     let inputs = table.inputs;
     let a = put_section(out, 0, &tags, 0, inputs);
     let b = put_section(out, a, &tags, inputs, table.signals - inputs);
     let c = put_ceilings(out, b, ceilings, table.clocks);
-    let d = put_section(out, c, &left, 0, table.places);
+    let d = put_section(out, c, left, 0, table.places);
     let n = count as u16;
     let two = [high_byte(n), low_byte(n)];
     put_bytes(out, d, &two)

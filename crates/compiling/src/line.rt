@@ -19,7 +19,7 @@ ghost use lib.ListN.{length};
 ghost use Rattle.policy.specs.File.{part};
 ghost use Rattle.policy.specs.Rules.{Rule};
 ghost use Rattle.wording.specs.Words.{wordsOf};
-ghost use Rattle.declarations.specs.Table.{placeNames, draftOf, lineSaid, Fit, Placed};
+ghost use Rattle.declarations.specs.Table.{draftOf, lineSaid, Fit, Named};
 ghost use Rattle.compiling.specs.Line.{behind, Took};
 
 // A refusal, or 0 and what the lines with one more have said. `rule` is 1 where the line is a rule, which `parsed` holds, else 0.
@@ -35,28 +35,29 @@ fn words_behind(
     text: &[u8],
     end: usize,
     at: usize,
-    pstarts: &mut [usize],
-    pends: &mut [usize],
+    starts: &mut [usize],
+    ends: &mut [usize],
+    left: &mut [u8],
     table: Table,
     k: usize,
 ) -> Lined
-    requires { ⌜ (at ≤ end) × (end ≤ length (now text)) × (k < 5) × Fit (now text) table × Placed (now text) (now pstarts) (now pends) table ⌝ }
-    ensures { λ r. ⌜ ((rules : List Rule) → lineSaid (now (text .entry)) (placeNames (now (text .entry)) (now (pstarts .exit)) (now (pends .exit)) (r .table)) rules r ≡ behind k (draftOf (now (text .entry)) (placeNames (now (text .entry)) (now (pstarts .entry)) (now (pends .entry)) table) table rules) (wordsOf (part (now (text .entry)) at (end - at)))) × Fit (now (text .entry)) (r .table) × Placed (now (text .entry)) (now (pstarts .exit)) (now (pends .exit)) (r .table) ⌝ }
+    requires { ⌜ (at ≤ end) × (end ≤ length (now text)) × (k < 5) × Fit table × Named (now text) (now starts) (now ends) × (length (now left) ≡ 64) ⌝ }
+    ensures { λ r. ⌜ ((rules : List Rule) → lineSaid (now (text .entry)) (now (starts .exit)) (now (ends .exit)) (now (left .exit)) rules r ≡ behind k (draftOf (now (text .entry)) (now (starts .entry)) (now (ends .entry)) (now (left .entry)) table rules) (wordsOf (part (now (text .entry)) at (end - at)))) × Fit (r .table) × Named (now (text .entry)) (now (starts .exit)) (now (ends .exit)) ⌝ }
 {
     if k == 3 {
-        return location_line(text, end, at, pstarts, pends, table);
+        return location_line(text, end, at, starts, ends, left, table);
     }
     let few = few_words(text, end, at);
     if k == 0 {
-        return input_line(text, few, table);
+        return input_line(text, few, starts, ends, table);
     }
     if k == 1 {
-        return output_line(text, few, table);
+        return output_line(text, few, starts, ends, table);
     }
     if k == 2 {
-        return clock_line(text, few, table);
+        return clock_line(text, few, starts, ends, table);
     }
-    at_line(text, few, pstarts, pends, table)
+    at_line(text, few, starts, ends, table)
 }
 
 // The line from `at` to `end`, after `count` rules.
@@ -64,13 +65,14 @@ pub(crate) fn read_line(
     text: &[u8],
     end: usize,
     at: usize,
-    pstarts: &mut [usize],
-    pends: &mut [usize],
+    starts: &mut [usize],
+    ends: &mut [usize],
+    left: &mut [u8],
     table: Table,
     count: usize,
 ) -> Taken
-    requires { ⌜ (at ≤ end) × (end ≤ length (now text)) × Fit (now text) table × Placed (now text) (now pstarts) (now pends) table ⌝ }
-    ensures { λ r. ⌜ Took (now (text .entry)) (placeNames (now (text .entry)) (now (pstarts .entry)) (now (pends .entry)) table) end at table count r (placeNames (now (text .entry)) (now (pstarts .exit)) (now (pends .exit)) (r .table)) × Placed (now (text .entry)) (now (pstarts .exit)) (now (pends .exit)) (r .table) ⌝ }
+    requires { ⌜ (at ≤ end) × (end ≤ length (now text)) × Fit table × Named (now text) (now starts) (now ends) × (length (now left) ≡ 64) ⌝ }
+    ensures { λ r. ⌜ Took (now (text .entry)) (draftOf (now (text .entry)) (now (starts .entry)) (now (ends .entry)) (now (left .entry)) table) end at count r (draftOf (now (text .entry)) (now (starts .exit)) (now (ends .exit)) (now (left .exit)) (r .table)) × Named (now (text .entry)) (now (starts .exit)) (now (ends .exit)) ⌝ }
 {
     let first = word_in(text, end, at);
     let a = first.start;
@@ -86,7 +88,7 @@ pub(crate) fn read_line(
     }
     let k = keyword(&text[a..b]);
     if k < 5 {
-        let lined = words_behind(text, end, b, pstarts, pends, table, k);
+        let lined = words_behind(text, end, b, starts, ends, left, table, k);
         let declared = lined.table;
         return Taken {
             refusal: lined.refusal,
@@ -95,7 +97,7 @@ pub(crate) fn read_line(
             table: declared,
         };
     }
-    let step = rule_line(text, end, at, pstarts, pends, table, count);
+    let step = rule_line(text, end, at, starts, ends, table, count);
     let parsed = step.parsed;
     let mut t = table;
     t.stage = 5;

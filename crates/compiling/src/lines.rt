@@ -1,36 +1,32 @@
 // The lines of a text, one after another.
 use crate::line::read_line;
+use crate::store::keep_rule;
 use declarations::table::Table;
 use words::words::line_end;
 ghost use mathlib.Core.Path.{_≡_};
 ghost use mathlib.Core.List.{List, []};
 ghost use Prim.Native.Nat.{ℕ, _+_, _≤_, _<_};
 ghost use lib.ListN.{length};
-ghost use Rattle.wording.specs.Words.{linesOf};
-ghost use Rattle.wording.specs.Reader.{empty, readLines};
-ghost use Rattle.declarations.specs.Table.{placeNames, draftOf, Fit, Placed};
-ghost use Rattle.compiling.specs.Lines.{Held};
+ghost use Rattle.wording.specs.Reader.{empty};
+ghost use Rattle.declarations.specs.Table.{draftOf, Fit, Named};
+ghost use Rattle.compiling.specs.Stored.{Held};
 
-// A refusal and its line; or 0, and what all lines have said, with how many rules.
-pub struct Said {
-    pub refusal: u8,
-    pub line: usize,
-    pub count: usize,
-    pub table: Table,
+// A refusal and its line; or 0, and what all lines have said, with how many rules, which take the first `used` bytes that are kept.
+pub(crate) struct Said {
+    pub(crate) refusal: u8,
+    pub(crate) line: usize,
+    pub(crate) count: usize,
+    pub(crate) used: usize,
+    pub(crate) table: Table,
 }
 
 // Before the first line.
-pub(crate) fn unread() -> Table
-    ensures { λ r. ⌜ ((text starts ends : List ℕ) → draftOf text (placeNames text starts ends r) r [] ≡ empty) × ((text : List ℕ) → Fit text r) × ((text starts ends : List ℕ) → length starts ≡ 64 → length ends ≡ 64 → Placed text starts ends r) ⌝ }
+fn unread() -> Table
+    ensures { λ r. ⌜ ((text starts ends left : List ℕ) → draftOf text starts ends left r [] ≡ empty) × Fit r ⌝ }
 {
     Table {
         tags: [0; 8],
-        starts: [0; 8],
-        ends: [0; 8],
-        cstarts: [0; 4],
-        cends: [0; 4],
         ceilings: [0; 4],
-        left: [0; 64],
         inputs: 0,
         signals: 0,
         clocks: 0,
@@ -48,26 +44,35 @@ pub fn next_line(end: usize, length: usize) -> usize
     if end < length { end + 1 } else { length }
 }
 
-// The slices are for the places of the locations' names.
-pub fn read_lines(text: &[u8], pstarts: &mut [usize], pends: &mut [usize]) -> Said
-    requires { ⌜ (length (now pstarts) ≡ 64) × (length (now pends) ≡ 64) ⌝ }
-    ensures { λ r. ⌜ Held (now (text .entry)) r (readLines 1 empty (linesOf (now (text .entry)))) × Fit (now (text .entry)) (r .table) × (r .count ≤ 256) ⌝ }
+// The rules are put aside in `kept`, since only the last line shows whether any is refused.
+pub(crate) fn read_lines(
+    text: &[u8],
+    kept: &mut [u8],
+    starts: &mut [usize],
+    ends: &mut [usize],
+    left: &mut [u8],
+) -> Said
+    requires { ⌜ (length (now kept) ≡ 5888) × Named (now text) (now starts) (now ends) × (length (now left) ≡ 64) ⌝ }
+    ensures { λ r. ⌜ Held (now (text .entry)) (now (kept .entry)) r (draftOf (now (text .entry)) (now (starts .exit)) (now (ends .exit)) (now (left .exit)) (r .table)) (now (kept .exit)) × Fit (r .table) × (r .count ≤ 256) ⌝ }
 {
     let mut table = unread();
     let mut count = 0;
+    let mut used = 0;
     let mut passed = 0;
     let mut at = 0;
     while at < text.len() {
         let end = line_end(text, at);
-        let taken = read_line(text, end, at, pstarts, pends, table, count);
+        let taken = read_line(text, end, at, starts, ends, left, table, count);
         if taken.refusal != 0 {
             return Said {
                 refusal: taken.refusal,
                 line: passed + 1,
                 count,
+                used,
                 table,
             };
         }
+        used = keep_rule(kept, used, taken);
         table = taken.table;
         count += taken.rule;
         passed += 1;
@@ -77,6 +82,7 @@ pub fn read_lines(text: &[u8], pstarts: &mut [usize], pends: &mut [usize]) -> Sa
         refusal: 0,
         line: 0,
         count,
+        used,
         table,
     }
 }

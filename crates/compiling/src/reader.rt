@@ -1,15 +1,15 @@
 // The reader: the lines of the text, the file's own check, the room, and then the file.
 use crate::counts::put_counts;
 use crate::lines::read_lines;
-use crate::store::store_lines;
 use policy::states_of;
+use texts::put_bytes;
 ghost use mathlib.Core.Path.{_≡_};
 ghost use Prim.Native.Nat.{ℕ, _+_, _*_, _≤_, _<_};
 ghost use lib.Dec.{leb};
 ghost use lib.ListN.{length, getD};
 ghost use Rattle.streams.specs.Answer.{unless, _orElse_};
 ghost use Rattle.policy.specs.Number.{statesOf};
-ghost use Rattle.compiling.specs.Promise.{ReadTextPromise};
+ghost use Rattle.compiling.specs.Promise.{ReadTextPromise, JudgePromise};
 
 // A refusal and the line that it stands in, 0 for the file's own; or 0 and the length written.
 pub struct ReadText {
@@ -19,7 +19,7 @@ pub struct ReadText {
 }
 
 // What the file's own check refuses of a text that is read: 2, no location; 9, too many states.
-pub fn own_refusal(ceilings: [u16; 4], clocks: usize, places: usize) -> u8
+fn own_refusal(ceilings: [u16; 4], clocks: usize, places: usize) -> u8
     requires { ⌜ (clocks ≤ 4) × (places ≤ 64) × ((i : ℕ) → i < clocks → getD ceilings i 0 ≤ 1001) ⌝ }
     ensures { λ r. ⌜ r ≡ (unless (leb 1 places) 2 orElse unless (leb (statesOf ceilings clocks places) 65536) 9) ⌝ }
 {
@@ -40,43 +40,70 @@ fn file_length(signals: usize, clocks: usize, places: usize, count: usize) -> us
     6 + signals + 2 * clocks + places + count * (7 + 4 * clocks)
 }
 
+// As ReadText; and whether the text is a policy's, with room for its file or without.
+pub struct Judged {
+    pub refusal: u8,
+    pub line: usize,
+    pub length: usize,
+    pub good: bool,
+}
+
 // Writes the file of the text.
-pub fn read(text: &[u8], out: &mut [u8]) -> ReadText
-    ensures { λ r. ⌜ ReadTextPromise (now (text .entry)) (now (out .entry)) r (now (out .exit)) ⌝ }
+pub fn judge(text: &[u8], out: &mut [u8]) -> Judged
+    ensures { λ r. ⌜ JudgePromise (now (text .entry)) (now (out .entry)) r (now (out .exit)) ⌝ }
 {
-    let mut pstarts = [0usize; 64];
-    let mut pends = [0usize; 64];
-    let said = read_lines(text, &mut pstarts, &mut pends);
+    let mut kept = [0u8; 5888];
+    let mut starts = [0usize; 76];
+    let mut ends = [0usize; 76];
+    let mut left = [0u8; 64];
+    let said = read_lines(text, &mut kept, &mut starts, &mut ends, &mut left);
     if said.refusal != 0 {
-        return ReadText {
+        return Judged {
             refusal: said.refusal,
             line: said.line,
             length: 0,
+            good: false,
         };
     }
     let table = said.table;
     let ceilings = table.ceilings;
     let own = own_refusal(ceilings, table.clocks, table.places);
     if own != 0 {
-        return ReadText {
+        return Judged {
             refusal: own,
             line: 0,
             length: 0,
+            good: false,
         };
     }
     let count = said.count;
     let length = file_length(table.signals, table.clocks, table.places, count);
     if out.len() < length {
-        return ReadText {
+        return Judged {
             refusal: 14,
             line: 0,
             length: 0,
+            good: true,
         };
     }
-    let from = put_counts(text, out, table, count);
-    ReadText {
+    let from = put_counts(out, &left, table, count);
+    let used = said.used;
+    Judged {
         refusal: 0,
         line: 0,
-        length: store_lines(text, out, from, &mut pstarts, &mut pends),
+        length: put_bytes(out, from, &kept[..used]),
+        good: true,
+    }
+}
+
+// Writes the file of the text.
+pub fn read(text: &[u8], out: &mut [u8]) -> ReadText
+    ensures { λ r. ⌜ ReadTextPromise (now (text .entry)) (now (out .entry)) r (now (out .exit)) ⌝ }
+{
+    let judged = judge(text, out);
+    ReadText {
+        refusal: judged.refusal,
+        line: judged.line,
+        length: judged.length,
     }
 }

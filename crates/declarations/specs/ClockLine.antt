@@ -16,8 +16,8 @@ use Rattle.wording.specs.Names.{find, isName, must, _andThen_}
 use Rattle.words.specs.Counted.{numberOf, numbered-then}
 use Rattle.wording.specs.Reader.{Draft, clockLine}
 use Rattle.words.specs.Firsts.{Shaped}
-use Rattle.declarations.specs.Fresh.{nameRefusal, refuse, clock-new, spans-more, within-more, take-more}
-use Rattle.declarations.specs.Table.{draftOf, Fit}
+use Rattle.declarations.specs.Fresh.{nameRefusal, refuse, refusing, clock-new, spans-other, spans-more, take-more}
+use Rattle.declarations.specs.Table.{draftOf, Fit, Named}
 use Rattle.declarations.specs.declared.table.Table.{Table}
 
 abbrev pub withClock : Draft → Word → ℕ → Draft
@@ -82,10 +82,6 @@ module _ (d : Draft) (v w : Word) (l : Line) (two : l ≡ v ∷ w ∷ []) where
   pub clock-late : 3 < d .stage → refused 30 ≡ clockLine d l
   clock-late h = sym (steps ∙ rw (lt-leb (d .stage) 3 h))
 
-  refusing : {A : Type 0} (n : ℕ) (x : A) (a : Answer A) → (n ≡ 0 → ⊥) → answer n x ≡ refuse n a
-  refusing zero x a z = absurd (z refl)
-  refusing (suc n) x a z = refl
-
   module _ (h : d .stage ≤ 3) where
     timely : clockLine d l ≡ refuse name (numberOf w andThen last)
     timely = steps ∙ rw (le-leb (d .stage) 3 h)
@@ -115,16 +111,11 @@ module _ (d : Draft) (v w : Word) (l : Line) (two : l ≡ v ∷ w ∷ []) where
         clock-given e = ap (λ (n : ℕ). refuse n (gives (withClock d v c))) e ∙ sym lasts
 
 -- A clock more in the table.
-abbrev pub moreClock : Table → ℕ → ℕ → ℕ → Table
-moreClock t a b c =
+abbrev pub moreClock : Table → ℕ → Table
+moreClock t c =
     record {
       tags = t .tags;
-      starts = t .starts;
-      ends = t .ends;
-      cstarts = set (t .cstarts) (t .clocks) a;
-      cends = set (t .cends) (t .clocks) b;
       ceilings = set (t .ceilings) (t .clocks) c;
-      left = t .left;
       inputs = t .inputs;
       signals = t .signals;
       clocks = t .clocks + 1;
@@ -133,33 +124,31 @@ moreClock t a b c =
       source = t .source;
     }
 
-module _ {text : List ℕ} {t : Table} (f : Fit text t) (a b c : ℕ) (h : t .clocks < 4) where
-  pub clock-more : (places : Line) (rules : List Rule) → draftOf text places (moreClock t a b c) rules ≡ withClock (draftOf text places t rules) (part text a (b - a)) c
-  clock-more places rules =
-      let d = draftOf text places t rules in
-      let names = spans-more text (t .cstarts) (t .cends) (t .clocks) a b (omega (arith, f .cstarts-long)) (omega (arith, f .cends-long)) in
+module _ {text starts ends : List ℕ} {t : Table} (f : Fit t) (p : Named text starts ends) (a b c : ℕ) (h : t .clocks < 4) where
+  pub clock-more : (left : List ℕ) (rules : List Rule) →
+      draftOf text (set starts (8 + t .clocks) a) (set ends (8 + t .clocks) b) left (moreClock t c) rules ≡ withClock (draftOf text starts ends left t rules) (part text a (b - a)) c
+  clock-more left rules =
+      let d = draftOf text starts ends left t rules in
+      let few = f .inputs in
+      let more = f .outputs in
+      let names = spans-other text starts ends (8 + t .clocks) a b 0 (t .signals) (λ i x y z. omega arith) in
+      let clocks = spans-more text starts ends 8 (t .clocks) (8 + t .clocks) a b refl (omega (arith, p .starts-long)) (omega (arith, p .ends-long)) in
+      let places = spans-other text starts ends (8 + t .clocks) a b 12 (t .places) (λ i x y z. omega arith) in
       let tops = take-more (t .ceilings) (t .clocks) c (omega (arith, f .ceilings-long)) in
-      (λ i. record { inputs = d .inputs; outputs = d .outputs; names = d .names; clocks = names i; ceilings = tops i; places = d .places; left = d .left; rules = rules; stage = 3; source = d .source })
+      (λ i. record { inputs = d .inputs; outputs = d .outputs; names = names i; clocks = clocks i; ceilings = tops i; places = places i; left = d .left; rules = rules; stage = 3; source = d .source })
 
-  pub fit-clock : a ≤ b → b ≤ length text → Fit text (moreClock t a b c)
-  fit-clock o m =
-      record {
-        inputs = f .inputs;
-        outputs = f .outputs;
-        order = f .order;
-        clocks = omega arith;
-        places = f .places;
-        first = λ k. absurd (omega arith);
-        tags-long = f .tags-long;
-        starts-long = f .starts-long;
-        ends-long = f .ends-long;
-        cstarts-long = length-set (t .cstarts) (t .clocks) a ∙ f .cstarts-long;
-        cends-long = length-set (t .cends) (t .clocks) b ∙ f .cends-long;
-        ceilings-long = length-set (t .ceilings) (t .clocks) c ∙ f .ceilings-long;
-        left-long = f .left-long;
-        names = f .names;
-        clock-names = within-more text (t .cstarts) (t .cends) (t .clocks) a b (omega (arith, f .cstarts-long)) (omega (arith, f .cends-long)) (f .clock-names) o m;
-      }
+pub fit-clock : {t : Table} → Fit t → (c : ℕ) → t .clocks < 4 → Fit (moreClock t c)
+fit-clock {t} f c h =
+    record {
+      inputs = f .inputs;
+      outputs = f .outputs;
+      order = f .order;
+      clocks = omega arith;
+      places = f .places;
+      first = λ k. absurd (omega arith);
+      tags-long = f .tags-long;
+      ceilings-long = length-set (t .ceilings) (t .clocks) c ∙ f .ceilings-long;
+    }
 
 pub room-of : (c n : ℕ) → clockRefusal c n ≡ 0 → n < 4
 room-of c n h = go (ceilingGood c) (ltb n 4) refl h

@@ -1,11 +1,11 @@
 -- A location's line, by what was found of it.
 use mathlib.Core.Path.{_≡_, refl, ap, sym, _∙_}
-use mathlib.Core.Bool.{Bool, true, false, _&&_}
+use mathlib.Core.Bool.{Bool, true, false, cond, _&&_}
 use mathlib.Core.List.{List, [], _∷_, _++_}
 use Prim.Native.Nat.{ℕ, _+_, _-_, _≤_, _<_}
 use native.Mathlib.Omega.{arith}
 use lib.Dec.{eqb}
-use lib.ListN.{length, set, length-set}
+use lib.ListN.{length, set}
 use borrow.Author.Tests.{lt-ltb, le-ltb, le-leb, lt-leb, eq-eqb, ne-eqb}
 use Rattle.streams.specs.Answer.{refused, gives}
 use Rattle.policy.specs.Rules.{Rule}
@@ -16,8 +16,8 @@ use Rattle.words.specs.Spans.{placeBelow}
 use Rattle.wording.specs.Reader.{Draft, newPlace, locationLine}
 use Rattle.words.specs.Keywords.{keywords, keyword-is}
 use Rattle.words.specs.Firsts.{NextIn, in-none, in-word}
-use Rattle.declarations.specs.Fresh.{spans-more, within-more, take-more}
-use Rattle.declarations.specs.Table.{placeNames, draftOf, Fit, Placed}
+use Rattle.declarations.specs.Fresh.{spans-other, spans-more, take-more}
+use Rattle.declarations.specs.Table.{draftOf, Fit, Named}
 use Rattle.declarations.specs.declared.table.Table.{Table}
 
 abbrev pub withPlace : Draft → Word → ℕ → Draft
@@ -43,7 +43,12 @@ mustBeLeft (a ∷ b ∷ []) = false
 mustBeLeft (a ∷ b ∷ c ∷ []) = is "must" a && (is "be" b && is "left" c)
 mustBeLeft (a ∷ b ∷ c ∷ v ∷ ws) = false
 
-pub location-left : (d : Draft) (w a : Word) (as′ : Line) → locationLine d (w ∷ a ∷ as′) ≡ must (mustBeLeft (a ∷ as′)) 30 (newPlace d w 1)
+-- The byte of a location by the words behind its name; 2 for words that do not belong there.
+abbrev pub leftByte : Line → ℕ
+leftByte [] = 0
+leftByte (w ∷ ws) = cond (mustBeLeft (w ∷ ws)) 1 2
+
+location-left : (d : Draft) (w a : Word) (as′ : Line) → locationLine d (w ∷ a ∷ as′) ≡ must (mustBeLeft (a ∷ as′)) 30 (newPlace d w 1)
 unfolding locationLine
 location-left d w a [] = refl
 location-left d w a (b ∷ []) = refl
@@ -74,16 +79,11 @@ module _ (d : Draft) (w : Word) (byte : ℕ) where
       place-given l m = rw (le-leb (d .stage) 4 h, named, e, le-ltb k n l, lt-ltb (length (d .places)) 64 m)
 
 -- A location more in the table.
-abbrev pub morePlace : Table → ℕ → Table
-morePlace t c =
+abbrev pub morePlace : Table → Table
+morePlace t =
     record {
       tags = t .tags;
-      starts = t .starts;
-      ends = t .ends;
-      cstarts = t .cstarts;
-      cends = t .cends;
       ceilings = t .ceilings;
-      left = set (t .left) (t .places) c;
       inputs = t .inputs;
       signals = t .signals;
       clocks = t .clocks;
@@ -92,17 +92,22 @@ morePlace t c =
       source = t .source;
     }
 
-module _ {text starts ends : List ℕ} {t : Table} (f : Fit text t) (p : Placed text starts ends t) (a b c : ℕ) (h : t .places < 64) where
-  pub place-more : (rules : List Rule) →
-      draftOf text (placeNames text (set starts (t .places) a) (set ends (t .places) b) (morePlace t c)) (morePlace t c) rules ≡ withPlace (draftOf text (placeNames text starts ends t) t rules) (part text a (b - a)) c
-  place-more rules =
-      let d = draftOf text (placeNames text starts ends t) t rules in
-      let names = spans-more text starts ends (t .places) a b (omega (arith, p .starts-long)) (omega (arith, p .ends-long)) in
-      let bytes = take-more (t .left) (t .places) c (omega (arith, f .left-long)) in
-      (λ i. record { inputs = d .inputs; outputs = d .outputs; names = d .names; clocks = d .clocks; ceilings = d .ceilings; places = names i; left = bytes i; rules = rules; stage = 4; source = d .source })
+module _ {text starts ends : List ℕ} {t : Table} (f : Fit t) (p : Named text starts ends) (a b c : ℕ) (h : t .places < 64) where
+  pub place-more : (left : List ℕ) → length left ≡ 64 → (rules : List Rule) →
+      draftOf text (set starts (12 + t .places) a) (set ends (12 + t .places) b) (set left (t .places) c) (morePlace t) rules ≡ withPlace (draftOf text starts ends left t rules) (part text a (b - a)) c
+  place-more left long rules =
+      let d = draftOf text starts ends left t rules in
+      let few = f .inputs in
+      let more = f .outputs in
+      let four = f .clocks in
+      let names = spans-other text starts ends (12 + t .places) a b 0 (t .signals) (λ i x y z. omega arith) in
+      let clocks = spans-other text starts ends (12 + t .places) a b 8 (t .clocks) (λ i x y z. omega arith) in
+      let places = spans-more text starts ends 12 (t .places) (12 + t .places) a b refl (omega (arith, p .starts-long)) (omega (arith, p .ends-long)) in
+      let bytes = take-more left (t .places) c (omega arith) in
+      (λ i. record { inputs = d .inputs; outputs = d .outputs; names = names i; clocks = clocks i; ceilings = d .ceilings; places = places i; left = bytes i; rules = rules; stage = 4; source = d .source })
 
-pub fit-place : {text : List ℕ} {t : Table} → Fit text t → (c : ℕ) → t .places < 64 → Fit text (morePlace t c)
-fit-place {t = t} f c h =
+pub fit-place : {t : Table} → Fit t → t .places < 64 → Fit (morePlace t)
+fit-place f h =
     record {
       inputs = f .inputs;
       outputs = f .outputs;
@@ -111,22 +116,7 @@ fit-place {t = t} f c h =
       places = omega arith;
       first = λ k. absurd (omega arith);
       tags-long = f .tags-long;
-      starts-long = f .starts-long;
-      ends-long = f .ends-long;
-      cstarts-long = f .cstarts-long;
-      cends-long = f .cends-long;
       ceilings-long = f .ceilings-long;
-      left-long = length-set (t .left) (t .places) c ∙ f .left-long;
-      names = f .names;
-      clock-names = f .clock-names;
-    }
-
-pub placed-more : {text starts ends : List ℕ} {t : Table} → Placed text starts ends t → (a b c : ℕ) → t .places < 64 → a ≤ b → b ≤ length text → Placed text (set starts (t .places) a) (set ends (t .places) b) (morePlace t c)
-placed-more {text} {starts} {ends} {t} p a b c h o m =
-    record {
-      starts-long = length-set starts (t .places) a ∙ p .starts-long;
-      ends-long = length-set ends (t .places) b ∙ p .ends-long;
-      names = within-more text starts ends (t .places) a b (omega (arith, p .starts-long)) (omega (arith, p .ends-long)) (p .names) o m;
     }
 
 -- The three words, found one by one.
@@ -170,25 +160,38 @@ module _ {text : List ℕ} {end at a b : ℕ} (n : NextIn text end at a b) where
               pub left-left : (u : ℕ) → find 0 (part text e (f - e)) keywords ≡ placeBelow 14 u → s ≡ 10 → eqb u 11 ≡ mustBeLeft (wordsOf (part text at (end - at)))
               left-left u uu z = sym (just ∙ rw (must-is, eq-eqb r 9 y, be-is, eq-eqb s 10 z, keyword-is (part text e (f - e)) u uu 11 (omega arith)))
 
+-- The byte.
+pub byte-is : (l : Line) {w : Word} {ws : Line} → l ≡ w ∷ ws → {t : Bool} → mustBeLeft l ≡ t → cond t 1 2 ≡ leftByte l
+byte-is [] e m = absurd (let z : _≡_ {A = ℕ} 0 1 = cc in omega arith)
+byte-is (v ∷ vs) e m = ap (λ (b : Bool). cond b 1 2) (sym m)
+
 -- The line.
+module _ (d : Draft) (w : Word) where
+  by-byte : (t : Bool) (k : ℕ) → k ≡ cond t 1 2 → k ≤ 1 → newPlace d w k ≡ must t 30 (newPlace d w 1)
+  by-byte true k e h = ap (newPlace d w) e
+  by-byte false k e h = absurd (omega arith)
+
+  no-byte : (t : Bool) (k : ℕ) → k ≡ cond t 1 2 → 1 < k → refused 30 ≡ must t 30 (newPlace d w 1)
+  no-byte true k e h = absurd (omega arith)
+  no-byte false k e h = refl
+
+  with-byte : (l : Line) (k : ℕ) → k ≡ leftByte l → k ≤ 1 → newPlace d w k ≡ locationLine d (w ∷ l)
+  unfolding locationLine
+  with-byte [] k e h = ap (newPlace d w) e
+  with-byte (v ∷ vs) k e h = by-byte (mustBeLeft (v ∷ vs)) k e h ∙ sym (location-left d w v vs)
+
+  without-byte : (l : Line) (k : ℕ) → k ≡ leftByte l → 1 < k → refused 30 ≡ locationLine d (w ∷ l)
+  without-byte [] k e h = absurd (omega arith)
+  without-byte (v ∷ vs) k e h = no-byte (mustBeLeft (v ∷ vs)) k e h ∙ sym (location-left d w v vs)
+
 module _ (dr : Draft) {text : List ℕ} {end at a b : ℕ} (n : NextIn text end at a b) where
   pub location-none : b ≤ a → refused 30 ≡ locationLine dr (wordsOf (part text at (end - at)))
   unfolding locationLine
   location-none h = rw (in-none n h)
 
-  module _ {c d : ℕ} (h : a < b) (m : NextIn text end b c d) where
-    pub location-one : d ≤ c → newPlace dr (part text a (b - a)) 0 ≡ locationLine dr (wordsOf (part text at (end - at)))
-    unfolding locationLine
-    location-one k = rw (in-word n h, in-none m k)
+  module _ (h : a < b) {k : ℕ} (e : k ≡ leftByte (wordsOf (part text b (end - b)))) where
+    pub location-no : 1 < k → refused 30 ≡ locationLine dr (wordsOf (part text at (end - at)))
+    location-no l = without-byte dr (part text a (b - a)) (wordsOf (part text b (end - b))) k e l ∙ sym (ap (locationLine dr) (in-word n h))
 
-    more-words : c < d → locationLine dr (wordsOf (part text at (end - at))) ≡ must (mustBeLeft (wordsOf (part text b (end - b)))) 30 (newPlace dr (part text a (b - a)) 1)
-    more-words k =
-        ap (locationLine dr) (in-word n h ∙ ap (λ (z : Line). part text a (b - a) ∷ z) (in-word m k))
-        ∙ location-left dr (part text a (b - a)) (part text c (d - c)) (wordsOf (part text d (end - d)))
-        ∙ ap (λ (z : Line). must (mustBeLeft z) 30 (newPlace dr (part text a (b - a)) 1)) (sym (in-word m k))
-
-    pub location-yes : c < d → mustBeLeft (wordsOf (part text b (end - b))) ≡ true → newPlace dr (part text a (b - a)) 1 ≡ locationLine dr (wordsOf (part text at (end - at)))
-    location-yes k e = sym (more-words k ∙ rw e)
-
-    pub location-no : c < d → mustBeLeft (wordsOf (part text b (end - b))) ≡ false → refused 30 ≡ locationLine dr (wordsOf (part text at (end - at)))
-    location-no k e = sym (more-words k ∙ rw e)
+    pub location-given : k ≤ 1 → newPlace dr (part text a (b - a)) k ≡ locationLine dr (wordsOf (part text at (end - at)))
+    location-given l = with-byte dr (part text a (b - a)) (wordsOf (part text b (end - b))) k e l ∙ sym (ap (locationLine dr) (in-word n h))

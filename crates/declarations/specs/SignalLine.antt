@@ -16,8 +16,8 @@ use Rattle.wording.specs.Names.{find, isName, must, _andThen_}
 use Rattle.words.specs.Spans.{spans}
 use Rattle.wording.specs.Reader.{Draft, tags, letter, withInput, withOutput, signalLine, inputLine, outputLine}
 use Rattle.words.specs.Firsts.{Shaped}
-use Rattle.declarations.specs.Fresh.{nameRefusal, refuse, signal-new, spans-more, within-more, take-more}
-use Rattle.declarations.specs.Table.{draftOf, Fit}
+use Rattle.declarations.specs.Fresh.{nameRefusal, nameFound, refuse, signal-new, spans-other, spans-more, take-more}
+use Rattle.declarations.specs.Table.{draftOf, Fit, Named}
 use Rattle.declarations.specs.declared.table.Table.{Table}
 
 -- A refusal of the second word, if there is one.
@@ -35,9 +35,6 @@ pub wanted-some : (n r : ℕ) → 2 ≤ n → r ≡ wanted n r
 wanted-some zero r h = absurd (omega arith)
 wanted-some (suc zero) r h = absurd (omega arith)
 wanted-some (suc (suc n)) r h = refl
-
-abbrev pub nameFound : List ℕ → Table → Word → ℕ
-nameFound text t w = nameRefusal (isName w) (find 0 w (spans text (t .starts) (t .ends) 0 (t .signals))) (find 0 w (spans text (t .cstarts) (t .cends) 0 (t .clocks)))
 
 -- The letter, then the refusal r of the name, then room.
 abbrev pub signalTag : (before : List ℕ) (count r : ℕ) → Word → Answer ℕ
@@ -69,16 +66,11 @@ module _ (before : List ℕ) (count : ℕ) (w : Word) (q c : ℕ) (e : answer q 
     tag-given {s = s} f h = rw z (sym (there s ∙ rw (← f, lt-ltb count 4 h)))
 
 -- A signal more in the table.
-abbrev pub moreSignal : Table → (a b c inputs stage : ℕ) → Table
-moreSignal t a b c inputs stage =
+abbrev pub moreSignal : Table → (c inputs stage : ℕ) → Table
+moreSignal t c inputs stage =
     record {
       tags = set (t .tags) (t .signals) c;
-      starts = set (t .starts) (t .signals) a;
-      ends = set (t .ends) (t .signals) b;
-      cstarts = t .cstarts;
-      cends = t .cends;
       ceilings = t .ceilings;
-      left = t .left;
       inputs = inputs;
       signals = t .signals + 1;
       clocks = t .clocks;
@@ -87,58 +79,59 @@ moreSignal t a b c inputs stage =
       source = t .source;
     }
 
-module _ {text : List ℕ} {t : Table} (f : Fit text t) (a b c : ℕ) (h : t .signals < 8) where
-  names-more : spans text (set (t .starts) (t .signals) a) (set (t .ends) (t .signals) b) 0 (t .signals + 1) ≡ spans text (t .starts) (t .ends) 0 (t .signals) ++ (part text a (b - a) ∷ [])
-  names-more = spans-more text (t .starts) (t .ends) (t .signals) a b (omega (arith, f .starts-long)) (omega (arith, f .ends-long))
+fit-signal : {t : Table} (f : Fit t) (c inputs stage : ℕ) → inputs ≤ 4 → t .signals + 1 ≤ inputs + 4 → inputs ≤ t .signals + 1 → (stage ≤ 1 → t .signals + 1 ≡ inputs) → Fit (moreSignal t c inputs stage)
+fit-signal {t} f c inputs stage i o r k =
+    record {
+      inputs = i;
+      outputs = o;
+      order = r;
+      clocks = f .clocks;
+      places = f .places;
+      first = k;
+      tags-long = length-set (t .tags) (t .signals) c ∙ f .tags-long;
+      ceilings-long = f .ceilings-long;
+    }
 
-  fit-signal : (inputs stage : ℕ) → inputs ≤ 4 → t .signals + 1 ≤ inputs + 4 → inputs ≤ t .signals + 1 → (stage ≤ 1 → t .signals + 1 ≡ inputs) → a ≤ b → b ≤ length text → Fit text (moreSignal t a b c inputs stage)
-  fit-signal inputs stage i o r k l m =
-      record {
-        inputs = i;
-        outputs = o;
-        order = r;
-        clocks = f .clocks;
-        places = f .places;
-        first = k;
-        tags-long = length-set (t .tags) (t .signals) c ∙ f .tags-long;
-        starts-long = length-set (t .starts) (t .signals) a ∙ f .starts-long;
-        ends-long = length-set (t .ends) (t .signals) b ∙ f .ends-long;
-        cstarts-long = f .cstarts-long;
-        cends-long = f .cends-long;
-        ceilings-long = f .ceilings-long;
-        left-long = f .left-long;
-        names = within-more text (t .starts) (t .ends) (t .signals) a b (omega (arith, f .starts-long)) (omega (arith, f .ends-long)) (f .names) l m;
-        clock-names = f .clock-names;
-      }
+module _ {text starts ends : List ℕ} {t : Table} (f : Fit t) (p : Named text starts ends) (a b c : ℕ) where
+  -- The other names stay.
+  module _ (left : List ℕ) (rules : List Rule) (h : t .signals < 8) where
+    abbrev signalled : Line → (inputs outputs : List ℕ) → ℕ → Draft
+    signalled names inputs outputs stage =
+        let d = draftOf text starts ends left t rules in
+        record { inputs = inputs; outputs = outputs; names = names; clocks = d .clocks; ceilings = d .ceilings; places = d .places; left = d .left; rules = rules; stage = stage; source = d .source }
 
-module _ {text : List ℕ} {t : Table} (f : Fit text t) (a b c : ℕ) where
+    signal-more : (inputs : ℕ) {stage : ℕ} {ins outs : List ℕ} → take inputs (set (t .tags) (t .signals) c) ≡ ins → take (t .signals + 1 - inputs) (drop inputs (set (t .tags) (t .signals) c)) ≡ outs →
+        draftOf text (set starts (t .signals) a) (set ends (t .signals) b) left (moreSignal t c inputs stage) rules ≡ signalled (spans text starts ends 0 (t .signals) ++ (part text a (b - a) ∷ [])) ins outs stage
+    signal-more inputs {stage} ins outs =
+        let d = draftOf text starts ends left t rules in
+        let names = spans-more text starts ends 0 (t .signals) (t .signals) a b (omega arith) (omega (arith, p .starts-long)) (omega (arith, p .ends-long)) in
+        let clocks = spans-other text starts ends (t .signals) a b 8 (t .clocks) (λ i x y z. omega arith) in
+        let places = spans-other text starts ends (t .signals) a b 12 (t .places) (λ i x y z. omega arith) in
+        (λ i. record { inputs = ins i; outputs = outs i; names = names i; clocks = clocks i; ceilings = d .ceilings; places = places i; left = d .left; rules = rules; stage = stage; source = d .source })
+
   -- An input, before all outputs.
   module _ (h : t .inputs < 4) (s : t .stage ≤ 1) where
-    pub input-more : (places : Line) (rules : List Rule) → draftOf text places (moreSignal t a b c (t .signals + 1) 1) rules ≡ withInput (draftOf text places t rules) c (part text a (b - a))
-    input-more places rules =
-        let d = draftOf text places t rules in
+    pub input-more : (left : List ℕ) (rules : List Rule) →
+        draftOf text (set starts (t .signals) a) (set ends (t .signals) b) left (moreSignal t c (t .signals + 1) 1) rules ≡ withInput (draftOf text starts ends left t rules) c (part text a (b - a))
+    input-more left rules =
         let same = f .first s in
-        let names = names-more f a b c (omega (arith, same)) in
         let ins : take (t .signals + 1) (set (t .tags) (t .signals) c) ≡ take (t .inputs) (t .tags) ++ (c ∷ []) =
         take-more (t .tags) (t .signals) c (omega (arith, same, f .tags-long)) ∙ ap (λ (n : ℕ). take n (t .tags) ++ (c ∷ [])) same in
         let x : t .signals + 1 - (t .signals + 1) ≡ 0 = omega arith in
         let y : t .signals - t .inputs ≡ 0 = omega (arith, same) in
         let outs : take (t .signals + 1 - (t .signals + 1)) (drop (t .signals + 1) (set (t .tags) (t .signals) c)) ≡ take (t .signals - t .inputs) (drop (t .inputs) (t .tags)) = rw (x, y) in
-        (λ i. record { inputs = ins i; outputs = outs i; names = names i; clocks = d .clocks; ceilings = d .ceilings; places = d .places; left = d .left; rules = rules; stage = 1; source = d .source })
+        signal-more left rules (omega (arith, same)) (t .signals + 1) ins outs
 
-    pub fit-input : a ≤ b → b ≤ length text → Fit text (moreSignal t a b c (t .signals + 1) 1)
-    fit-input l m =
-        let same = f .first s in
-        fit-signal f a b c (omega (arith, same)) (t .signals + 1) 1 (omega (arith, same)) (omega arith) (omega arith) (λ k. refl) l m
+    pub fit-input : Fit (moreSignal t c (t .signals + 1) 1)
+    fit-input = let same = f .first s in fit-signal f c (t .signals + 1) 1 (omega (arith, same)) (omega arith) (omega arith) (λ k. refl)
 
   -- An output.
   module _ (h : t .signals < t .inputs + 4) where
-    pub output-more : (places : Line) (rules : List Rule) → draftOf text places (moreSignal t a b c (t .inputs) 2) rules ≡ withOutput (draftOf text places t rules) c (part text a (b - a))
-    output-more places rules =
-        let d = draftOf text places t rules in
+    pub output-more : (left : List ℕ) (rules : List Rule) →
+        draftOf text (set starts (t .signals) a) (set ends (t .signals) b) left (moreSignal t c (t .inputs) 2) rules ≡ withOutput (draftOf text starts ends left t rules) c (part text a (b - a))
+    output-more left rules =
         let order = f .order in
         let few = f .inputs in
-        let names = names-more f a b c (omega arith) in
         let ins = take-set-le (t .inputs) (t .tags) (t .signals) c order in
         let m = t .signals - t .inputs in
         let at : t .signals ≡ t .inputs + m = omega arith in
@@ -147,13 +140,13 @@ module _ {text : List ℕ} {t : Table} (f : Fit text t) (a b c : ℕ) where
         (λ i. take (size i) (drop (t .inputs) (set (t .tags) (at i) c)))
         ∙ ap (take (suc m)) (drop-set-add (t .inputs) (t .tags) m c)
         ∙ take-suc-set (drop (t .inputs) (t .tags)) m c (omega (arith, length-drop (t .inputs) (t .tags), f .tags-long)) in
-        (λ i. record { inputs = ins i; outputs = outs i; names = names i; clocks = d .clocks; ceilings = d .ceilings; places = d .places; left = d .left; rules = rules; stage = 2; source = d .source })
+        signal-more left rules (omega arith) (t .inputs) ins outs
 
-    pub fit-output : a ≤ b → b ≤ length text → Fit text (moreSignal t a b c (t .inputs) 2)
-    fit-output l m =
+    pub fit-output : Fit (moreSignal t c (t .inputs) 2)
+    fit-output =
         let order = f .order in
         let few = f .inputs in
-        fit-signal f a b c (omega arith) (t .inputs) 2 few (omega arith) (omega arith) (λ k. absurd (omega arith)) l m
+        fit-signal f c (t .inputs) 2 few (omega arith) (omega arith) (λ k. absurd (omega arith))
 
 -- The line by its words, for either kind of signal.
 module _ (d : Draft) (count : ℕ) (go : ℕ → Word → Draft) where
@@ -188,15 +181,15 @@ module _ (d : Draft) (count : ℕ) (go : ℕ → Word → Draft) where
   signal-line (suc (suc (suc n))) v w l a b e = absurd (omega arith)
 
 -- Of what the code has.
-module _ {text : List ℕ} {t : Table} (f : Fit text t) where
+module _ {t : Table} (f : Fit t) where
   pub inputs-long : length (take (t .inputs) (t .tags)) ≡ t .inputs
   inputs-long = length-take-le (t .inputs) (t .tags) (omega (arith, f .tags-long, f .inputs))
 
   pub outputs-long : length (take (t .signals - t .inputs) (drop (t .inputs) (t .tags))) ≡ t .signals - t .inputs
   outputs-long = length-take-le (t .signals - t .inputs) (drop (t .inputs) (t .tags)) (omega (arith, length-drop (t .inputs) (t .tags), f .tags-long, f .inputs, f .outputs, f .order))
 
-module _ {text : List ℕ} {t : Table} (f : Fit text t) (places : Line) (rules : List Rule) where
-  pub tags-whole : tags (draftOf text places t rules) ≡ take (t .signals) (t .tags)
+module _ (text starts ends left : List ℕ) {t : Table} (f : Fit t) (rules : List Rule) where
+  pub tags-whole : tags (draftOf text starts ends left t rules) ≡ take (t .signals) (t .tags)
   tags-whole =
       let order = f .order in
       let e : t .signals ≡ t .inputs + (t .signals - t .inputs) = omega arith in
@@ -204,7 +197,7 @@ module _ {text : List ℕ} {t : Table} (f : Fit text t) (places : Line) (rules :
 
   module _ (n : ℕ) (v w : Word) (l : Line) (s : Shaped n v w l) where
     abbrev d : Draft
-    d = draftOf text places t rules
+    d = draftOf text starts ends left t rules
 
     pub input-late : 1 < t .stage → refused 30 ≡ inputLine d l
     unfolding inputLine
@@ -228,12 +221,12 @@ module _ {text : List ℕ} {t : Table} (f : Fit text t) (places : Line) (rules :
       carried zero x go z = absurd (z refl)
       carried (suc r) x go z = refl
 
-      module _ (h : t .stage ≤ 1) (e : answer q c ≡ signalTag (take (t .signals) (t .tags)) (t .inputs) (wanted n (nameFound text t w)) v) where
+      module _ (h : t .stage ≤ 1) (e : answer q c ≡ signalTag (take (t .signals) (t .tags)) (t .inputs) (wanted n (nameFound text starts ends t w)) v) where
         input-is : inputLine d l ≡ answer q c andThen λ u. gives (withInput d u w)
         unfolding inputLine
         input-is =
             rw (le-leb (t .stage) 1 h) (signal-line d (length (d .inputs)) (withInput d) n v w l a b s
-            ∙ (λ i. signalTag (tags-whole i) (inputs-long f i) (wanted n (nameFound text t w)) v andThen λ u. gives (withInput d u w))
+            ∙ (λ i. signalTag (tags-whole i) (inputs-long f i) (wanted n (nameFound text starts ends t w)) v andThen λ u. gives (withInput d u w))
             ∙ ap (λ (z : Answer ℕ). z andThen λ u. gives (withInput d u w)) (sym e))
 
         pub input-not : (x : Draft) → (q ≡ 0 → ⊥) → answer q x ≡ inputLine d l
@@ -242,12 +235,12 @@ module _ {text : List ℕ} {t : Table} (f : Fit text t) (places : Line) (rules :
         pub input-given : q ≡ 0 → gives (withInput d c w) ≡ inputLine d l
         input-given z = sym (input-is ∙ ap (λ (r : ℕ). answer r c andThen λ u. gives (withInput d u w)) z)
 
-      module _ (h : t .stage ≤ 2) (e : answer q c ≡ signalTag (take (t .signals) (t .tags)) (t .signals - t .inputs) (wanted n (nameFound text t w)) v) where
+      module _ (h : t .stage ≤ 2) (e : answer q c ≡ signalTag (take (t .signals) (t .tags)) (t .signals - t .inputs) (wanted n (nameFound text starts ends t w)) v) where
         output-is : outputLine d l ≡ answer q c andThen λ u. gives (withOutput d u w)
         unfolding outputLine
         output-is =
             rw (le-leb (t .stage) 2 h) (signal-line d (length (d .outputs)) (withOutput d) n v w l a b s
-            ∙ (λ i. signalTag (tags-whole i) (outputs-long f i) (wanted n (nameFound text t w)) v andThen λ u. gives (withOutput d u w))
+            ∙ (λ i. signalTag (tags-whole i) (outputs-long f i) (wanted n (nameFound text starts ends t w)) v andThen λ u. gives (withOutput d u w))
             ∙ ap (λ (z : Answer ℕ). z andThen λ u. gives (withOutput d u w)) (sym e))
 
         pub output-not : (x : Draft) → (q ≡ 0 → ⊥) → answer q x ≡ outputLine d l

@@ -1,5 +1,5 @@
 -- What the code has of the lines that it has read, as what the definitions have of them.
-use mathlib.Core.Path.{_≡_, refl, sym, subst, _∙_}
+use mathlib.Core.Path.{_≡_, refl, _∙_}
 use mathlib.Core.Bool.{true}
 use mathlib.Core.List.{List, [], _∷_}
 use mathlib.Core.Option.{none, some}
@@ -17,30 +17,27 @@ use Rattle.words.specs.Firsts.{Shaped}
 use Rattle.declarations.specs.declared.table.Table.{Table}
 use Rattle.declarations.specs.declared.table.Lined.{Lined}
 
--- The names of the locations, which are not in the table.
-abbrev pub placeNames : (text starts ends : List ℕ) → Table → Line
-placeNames text starts ends t = spans text starts ends 0 (t .places)
-
-abbrev pub draftOf : List ℕ → Line → Table → List Rule → Draft
-draftOf text places t rules =
+-- The places of the names stand in `starts` and `ends`: the signals' from 0 on, the clocks' from 8 on, the locations' from 12 on.
+abbrev pub draftOf : (text starts ends left : List ℕ) → Table → List Rule → Draft
+draftOf text starts ends left t rules =
     record {
       inputs = take (t .inputs) (t .tags);
       outputs = take (t .signals - t .inputs) (drop (t .inputs) (t .tags));
-      names = spans text (t .starts) (t .ends) 0 (t .signals);
-      clocks = spans text (t .cstarts) (t .cends) 0 (t .clocks);
+      names = spans text starts ends 0 (t .signals);
+      clocks = spans text starts ends 8 (t .clocks);
       ceilings = take (t .clocks) (t .ceilings);
-      places = places;
-      left = take (t .places) (t .left);
+      places = spans text starts ends 12 (t .places);
+      left = take (t .places) left;
       rules = rules;
       stage = t .stage;
       source = placeBelow 64 (t .source);
     }
 
-abbrev pub lineSaid : List ℕ → Line → List Rule → Lined → Answer Draft
-lineSaid text places rules r = answer (r .refusal) (draftOf text places (r .table) rules)
+abbrev pub lineSaid : (text starts ends left : List ℕ) → List Rule → Lined → Answer Draft
+lineSaid text starts ends left rules r = answer (r .refusal) (draftOf text starts ends left (r .table) rules)
 
--- The counts are in their limits, the names within the text, and no output stands before the last input.
-pub record Fit (text : List ℕ) (t : Table) : Type 0 where
+-- The counts are in their limits, and no output stands before the last input.
+pub record Fit (t : Table) : Type 0 where
   pub inputs : t .inputs ≤ 4
   pub outputs : t .signals ≤ t .inputs + 4
   pub order : t .inputs ≤ t .signals
@@ -48,24 +45,13 @@ pub record Fit (text : List ℕ) (t : Table) : Type 0 where
   pub places : t .places ≤ 64
   pub first : t .stage ≤ 1 → t .signals ≡ t .inputs
   pub tags-long : length (t .tags) ≡ 8
-  pub starts-long : length (t .starts) ≡ 8
-  pub ends-long : length (t .ends) ≡ 8
-  pub cstarts-long : length (t .cstarts) ≡ 4
-  pub cends-long : length (t .cends) ≡ 4
   pub ceilings-long : length (t .ceilings) ≡ 4
-  pub left-long : length (t .left) ≡ 64
-  pub names : Within text (t .starts) (t .ends) (t .signals)
-  pub clock-names : Within text (t .cstarts) (t .cends) (t .clocks)
 
--- There is room for the places of 64 names, and those of the locations are within the text.
-pub record Placed (text starts ends : List ℕ) (t : Table) : Type 0 where
-  pub starts-long : length starts ≡ 64
-  pub ends-long : length ends ≡ 64
-  pub names : Within text starts ends (t .places)
-
-pub placed-same : {text starts ends : List ℕ} {t u : Table} → Placed text starts ends t → u .places ≡ t .places → Placed text starts ends u
-placed-same {text} {starts} {ends} p e =
-    record { starts-long = p .starts-long; ends-long = p .ends-long; names = subst (Within text starts ends) (sym e) (p .names) }
+-- There is room for the places of 76 names, and each is within the text.
+pub record Named (text starts ends : List ℕ) : Type 0 where
+  pub starts-long : length starts ≡ 76
+  pub ends-long : length ends ≡ 76
+  pub within : Within text starts ends 76
 
 -- `at`.
 pub at-form : (d : Draft) (n : ℕ) (v w : Word) (l : Line) → (n ≡ 1 → ⊥) → Shaped n v w l → refused 30 ≡ atLine d l
@@ -112,12 +98,7 @@ abbrev pub atPlace : Table → ℕ → Table
 atPlace t k =
     record {
       tags = t .tags;
-      starts = t .starts;
-      ends = t .ends;
-      cstarts = t .cstarts;
-      cends = t .cends;
       ceilings = t .ceilings;
-      left = t .left;
       inputs = t .inputs;
       signals = t .signals;
       clocks = t .clocks;
@@ -126,15 +107,16 @@ atPlace t k =
       source = k;
     }
 
-pub at-given : (text : List ℕ) (places : Line) (t : Table) (rules : List Rule) (v : Word) (l : Line) → l ≡ v ∷ [] → {k : ℕ} → find 0 v places ≡ placeBelow (t .places) k →
-    k < t .places → t .places ≤ 64 → risen (draftOf text places t rules) (placeBelow 64 (t .source)) k ≡ true → gives (draftOf text places (atPlace t k) rules) ≡ atLine (draftOf text places t rules) l
-at-given text places t rules v l one {k = k} e h m f =
-    let d = draftOf text places t rules in
+pub at-given : (text starts ends left : List ℕ) (t : Table) (rules : List Rule) (v : Word) (l : Line) → l ≡ v ∷ [] → {k : ℕ} → find 0 v (spans text starts ends 12 (t .places)) ≡ placeBelow (t .places) k →
+    k < t .places → t .places ≤ 64 → risen (draftOf text starts ends left t rules) (placeBelow 64 (t .source)) k ≡ true →
+    gives (draftOf text starts ends left (atPlace t k) rules) ≡ atLine (draftOf text starts ends left t rules) l
+at-given text starts ends left t rules v l one {k = k} e h m f =
+    let d = draftOf text starts ends left t rules in
     let s = source-some k (omega arith) in
     (λ i. gives (record { inputs = d .inputs; outputs = d .outputs; names = d .names; clocks = d .clocks; ceilings = d .ceilings; places = d .places; left = d .left; rules = rules; stage = 5; source = s i }))
     ∙ at-rises d v l one e h f
 
-pub fit-at : {text : List ℕ} {t : Table} → Fit text t → (k : ℕ) → Fit text (atPlace t k)
+pub fit-at : {t : Table} → Fit t → (k : ℕ) → Fit (atPlace t k)
 fit-at f k =
     record {
       inputs = f .inputs;
@@ -144,14 +126,7 @@ fit-at f k =
       places = f .places;
       first = λ h. absurd (omega arith);
       tags-long = f .tags-long;
-      starts-long = f .starts-long;
-      ends-long = f .ends-long;
-      cstarts-long = f .cstarts-long;
-      cends-long = f .cends-long;
       ceilings-long = f .ceilings-long;
-      left-long = f .left-long;
-      names = f .names;
-      clock-names = f .clock-names;
     }
 
 pub shaped-two : (n : ℕ) (v w : Word) (l : Line) → n ≡ 2 → Shaped n v w l → l ≡ v ∷ w ∷ []

@@ -6,25 +6,34 @@ use words::firsts::Few;
 use words::numbers::number_of;
 ghost use mathlib.Core.Path.{_≡_};
 ghost use mathlib.Core.List.{List};
-ghost use Prim.Native.Nat.{_≤_, _<_, _-_};
+ghost use Prim.Native.Nat.{ℕ, _≤_, _<_, _-_};
 ghost use lib.ListN.{length};
 ghost use Rattle.policy.specs.File.{part};
 ghost use Rattle.policy.specs.Rules.{Rule};
 ghost use Rattle.wording.specs.Words.{Line};
 ghost use Rattle.wording.specs.Reader.{clockLine};
 ghost use Rattle.words.specs.Firsts.{Shaped};
-ghost use Rattle.declarations.specs.Table.{draftOf, lineSaid, Fit};
+ghost use Rattle.declarations.specs.Table.{draftOf, lineSaid, Fit, Named};
 ghost use Rattle.declarations.specs.ClockLine.{withClock, clockRefusal};
 
 // A clock more, whose name stands from `a` to `b`.
-fn add_clock(text: &[u8], a: usize, b: usize, ceiling: u16, table: Table) -> Table
-    requires { ⌜ (a ≤ b) × (b ≤ length (now text)) × (table .clocks < 4) × (table .stage ≤ 3) × Fit (now text) table ⌝ }
-    ensures { λ r. ⌜ ((places : Line) (rules : List Rule) → draftOf (now (text .entry)) places r rules ≡ withClock (draftOf (now (text .entry)) places table rules) (part (now (text .entry)) a (b - a)) ceiling) × Fit (now (text .entry)) r × (r .places ≡ table .places) ⌝ }
+fn add_clock(
+    text: &[u8],
+    a: usize,
+    b: usize,
+    ceiling: u16,
+    starts: &mut [usize],
+    ends: &mut [usize],
+    table: Table,
+) -> Table
+    requires { ⌜ (a ≤ b) × (b ≤ length (now text)) × (table .clocks < 4) × (table .stage ≤ 3) × Fit table × Named (now text) (now starts) (now ends) ⌝ }
+    ensures { λ r. ⌜ ((left : List ℕ) (rules : List Rule) → draftOf (now (text .entry)) (now (starts .exit)) (now (ends .exit)) left r rules ≡ withClock (draftOf (now (text .entry)) (now (starts .entry)) (now (ends .entry)) left table rules) (part (now (text .entry)) a (b - a)) ceiling) × Fit r × Named (now (text .entry)) (now (starts .exit)) (now (ends .exit)) ⌝ }
 {
     let mut t = table;
     let n = t.clocks;
-    t.cstarts[n] = a;
-    t.cends[n] = b;
+    let k = 8 + n;
+    starts[k] = a;
+    ends[k] = b;
     t.ceilings[n] = ceiling;
     t.clocks = n + 1;
     t.stage = 3;
@@ -44,9 +53,15 @@ fn clock_refusal(ceiling: u16, clocks: usize) -> u8
     if clocks < 4 { 0 } else { 33 }
 }
 
-pub fn clock_line(text: &[u8], few: Few, table: Table) -> Lined
-    requires { ⌜ (few .start ≤ few .end) × (few .end ≤ length (now text)) × (few .from ≤ few .to) × (few .to ≤ length (now text)) × Fit (now text) table ⌝ }
-    ensures { λ r. ⌜ ((places : Line) (rules : List Rule) (l : Line) → Shaped (few .count) (part (now (text .entry)) (few .start) (few .end - few .start)) (part (now (text .entry)) (few .from) (few .to - few .from)) l → lineSaid (now (text .entry)) places rules r ≡ clockLine (draftOf (now (text .entry)) places table rules) l) × Fit (now (text .entry)) (r .table) × (r .table .places ≡ table .places) ⌝ }
+pub fn clock_line(
+    text: &[u8],
+    few: Few,
+    starts: &mut [usize],
+    ends: &mut [usize],
+    table: Table,
+) -> Lined
+    requires { ⌜ (few .start ≤ few .end) × (few .end ≤ length (now text)) × (few .from ≤ few .to) × (few .to ≤ length (now text)) × Fit table × Named (now text) (now starts) (now ends) ⌝ }
+    ensures { λ r. ⌜ ((left : List ℕ) (rules : List Rule) (l : Line) → Shaped (few .count) (part (now (text .entry)) (few .start) (few .end - few .start)) (part (now (text .entry)) (few .from) (few .to - few .from)) l → lineSaid (now (text .entry)) (now (starts .exit)) (now (ends .exit)) left rules r ≡ clockLine (draftOf (now (text .entry)) (now (starts .entry)) (now (ends .entry)) left table rules) l) × Fit (r .table) × Named (now (text .entry)) (now (starts .exit)) (now (ends .exit)) ⌝ }
 {
     if few.count != 2 {
         return Lined { refusal: 30, table };
@@ -56,7 +71,7 @@ pub fn clock_line(text: &[u8], few: Few, table: Table) -> Lined
     }
     let a = few.start;
     let b = few.end;
-    let fresh = name_refusal(text, a, b, table);
+    let fresh = name_refusal(text, a, b, starts, ends, table);
     if fresh != 0 {
         return Lined {
             refusal: fresh,
@@ -81,6 +96,6 @@ pub fn clock_line(text: &[u8], few: Few, table: Table) -> Lined
     }
     Lined {
         refusal: 0,
-        table: add_clock(text, a, b, number.value, table),
+        table: add_clock(text, a, b, number.value, starts, ends, table),
     }
 }

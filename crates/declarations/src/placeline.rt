@@ -1,20 +1,22 @@
 // The words behind `location`.
+use crate::fresh::find_from;
 use crate::table::Lined;
 use crate::table::Table;
 use words::firsts::word_in;
 use words::keywords::is_name;
 use words::keywords::keyword;
-use words::names::find_name;
 ghost use mathlib.Core.Path.{_≡_};
 ghost use mathlib.Core.List.{List};
-ghost use Prim.Native.Nat.{_≤_, _<_, _-_};
+ghost use Prim.Native.Nat.{ℕ, _≤_, _<_, _-_};
 ghost use lib.ListN.{length};
+ghost use Rattle.streams.specs.Answer.{gives};
 ghost use Rattle.policy.specs.File.{part};
 ghost use Rattle.policy.specs.Rules.{Rule};
 ghost use Rattle.wording.specs.Words.{wordsOf};
 ghost use Rattle.wording.specs.Reader.{newPlace, locationLine};
-ghost use Rattle.declarations.specs.Table.{placeNames, draftOf, lineSaid, Fit, Placed};
-ghost use Rattle.declarations.specs.PlaceLine.{withPlace, mustBeLeft};
+ghost use Rattle.declarations.specs.Table.{draftOf, lineSaid, Fit, Named};
+ghost use Rattle.declarations.specs.Fresh.{refuse};
+ghost use Rattle.declarations.specs.PlaceLine.{withPlace, mustBeLeft, leftByte};
 
 // A location more, whose name stands from `a` to `b`.
 fn add_place(
@@ -22,52 +24,74 @@ fn add_place(
     a: usize,
     b: usize,
     byte: u8,
-    pstarts: &mut [usize],
-    pends: &mut [usize],
+    starts: &mut [usize],
+    ends: &mut [usize],
+    left: &mut [u8],
     table: Table,
 ) -> Table
-    requires { ⌜ (a ≤ b) × (b ≤ length (now text)) × (table .places < 64) × Fit (now text) table × Placed (now text) (now pstarts) (now pends) table ⌝ }
-    ensures { λ r. ⌜ ((rules : List Rule) → draftOf (now (text .entry)) (placeNames (now (text .entry)) (now (pstarts .exit)) (now (pends .exit)) r) r rules ≡ withPlace (draftOf (now (text .entry)) (placeNames (now (text .entry)) (now (pstarts .entry)) (now (pends .entry)) table) table rules) (part (now (text .entry)) a (b - a)) byte) × Fit (now (text .entry)) r × Placed (now (text .entry)) (now (pstarts .exit)) (now (pends .exit)) r ⌝ }
+    requires { ⌜ (a ≤ b) × (b ≤ length (now text)) × (table .places < 64) × Fit table × Named (now text) (now starts) (now ends) × (length (now left) ≡ 64) ⌝ }
+    ensures { λ r. ⌜ ((rules : List Rule) → draftOf (now (text .entry)) (now (starts .exit)) (now (ends .exit)) (now (left .exit)) r rules ≡ withPlace (draftOf (now (text .entry)) (now (starts .entry)) (now (ends .entry)) (now (left .entry)) table rules) (part (now (text .entry)) a (b - a)) byte) × Fit r × Named (now (text .entry)) (now (starts .exit)) (now (ends .exit)) ⌝ }
 {
     let mut t = table;
     let n = t.places;
-    pstarts[n] = a;
-    pends[n] = b;
-    t.left[n] = byte;
+    let k = 12 + n;
+    starts[k] = a;
+    ends[k] = b;
+    left[n] = byte;
     t.places = n + 1;
     t.stage = 4;
     t
 }
 
-// The location whose name stands from `a` to `b`, if it may be declared.
+// 30, 31 or 33, or 0 where the location whose name stands from `a` to `b` may be declared.
+fn place_refusal(
+    text: &[u8],
+    a: usize,
+    b: usize,
+    starts: &[usize],
+    ends: &[usize],
+    table: Table,
+) -> u8
+    requires { ⌜ (a ≤ b) × (b ≤ length (now text)) × Fit table × Named (now text) (now starts) (now ends) ⌝ }
+    ensures { λ r. ⌜ ((left : List ℕ) (rules : List Rule) (byte : ℕ) → newPlace (draftOf (now (text .entry)) (now (starts .entry)) (now (ends .entry)) left table rules) (part (now (text .entry)) a (b - a)) byte ≡ refuse r (gives (withPlace (draftOf (now (text .entry)) (now (starts .entry)) (now (ends .entry)) left table rules) (part (now (text .entry)) a (b - a)) byte))) × (r ≡ 0 → table .places < 64) ⌝ }
+{
+    if 4 < table.stage {
+        return 30;
+    }
+    if !is_name(&text[a..b]) {
+        return 30;
+    }
+    let places = table.places;
+    if find_from(text, starts, ends, 12, places, &text[a..b]) < places {
+        return 31;
+    }
+    if 64 <= places {
+        return 33;
+    }
+    0
+}
+
+// The location, if it may be declared.
 fn place(
     text: &[u8],
     a: usize,
     b: usize,
     byte: u8,
-    pstarts: &mut [usize],
-    pends: &mut [usize],
+    starts: &mut [usize],
+    ends: &mut [usize],
+    left: &mut [u8],
     table: Table,
 ) -> Lined
-    requires { ⌜ (a ≤ b) × (b ≤ length (now text)) × Fit (now text) table × Placed (now text) (now pstarts) (now pends) table ⌝ }
-    ensures { λ r. ⌜ ((rules : List Rule) → lineSaid (now (text .entry)) (placeNames (now (text .entry)) (now (pstarts .exit)) (now (pends .exit)) (r .table)) rules r ≡ newPlace (draftOf (now (text .entry)) (placeNames (now (text .entry)) (now (pstarts .entry)) (now (pends .entry)) table) table rules) (part (now (text .entry)) a (b - a)) byte) × Fit (now (text .entry)) (r .table) × Placed (now (text .entry)) (now (pstarts .exit)) (now (pends .exit)) (r .table) ⌝ }
+    requires { ⌜ (a ≤ b) × (b ≤ length (now text)) × Fit table × Named (now text) (now starts) (now ends) × (length (now left) ≡ 64) ⌝ }
+    ensures { λ r. ⌜ ((rules : List Rule) → lineSaid (now (text .entry)) (now (starts .exit)) (now (ends .exit)) (now (left .exit)) rules r ≡ newPlace (draftOf (now (text .entry)) (now (starts .entry)) (now (ends .entry)) (now (left .entry)) table rules) (part (now (text .entry)) a (b - a)) byte) × Fit (r .table) × Named (now (text .entry)) (now (starts .exit)) (now (ends .exit)) ⌝ }
 {
-    if 4 < table.stage {
-        return Lined { refusal: 30, table };
-    }
-    if !is_name(&text[a..b]) {
-        return Lined { refusal: 30, table };
-    }
-    let places = table.places;
-    if find_name(text, pstarts, pends, places, &text[a..b]) < places {
-        return Lined { refusal: 31, table };
-    }
-    if 64 <= places {
-        return Lined { refusal: 33, table };
+    let refusal = place_refusal(text, a, b, starts, ends, table);
+    if refusal != 0 {
+        return Lined { refusal, table };
     }
     Lined {
         refusal: 0,
-        table: add_place(text, a, b, byte, pstarts, pends, table),
+        table: add_place(text, a, b, byte, starts, ends, left, table),
     }
 }
 
@@ -109,17 +133,35 @@ fn must_be_left(text: &[u8], end: usize, at: usize) -> bool
     keyword(&text[e..f]) == 11
 }
 
+// The byte of a location by the words from `at` to `end`, which stand behind its name: 1 if it must be left, 0 for no word, 2 for any others.
+fn left_byte(text: &[u8], end: usize, at: usize) -> u8
+    requires { ⌜ (at ≤ end) × (end ≤ length (now text)) ⌝ }
+    ensures { λ r. ⌜ r ≡ leftByte (wordsOf (part (now (text .entry)) at (end - at))) ⌝ }
+{
+    let first = word_in(text, end, at);
+    let a = first.start;
+    let b = first.end;
+    if b <= a {
+        return 0;
+    }
+    if must_be_left(text, end, at) {
+        return 1;
+    }
+    2
+}
+
 // The words from `at` to `end`, which stand behind `location`.
 pub fn location_line(
     text: &[u8],
     end: usize,
     at: usize,
-    pstarts: &mut [usize],
-    pends: &mut [usize],
+    starts: &mut [usize],
+    ends: &mut [usize],
+    left: &mut [u8],
     table: Table,
 ) -> Lined
-    requires { ⌜ (at ≤ end) × (end ≤ length (now text)) × Fit (now text) table × Placed (now text) (now pstarts) (now pends) table ⌝ }
-    ensures { λ r. ⌜ ((rules : List Rule) → lineSaid (now (text .entry)) (placeNames (now (text .entry)) (now (pstarts .exit)) (now (pends .exit)) (r .table)) rules r ≡ locationLine (draftOf (now (text .entry)) (placeNames (now (text .entry)) (now (pstarts .entry)) (now (pends .entry)) table) table rules) (wordsOf (part (now (text .entry)) at (end - at)))) × Fit (now (text .entry)) (r .table) × Placed (now (text .entry)) (now (pstarts .exit)) (now (pends .exit)) (r .table) ⌝ }
+    requires { ⌜ (at ≤ end) × (end ≤ length (now text)) × Fit table × Named (now text) (now starts) (now ends) × (length (now left) ≡ 64) ⌝ }
+    ensures { λ r. ⌜ ((rules : List Rule) → lineSaid (now (text .entry)) (now (starts .exit)) (now (ends .exit)) (now (left .exit)) rules r ≡ locationLine (draftOf (now (text .entry)) (now (starts .entry)) (now (ends .entry)) (now (left .entry)) table rules) (wordsOf (part (now (text .entry)) at (end - at)))) × Fit (r .table) × Named (now (text .entry)) (now (starts .exit)) (now (ends .exit)) ⌝ }
 {
     let first = word_in(text, end, at);
     let a = first.start;
@@ -127,14 +169,9 @@ pub fn location_line(
     if b <= a {
         return Lined { refusal: 30, table };
     }
-    let second = word_in(text, end, b);
-    let c = second.start;
-    let d = second.end;
-    if d <= c {
-        return place(text, a, b, 0, pstarts, pends, table);
+    let byte = left_byte(text, end, b);
+    if 1 < byte {
+        return Lined { refusal: 30, table };
     }
-    if must_be_left(text, end, b) {
-        return place(text, a, b, 1, pstarts, pends, table);
-    }
-    Lined { refusal: 30, table }
+    place(text, a, b, byte, starts, ends, left, table)
 }

@@ -7,7 +7,7 @@ use crate::table::Table;
 use words::firsts::Few;
 ghost use mathlib.Core.Path.{_≡_};
 ghost use mathlib.Core.List.{List};
-ghost use Prim.Native.Nat.{_+_, _≤_, _<_, _-_};
+ghost use Prim.Native.Nat.{ℕ, _+_, _≤_, _<_, _-_};
 ghost use lib.ListN.{length, take};
 ghost use Rattle.streams.specs.Answer.{answer};
 ghost use Rattle.policy.specs.File.{part};
@@ -15,26 +15,34 @@ ghost use Rattle.policy.specs.Rules.{Rule};
 ghost use Rattle.wording.specs.Words.{Line};
 ghost use Rattle.wording.specs.Reader.{withInput, withOutput, inputLine, outputLine};
 ghost use Rattle.words.specs.Firsts.{Shaped};
-ghost use Rattle.declarations.specs.Table.{draftOf, lineSaid, Fit};
-ghost use Rattle.declarations.specs.SignalLine.{wanted, nameFound, signalTag};
+ghost use Rattle.declarations.specs.Table.{draftOf, lineSaid, Fit, Named};
+ghost use Rattle.declarations.specs.Fresh.{nameFound};
+ghost use Rattle.declarations.specs.SignalLine.{wanted, signalTag};
 
 // The refusal of the second word as a name, if there is one.
-fn second_refusal(text: &[u8], few: Few, table: Table) -> u8
-    requires { ⌜ (few .from ≤ few .to) × (few .to ≤ length (now text)) × Fit (now text) table ⌝ }
-    ensures { λ r. ⌜ r ≡ wanted (few .count) (nameFound (now (text .entry)) table (part (now (text .entry)) (few .from) (few .to - few .from))) ⌝ }
+fn second_refusal(text: &[u8], few: Few, starts: &[usize], ends: &[usize], table: Table) -> u8
+    requires { ⌜ (few .from ≤ few .to) × (few .to ≤ length (now text)) × Fit table × Named (now text) (now starts) (now ends) ⌝ }
+    ensures { λ r. ⌜ r ≡ wanted (few .count) (nameFound (now (text .entry)) (now (starts .entry)) (now (ends .entry)) table (part (now (text .entry)) (few .from) (few .to - few .from))) ⌝ }
 {
     if few.count < 2 {
         return 0;
     }
     let from = few.from;
     let to = few.to;
-    name_refusal(text, from, to, table)
+    name_refusal(text, from, to, starts, ends, table)
 }
 
 // The letter that is declared, where `count` signals of its kind are. The line has one word or two.
-fn signal_tag(text: &[u8], few: Few, table: Table, count: usize) -> Tag
-    requires { ⌜ (few .start ≤ few .end) × (few .end ≤ length (now text)) × (few .from ≤ few .to) × (few .to ≤ length (now text)) × Fit (now text) table ⌝ }
-    ensures { λ r. ⌜ (answer (r .refusal) (r .value) ≡ signalTag (take (table .signals) (table .tags)) count (wanted (few .count) (nameFound (now (text .entry)) table (part (now (text .entry)) (few .from) (few .to - few .from)))) (part (now (text .entry)) (few .start) (few .end - few .start))) × (r .refusal ≡ 0 → count < 4) ⌝ }
+fn signal_tag(
+    text: &[u8],
+    few: Few,
+    starts: &[usize],
+    ends: &[usize],
+    table: Table,
+    count: usize,
+) -> Tag
+    requires { ⌜ (few .start ≤ few .end) × (few .end ≤ length (now text)) × (few .from ≤ few .to) × (few .to ≤ length (now text)) × Fit table × Named (now text) (now starts) (now ends) ⌝ }
+    ensures { λ r. ⌜ (answer (r .refusal) (r .value) ≡ signalTag (take (table .signals) (table .tags)) count (wanted (few .count) (nameFound (now (text .entry)) (now (starts .entry)) (now (ends .entry)) table (part (now (text .entry)) (few .from) (few .to - few .from)))) (part (now (text .entry)) (few .start) (few .end - few .start))) × (r .refusal ≡ 0 → count < 4) ⌝ }
 {
     let a = few.start;
     let b = few.end;
@@ -43,7 +51,7 @@ fn signal_tag(text: &[u8], few: Few, table: Table, count: usize) -> Tag
     if tag.refusal != 0 {
         return tag;
     }
-    let refusal = second_refusal(text, few, table);
+    let refusal = second_refusal(text, few, starts, ends, table);
     if refusal != 0 {
         return Tag { refusal, value: 0 };
     }
@@ -57,15 +65,23 @@ fn signal_tag(text: &[u8], few: Few, table: Table, count: usize) -> Tag
 }
 
 // An input more, whose name stands from `a` to `b`.
-fn add_input(text: &[u8], a: usize, b: usize, tag: u8, table: Table) -> Table
-    requires { ⌜ (a ≤ b) × (b ≤ length (now text)) × (table .inputs < 4) × (table .stage ≤ 1) × Fit (now text) table ⌝ }
-    ensures { λ r. ⌜ ((places : Line) (rules : List Rule) → draftOf (now (text .entry)) places r rules ≡ withInput (draftOf (now (text .entry)) places table rules) tag (part (now (text .entry)) a (b - a))) × Fit (now (text .entry)) r × (r .places ≡ table .places) ⌝ }
+fn add_input(
+    text: &[u8],
+    a: usize,
+    b: usize,
+    tag: u8,
+    starts: &mut [usize],
+    ends: &mut [usize],
+    table: Table,
+) -> Table
+    requires { ⌜ (a ≤ b) × (b ≤ length (now text)) × (table .inputs < 4) × (table .stage ≤ 1) × Fit table × Named (now text) (now starts) (now ends) ⌝ }
+    ensures { λ r. ⌜ ((left : List ℕ) (rules : List Rule) → draftOf (now (text .entry)) (now (starts .exit)) (now (ends .exit)) left r rules ≡ withInput (draftOf (now (text .entry)) (now (starts .entry)) (now (ends .entry)) left table rules) tag (part (now (text .entry)) a (b - a))) × Fit r × Named (now (text .entry)) (now (starts .exit)) (now (ends .exit)) ⌝ }
 {
     let mut t = table;
     let n = t.signals;
+    starts[n] = a;
+    ends[n] = b;
     t.tags[n] = tag;
-    t.starts[n] = a;
-    t.ends[n] = b;
     t.inputs = n + 1;
     t.signals = n + 1;
     t.stage = 1;
@@ -73,24 +89,38 @@ fn add_input(text: &[u8], a: usize, b: usize, tag: u8, table: Table) -> Table
 }
 
 // An output more.
-fn add_output(text: &[u8], a: usize, b: usize, tag: u8, table: Table) -> Table
-    requires { ⌜ (a ≤ b) × (b ≤ length (now text)) × (table .signals < table .inputs + 4) × (table .stage ≤ 2) × Fit (now text) table ⌝ }
-    ensures { λ r. ⌜ ((places : Line) (rules : List Rule) → draftOf (now (text .entry)) places r rules ≡ withOutput (draftOf (now (text .entry)) places table rules) tag (part (now (text .entry)) a (b - a))) × Fit (now (text .entry)) r × (r .places ≡ table .places) ⌝ }
+fn add_output(
+    text: &[u8],
+    a: usize,
+    b: usize,
+    tag: u8,
+    starts: &mut [usize],
+    ends: &mut [usize],
+    table: Table,
+) -> Table
+    requires { ⌜ (a ≤ b) × (b ≤ length (now text)) × (table .signals < table .inputs + 4) × (table .stage ≤ 2) × Fit table × Named (now text) (now starts) (now ends) ⌝ }
+    ensures { λ r. ⌜ ((left : List ℕ) (rules : List Rule) → draftOf (now (text .entry)) (now (starts .exit)) (now (ends .exit)) left r rules ≡ withOutput (draftOf (now (text .entry)) (now (starts .entry)) (now (ends .entry)) left table rules) tag (part (now (text .entry)) a (b - a))) × Fit r × Named (now (text .entry)) (now (starts .exit)) (now (ends .exit)) ⌝ }
 {
     let mut t = table;
     let n = t.signals;
+    starts[n] = a;
+    ends[n] = b;
     t.tags[n] = tag;
-    t.starts[n] = a;
-    t.ends[n] = b;
     t.signals = n + 1;
     t.stage = 2;
     t
 }
 
 // The words behind `input`.
-pub fn input_line(text: &[u8], few: Few, table: Table) -> Lined
-    requires { ⌜ (few .start ≤ few .end) × (few .end ≤ length (now text)) × (few .from ≤ few .to) × (few .to ≤ length (now text)) × Fit (now text) table ⌝ }
-    ensures { λ r. ⌜ ((places : Line) (rules : List Rule) (l : Line) → Shaped (few .count) (part (now (text .entry)) (few .start) (few .end - few .start)) (part (now (text .entry)) (few .from) (few .to - few .from)) l → lineSaid (now (text .entry)) places rules r ≡ inputLine (draftOf (now (text .entry)) places table rules) l) × Fit (now (text .entry)) (r .table) × (r .table .places ≡ table .places) ⌝ }
+pub fn input_line(
+    text: &[u8],
+    few: Few,
+    starts: &mut [usize],
+    ends: &mut [usize],
+    table: Table,
+) -> Lined
+    requires { ⌜ (few .start ≤ few .end) × (few .end ≤ length (now text)) × (few .from ≤ few .to) × (few .to ≤ length (now text)) × Fit table × Named (now text) (now starts) (now ends) ⌝ }
+    ensures { λ r. ⌜ ((left : List ℕ) (rules : List Rule) (l : Line) → Shaped (few .count) (part (now (text .entry)) (few .start) (few .end - few .start)) (part (now (text .entry)) (few .from) (few .to - few .from)) l → lineSaid (now (text .entry)) (now (starts .exit)) (now (ends .exit)) left rules r ≡ inputLine (draftOf (now (text .entry)) (now (starts .entry)) (now (ends .entry)) left table rules) l) × Fit (r .table) × Named (now (text .entry)) (now (starts .exit)) (now (ends .exit)) ⌝ }
 {
     if 1 < table.stage {
         return Lined { refusal: 30, table };
@@ -102,7 +132,7 @@ pub fn input_line(text: &[u8], few: Few, table: Table) -> Lined
         return Lined { refusal: 30, table };
     }
     let count = table.inputs;
-    let tag = signal_tag(text, few, table, count);
+    let tag = signal_tag(text, few, starts, ends, table, count);
     if tag.refusal != 0 {
         return Lined {
             refusal: tag.refusal,
@@ -113,14 +143,20 @@ pub fn input_line(text: &[u8], few: Few, table: Table) -> Lined
     let to = few.to;
     Lined {
         refusal: 0,
-        table: add_input(text, from, to, tag.value, table),
+        table: add_input(text, from, to, tag.value, starts, ends, table),
     }
 }
 
 // The words behind `output`.
-pub fn output_line(text: &[u8], few: Few, table: Table) -> Lined
-    requires { ⌜ (few .start ≤ few .end) × (few .end ≤ length (now text)) × (few .from ≤ few .to) × (few .to ≤ length (now text)) × Fit (now text) table ⌝ }
-    ensures { λ r. ⌜ ((places : Line) (rules : List Rule) (l : Line) → Shaped (few .count) (part (now (text .entry)) (few .start) (few .end - few .start)) (part (now (text .entry)) (few .from) (few .to - few .from)) l → lineSaid (now (text .entry)) places rules r ≡ outputLine (draftOf (now (text .entry)) places table rules) l) × Fit (now (text .entry)) (r .table) × (r .table .places ≡ table .places) ⌝ }
+pub fn output_line(
+    text: &[u8],
+    few: Few,
+    starts: &mut [usize],
+    ends: &mut [usize],
+    table: Table,
+) -> Lined
+    requires { ⌜ (few .start ≤ few .end) × (few .end ≤ length (now text)) × (few .from ≤ few .to) × (few .to ≤ length (now text)) × Fit table × Named (now text) (now starts) (now ends) ⌝ }
+    ensures { λ r. ⌜ ((left : List ℕ) (rules : List Rule) (l : Line) → Shaped (few .count) (part (now (text .entry)) (few .start) (few .end - few .start)) (part (now (text .entry)) (few .from) (few .to - few .from)) l → lineSaid (now (text .entry)) (now (starts .exit)) (now (ends .exit)) left rules r ≡ outputLine (draftOf (now (text .entry)) (now (starts .entry)) (now (ends .entry)) left table rules) l) × Fit (r .table) × Named (now (text .entry)) (now (starts .exit)) (now (ends .exit)) ⌝ }
 {
     if 2 < table.stage {
         return Lined { refusal: 30, table };
@@ -132,7 +168,7 @@ pub fn output_line(text: &[u8], few: Few, table: Table) -> Lined
         return Lined { refusal: 30, table };
     }
     let count = table.signals - table.inputs;
-    let tag = signal_tag(text, few, table, count);
+    let tag = signal_tag(text, few, starts, ends, table, count);
     if tag.refusal != 0 {
         return Lined {
             refusal: tag.refusal,
@@ -143,6 +179,6 @@ pub fn output_line(text: &[u8], few: Few, table: Table) -> Lined
     let to = few.to;
     Lined {
         refusal: 0,
-        table: add_output(text, from, to, tag.value, table),
+        table: add_output(text, from, to, tag.value, starts, ends, table),
     }
 }

@@ -1,28 +1,22 @@
 // What the lines so far have said, but for the rules.
+use crate::fresh::find_from;
 use words::firsts::Few;
-use words::names::find_name;
 ghost use mathlib.Core.Path.{_≡_};
 ghost use mathlib.Core.List.{List};
-ghost use Prim.Native.Nat.{_≤_, _-_};
+ghost use Prim.Native.Nat.{ℕ, _≤_, _-_};
 ghost use lib.ListN.{length};
 ghost use Rattle.policy.specs.File.{part};
 ghost use Rattle.policy.specs.Rules.{Rule};
 ghost use Rattle.wording.specs.Words.{Line};
 ghost use Rattle.wording.specs.Reader.{atLine};
 ghost use Rattle.words.specs.Firsts.{Shaped};
-ghost use Rattle.declarations.specs.Table.{placeNames, draftOf, lineSaid, Fit, Placed};
+ghost use Rattle.declarations.specs.Table.{draftOf, lineSaid, Fit, Named};
 
-// Names stand in the text from their start to their end. The signals have theirs in `starts` and `ends`, the inputs first, none where both are the same; the
-// clocks in `cstarts` and `cends`. A source of 64 is none. The locations, up to 64, have theirs in two slices beside the table, `pstarts` and `pends`: they
-// would be three quarters of it, and it goes by value.
+// Names stand in the text from their start to their end. These places are in two slices beside the table, `starts` and `ends`: the signals' from 0 on, the inputs
+// first, none where both are the same; the clocks' from 8 on; the locations' from 12 on. A third slice, `left`, has a byte for each location. A source of 64 is none.
 pub struct Table {
     pub tags: [u8; 8],
-    pub starts: [usize; 8],
-    pub ends: [usize; 8],
-    pub cstarts: [usize; 4],
-    pub cends: [usize; 4],
     pub ceilings: [u16; 4],
-    pub left: [u8; 64],
     pub inputs: usize,
     pub signals: usize,
     pub clocks: usize,
@@ -38,9 +32,9 @@ pub struct Lined {
 }
 
 // The words behind `at`.
-pub fn at_line(text: &[u8], few: Few, pstarts: &[usize], pends: &[usize], table: Table) -> Lined
-    requires { ⌜ (few .start ≤ few .end) × (few .end ≤ length (now text)) × Fit (now text) table × Placed (now text) (now pstarts) (now pends) table ⌝ }
-    ensures { λ r. ⌜ ((rules : List Rule) (l : Line) → Shaped (few .count) (part (now (text .entry)) (few .start) (few .end - few .start)) (part (now (text .entry)) (few .from) (few .to - few .from)) l → lineSaid (now (text .entry)) (placeNames (now (text .entry)) (now (pstarts .entry)) (now (pends .entry)) table) rules r ≡ atLine (draftOf (now (text .entry)) (placeNames (now (text .entry)) (now (pstarts .entry)) (now (pends .entry)) table) table rules) l) × Fit (now (text .entry)) (r .table) × (r .table .places ≡ table .places) ⌝ }
+pub fn at_line(text: &[u8], few: Few, starts: &[usize], ends: &[usize], table: Table) -> Lined
+    requires { ⌜ (few .start ≤ few .end) × (few .end ≤ length (now text)) × Fit table × Named (now text) (now starts) (now ends) ⌝ }
+    ensures { λ r. ⌜ ((left : List ℕ) (rules : List Rule) (l : Line) → Shaped (few .count) (part (now (text .entry)) (few .start) (few .end - few .start)) (part (now (text .entry)) (few .from) (few .to - few .from)) l → lineSaid (now (text .entry)) (now (starts .entry)) (now (ends .entry)) left rules r ≡ atLine (draftOf (now (text .entry)) (now (starts .entry)) (now (ends .entry)) left table rules) l) × Fit (r .table) ⌝ }
 {
     if few.count != 1 {
         return Lined { refusal: 30, table };
@@ -48,7 +42,7 @@ pub fn at_line(text: &[u8], few: Few, pstarts: &[usize], pends: &[usize], table:
     let a = few.start;
     let b = few.end;
     let places = table.places;
-    let k = find_name(text, pstarts, pends, places, &text[a..b]);
+    let k = find_from(text, starts, ends, 12, places, &text[a..b]);
     if places <= k {
         return Lined { refusal: 31, table };
     }

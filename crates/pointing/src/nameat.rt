@@ -1,7 +1,6 @@
 // Where a name stands in the text, for tools.
 use compiling::lines::next_line;
-use compiling::lines::read_lines;
-use compiling::reader::own_refusal;
+use compiling::reader::judge;
 use words::firsts::word_in;
 use words::keywords::keyword;
 use words::words::line_end;
@@ -120,24 +119,12 @@ fn find_named(text: &[u8], kind: usize, i: usize) -> NameAt
 fn name_of(text: &[u8], kind: usize, i: usize) -> NameAt
     ensures { λ r. ⌜ NameAtPromise kind (now (text .entry)) i r ⌝ }
 {
-    let mut pstarts = [0usize; 64];
-    let mut pends = [0usize; 64];
-    let said = read_lines(text, &mut pstarts, &mut pends);
-    if said.refusal != 0 {
+    let mut none = [0u8; 1];
+    let judged = judge(text, &mut none);
+    if !judged.good {
         return NameAt {
-            refusal: said.refusal,
-            line: said.line,
-            place: 0,
-            length: 0,
-        };
-    }
-    let table = said.table;
-    let ceilings = table.ceilings;
-    let own = own_refusal(ceilings, table.clocks, table.places);
-    if own != 0 {
-        return NameAt {
-            refusal: own,
-            line: 0,
+            refusal: judged.refusal,
+            line: judged.line,
             place: 0,
             length: 0,
         };

@@ -1,7 +1,6 @@
 // The line of a rule, for tools.
 use compiling::lines::next_line;
-use compiling::lines::read_lines;
-use compiling::reader::own_refusal;
+use compiling::reader::judge;
 use words::firsts::word_in;
 use words::keywords::keyword;
 use words::words::line_end;
@@ -60,22 +59,12 @@ fn find_rule(text: &[u8], i: usize) -> usize
 pub fn line_of_rule(text: &[u8], i: usize) -> RuleAt
     ensures { λ r. ⌜ RuleAtPromise (now (text .entry)) i r ⌝ }
 {
-    let mut pstarts = [0usize; 64];
-    let mut pends = [0usize; 64];
-    let said = read_lines(text, &mut pstarts, &mut pends);
-    if said.refusal != 0 {
+    let mut none = [0u8; 1];
+    let judged = judge(text, &mut none);
+    if !judged.good {
         return RuleAt {
-            refusal: said.refusal,
-            line: said.line,
-        };
-    }
-    let table = said.table;
-    let ceilings = table.ceilings;
-    let own = own_refusal(ceilings, table.clocks, table.places);
-    if own != 0 {
-        return RuleAt {
-            refusal: own,
-            line: 0,
+            refusal: judged.refusal,
+            line: judged.line,
         };
     }
     let line = find_rule(text, i);

@@ -7,27 +7,7 @@ use Rattle.compiling.proofs.lines.unread.Tie as tie
 
 returns : tie.Need-returns
 unfolding spans
-returns c = (
-  λ text starts ends. refl,
-  λ text. record {
-    inputs = omega arith;
-    outputs = omega arith;
-    order = omega arith;
-    clocks = omega arith;
-    places = omega arith;
-    first = λ h. refl;
-    tags-long = refl;
-    starts-long = refl;
-    ends-long = refl;
-    cstarts-long = refl;
-    cends-long = refl;
-    ceilings-long = refl;
-    left-long = refl;
-    names = λ k h. absurd (omega arith);
-    clock-names = λ k h. absurd (omega arith);
-  },
-  λ text starts ends h l. record { starts-long = h; ends-long = l; names = λ k z. absurd (omega arith) },
-)
+returns c = (λ text starts ends left. refl, record { inputs = omega arith; outputs = omega arith; order = omega arith; clocks = omega arith; places = omega arith; first = λ h. refl; tags-long = refl; ceilings-long = refl })
 
 pub unread-spec : {M : Type 1} → statement M
 unread-spec = tie.close (tie.spec returns)

@@ -1,19 +1,49 @@
 -- `compiling::ruleline::words_by` meets its contract.
-use mathlib.Core.Path.{sym}
+use mathlib.Core.Path.{refl, ap, sym, _∙_}
+use Prim.Native.Nat.{_-_}
+use native.Mathlib.Omega.{arith}
 use lib.Seq.{length-take-le}
 use denote.Ref.{now}
 use borrow.Author.Needs.{needs}
+use Rattle.policy.specs.File.{part}
+use Rattle.wording.specs.Words.{wordsOf}
+use Rattle.wording.specs.Names.{through}
+use Rattle.wording.specs.Reader.{Scope, bare, ruleWord}
+use Rattle.declarations.specs.Fresh.{within-behind, behind-long}
+use Rattle.compiling.specs.RuleLine.{scope-is}
 use Rattle.compiling.proofs.ruleline.words_by.Statement.{statement}
 use Rattle.compiling.proofs.ruleline.words_by.Tie as tie
 
+array-share-prefix-tags : tie.Need-array-share-prefix-tags
+array-share-prefix-tags c = let f = c .before .before .before .before .pre .2 in omega (arith, f .inputs, f .outputs)
+
 slice-aggregate-rule-words : tie.Need-slice-aggregate-rule-words
-slice-aggregate-rule-words c = let s = c .before .before .before .before .before .before .before .before .before .before in sym (length-take-le (s .args .signals) (now (s .args .tags)) (s .pre .0 .1))
+slice-aggregate-rule-words c =
+    let t = c .before .before .before .before .before .args .table in
+    let f = c .before .before .before .before .before .pre .2 in
+    sym (length-take-le (t .signals) (t .tags) (omega (arith, f .inputs, f .outputs, f .tags-long)))
 
 rule-words-requires : tie.Need-rule-words-requires
 rule-words-requires c κs =
-    let s = c .before .before .before .before .before .before .before .before .before .before in
-    let long = length-take-le (s .args .signals) (now (s .args .tags)) (s .pre .0 .1) in
-    (rw long (s .pre .0 .0, s .pre .0 .2, s .pre .0 .3, s .pre .0 .4), s .pre .1)
+    let a = c .before .before .before .before .before .before .before .before .before .before .args in
+    let t = a .table in
+    let f = c .before .before .before .before .before .before .before .before .before .before .pre .2 in
+    let p = c .before .before .before .before .before .before .before .before .before .before .pre .3 in
+    let long = length-take-le (t .signals) (t .tags) (omega (arith, f .inputs, f .outputs, f .tags-long)) in (
+      rw long (omega (arith, f .inputs, f .outputs), omega (arith, f .inputs, f .outputs, p .starts-long), omega (arith, f .inputs, f .outputs, p .ends-long), λ k h. p .within k (omega (arith, f .inputs, f .outputs))),
+      ((f .clocks, behind-long 8 (t .clocks) (now (a .starts)) (omega (arith, f .clocks, p .starts-long)), behind-long 8 (t .clocks) (now (a .ends)) (omega (arith, f .clocks, p .ends-long)), within-behind (now (a .text)) (now (a .starts)) (now (a .ends)) (p .within) 8 (t .clocks) (omega (arith, f .clocks))), (f .places, behind-long 12 (t .places) (now (a .starts)) (omega (arith, f .places, p .starts-long)), behind-long 12 (t .places) (now (a .ends)) (omega (arith, f .places, p .ends-long)), within-behind (now (a .text)) (now (a .starts)) (now (a .ends)) (p .within) 12 (t .places) (omega (arith, f .places)))),
+    )
+
+returns : tie.Need-returns
+returns c =
+    let a = c .before .before .before .before .before .before .before .before .before .before .before .args in
+    let step = c .rule-words .ensures in
+    (λ left rules. step .0 ∙ ap (λ (sc : Scope). through (ruleWord sc) (bare (a .table .clocks)) (wordsOf (part (now (a .text)) (a .at) (a .end - a .at)))) (scope-is (now (a .text)) (now (a .starts)) (now (a .ends)) left (c .before .before .before .before .before .before .before .before .before .before .before .pre .2) rules refl), step .1)
 
 pub words-by-spec : {M : Type 1} → statement M
-words-by-spec = tie.close (tie.spec slice-aggregate-rule-words rule-words-requires (λ c. search needs))
+words-by-spec =
+    tie.close
+    (tie.spec
+    array-share-prefix-tags slice-aggregate-rule-words (λ c. search needs) (λ c. search needs) (λ c. search needs) (λ c. search needs)
+    (λ c. search needs) (λ c. search needs) (λ c. search needs) (λ c. search needs) (λ c. search needs) (λ c. search needs) (λ c. search needs)
+    (λ c. search needs) (λ c. search needs) (λ c. search needs) (λ c. search needs) rule-words-requires returns)

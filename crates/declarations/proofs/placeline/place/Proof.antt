@@ -1,57 +1,38 @@
 -- `declarations::placeline::place` meets its contract.
 use mathlib.Core.Path.{ap, sym, _∙_}
-use Prim.Native.Nat.{_-_}
+use Prim.Native.Nat.{ℕ, _-_}
 use denote.Ref.{now}
-use borrow.Author.Tests.{not-true, not-false}
 use borrow.Author.Needs.{needs}
 use Rattle.streams.specs.Answer.{gives}
 use Rattle.policy.specs.File.{part}
-use Rattle.declarations.specs.Fresh.{spans-long}
-use Rattle.declarations.specs.Table.{placeNames, draftOf}
-use Rattle.declarations.specs.PlaceLine.{place-late, place-unnamed, place-taken, place-full, place-given}
+use Rattle.declarations.specs.Fresh.{refuse, refusing}
+use Rattle.declarations.specs.Table.{draftOf}
+use Rattle.declarations.specs.PlaceLine.{withPlace}
 use Rattle.declarations.proofs.placeline.place.Statement.{statement}
 use Rattle.declarations.proofs.placeline.place.Tie as tie
 
 returns : tie.Need-returns
 returns c =
-    let s = c .before .before .before .before .before in
+    let s = c .before .before .before .before .before .before .before .before in
     let a = s .args in
-    let names = placeNames (now (a .text)) (now (a .pstarts)) (now (a .pends)) (a .table) in
-    (λ rules. place-late (draftOf (now (a .text)) names (a .table) rules) (part (now (a .text)) (a .a) (a .b - a .a)) (a .byte) (c .if1 .taken), s .pre .2, s .pre .3)
+    let q = c .before .place-refusal in
+    (λ rules. refusing (q .result) (draftOf (now (a .text)) (now (a .starts)) (now (a .ends)) (now (a .left)) (a .table) rules) (gives (withPlace (draftOf (now (a .text)) (now (a .starts)) (now (a .ends)) (now (a .left)) (a .table) rules) (part (now (a .text)) (a .a) (a .b - a .a)) (a .byte))) (c .if1 .taken) ∙ sym (q .ensures .0 (now (a .left)) rules (a .byte)), s .pre .2, s .pre .3)
+
+add-place-requires : tie.Need-add-place-requires
+add-place-requires c κs =
+    let s = c .before .before .before .before .before .before .before .before .before .before .before in
+    (s .pre .0, s .pre .1, c .before .before .before .before .place-refusal .ensures .1 (c .before .before .before .if1 .left), s .pre .2, s .pre .3, s .pre .4)
 
 returns-2 : tie.Need-returns-2
 returns-2 c =
-    let s = c .before .before .before .before .before .before .before .before in
-    let a = s .args in
-    let names = placeNames (now (a .text)) (now (a .pstarts)) (now (a .pends)) (a .table) in
-    (λ rules. place-unnamed (draftOf (now (a .text)) names (a .table) rules) (part (now (a .text)) (a .a) (a .b - a .a)) (a .byte) (c .before .before .before .if1 .left) (sym (c .before .is-name .ensures) ∙ not-true _ (c .if2 .taken)), s .pre .2, s .pre .3)
-
-returns-3 : tie.Need-returns-3
-returns-3 c =
-    let s = c .before .before .before .before .before .before .before .before .before .before .before .before .before in
-    let a = s .args in
-    let names = placeNames (now (a .text)) (now (a .pstarts)) (now (a .pends)) (a .table) in
-    (λ rules. place-taken (draftOf (now (a .text)) names (a .table) rules) (part (now (a .text)) (a .a) (a .b - a .a)) (a .byte) (c .before .before .before .before .before .before .before .before .if1 .left) (sym (c .before .before .before .before .before .before .is-name .ensures) ∙ not-false _ (c .before .before .before .before .before .if2 .left)) (c .before .find-name .ensures) (c .if3 .taken), s .pre .2, s .pre .3)
-
-returns-4 : tie.Need-returns-4
-returns-4 c =
-    let s = c .before .before .before .before .before .before .before .before .before .before .before .before .before .before in
-    let a = s .args in
-    let names = placeNames (now (a .text)) (now (a .pstarts)) (now (a .pends)) (a .table) in
-    (λ rules. place-full (draftOf (now (a .text)) names (a .table) rules) (part (now (a .text)) (a .a) (a .b - a .a)) (a .byte) (c .before .before .before .before .before .before .before .before .before .if1 .left) (sym (c .before .before .before .before .before .before .before .is-name .ensures) ∙ not-false _ (c .before .before .before .before .before .before .if2 .left)) (c .before .before .find-name .ensures) (c .before .if3 .left) (rw (spans-long (now (a .text)) (now (a .pstarts)) (now (a .pends)) 0 (a .table .places)) (c .if4 .taken)), s .pre .2, s .pre .3)
-
-returns-5 : tie.Need-returns-5
-returns-5 c =
-    let s = c .before .before .before .before .before .before .before .before .before .before .before .before .before .before .before .before .before .before .before .before .before in
-    let a = s .args in
-    let names = placeNames (now (a .text)) (now (a .pstarts)) (now (a .pends)) (a .table) in
-    let more = c .before .before .before .before .add-place .ensures in
-    (λ rules. ap gives (more .0 rules) ∙ place-given (draftOf (now (a .text)) names (a .table) rules) (part (now (a .text)) (a .a) (a .b - a .a)) (a .byte) (c .before .before .before .before .before .before .before .before .before .before .before .before .before .before .before .before .if1 .left) (sym (c .before .before .before .before .before .before .before .before .before .before .before .before .before .before .is-name .ensures) ∙ not-false _ (c .before .before .before .before .before .before .before .before .before .before .before .before .before .if2 .left)) (c .before .before .before .before .before .before .before .before .before .find-name .ensures) (c .before .before .before .before .before .before .before .before .if3 .left) (rw (spans-long (now (a .text)) (now (a .pstarts)) (now (a .pends)) 0 (a .table .places)) (c .before .before .before .before .before .before .before .if4 .left)), more .1, more .2)
+    let a = c .before .before .before .before .before .before .before .before .before .before .before .before .before .before .before .before .before .before .args in
+    let q = c .before .before .before .before .before .before .before .before .before .before .before .place-refusal in
+    let more = c .before .before .before .before .before .before .add-place .ensures in
+    (λ rules. ap gives (more .0 rules) ∙ sym (q .ensures .0 (now (a .left)) rules (a .byte) ∙ ap (λ (n : ℕ). refuse n (gives (withPlace (draftOf (now (a .text)) (now (a .starts)) (now (a .ends)) (now (a .left)) (a .table) rules) (part (now (a .text)) (a .a) (a .b - a .a)) (a .byte)))) (c .before .before .before .before .before .before .before .before .before .before .if1 .left)), more .1, more .2)
 
 pub place-spec : {M : Type 1} → statement M
 place-spec =
     tie.close
     (tie.spec
-    returns (λ c. search needs) (λ c. search needs) (λ c. search needs) (λ c κs. search needs) returns-2 (λ c. search needs) (λ c. search needs)
-    (λ c. search needs) (λ c κs. search needs) (λ c. search needs) (λ c. search needs) returns-3 (λ c. search needs) (λ c. search needs) returns-4
-    (λ c κs. search needs) (λ c. search needs) (λ c. search needs) returns-5)
+    (λ c κs. search needs) (λ c. search needs) (λ c. search needs) returns add-place-requires (λ c. search needs) (λ c. search needs)
+    (λ c. search needs) returns-2)

@@ -6,21 +6,22 @@ use lib.ListN.{take}
 use denote.Ref.{now}
 use borrow.Author.Needs.{needs}
 use Rattle.policy.specs.File.{part}
-use Rattle.declarations.specs.SignalLine.{wanted, nameFound, tag-not, tag-named, tag-full, tag-given}
+use Rattle.declarations.specs.Fresh.{nameFound}
+use Rattle.declarations.specs.SignalLine.{wanted, tag-not, tag-named, tag-full, tag-given}
 use Rattle.declarations.proofs.signalline.signal_tag.Statement.{statement}
 use Rattle.declarations.proofs.signalline.signal_tag.Tie as tie
 
 returns : tie.Need-returns
 returns c =
-    let a = c .before .before .before .before .before .before .args in
+    let a = c .before .before .before .before .before .before .before .before .args in
     let w = part (now (a .text)) (a .few .start) (a .few .end - a .few .start) in
     let t = c .before .before .letter-of in
     let before = take (a .table .signals) (a .table .tags) in
-    (tag-not before (a .count) w (t .result .refusal) (t .result .value) (t .ensures) (wanted (a .few .count) (nameFound (now (a .text)) (a .table) (part (now (a .text)) (a .few .from) (a .few .to - a .few .from)))) (c .if1 .taken), λ z. absurd (c .if1 .taken z))
+    (tag-not before (a .count) w (t .result .refusal) (t .result .value) (t .ensures) (wanted (a .few .count) (nameFound (now (a .text)) (now (a .starts)) (now (a .ends)) (a .table) (part (now (a .text)) (a .few .from) (a .few .to - a .few .from)))) (c .if1 .taken), λ z. absurd (c .if1 .taken z))
 
 returns-2 : tie.Need-returns-2
 returns-2 c =
-    let a = c .before .before .before .before .before .before .before .before .args in
+    let a = c .before .before .before .before .before .before .before .before .before .before .args in
     let w = part (now (a .text)) (a .few .start) (a .few .end - a .few .start) in
     let t = c .before .before .before .before .letter-of in
     let before = take (a .table .signals) (a .table .tags) in
@@ -28,7 +29,7 @@ returns-2 c =
 
 returns-3 : tie.Need-returns-3
 returns-3 c =
-    let a = c .before .before .before .before .before .before .before .before .before .args in
+    let a = c .before .before .before .before .before .before .before .before .before .before .before .args in
     let w = part (now (a .text)) (a .few .start) (a .few .end - a .few .start) in
     let t = c .before .before .before .before .before .letter-of in
     let before = take (a .table .signals) (a .table .tags) in
@@ -36,7 +37,7 @@ returns-3 c =
 
 returns-4 : tie.Need-returns-4
 returns-4 c =
-    let a = c .before .before .before .before .before .before .before .before .before .args in
+    let a = c .before .before .before .before .before .before .before .before .before .before .before .args in
     let w = part (now (a .text)) (a .few .start) (a .few .end - a .few .start) in
     let t = c .before .before .before .before .before .letter-of in
     let before = take (a .table .signals) (a .table .tags) in
