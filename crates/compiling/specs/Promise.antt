@@ -12,7 +12,7 @@ use borrow.Author.Tests.{le-leb, lt-leb}
 use Rattle.streams.specs.Answer.{_orElse_, unless}
 use Rattle.policy.specs.Rules.{Rule, Policy}
 use Rattle.policy.specs.File.{ruleSize}
-use Rattle.policy.specs.Number.{statesOf, states}
+use Rattle.policy.specs.Number.{statesOf}
 use Rattle.policy.specs.Check.{refusalOf}
 use Rattle.policy.specs.Checked.{ceiling-at}
 use Rattle.policy.specs.Bytes.{bytesOf, countsBytes, rulesBytes}
@@ -59,15 +59,15 @@ isRead (stops n line) = false
 isRead (reads f) = true
 
 pub record JudgePromise (text before : List ℕ) (r : Judged) (after : List ℕ) : Type 0 where
-  pub read : ReadTextPromise text before (record { refusal = r .refusal; line = r .line; length = r .length }) after
+  pub read : ReadTextPromise text before (r .read) after
   pub good : r .good ≡ isRead (fileFromText text)
 
 -- What a judgement says of the text.
 module _ {text before after : List ℕ} {r : Judged} (w : JudgePromise text before r after) where
-  pub judged-not : r .good ≡ false → fileFromText text ≡ stops (r .refusal) (r .line)
+  pub judged-not : r .good ≡ false → fileFromText text ≡ stops (r .read .refusal) (r .read .line)
   judged-not e = go (fileFromText text) refl
     where
-      go : (x : FromText (List ℕ)) → fileFromText text ≡ x → fileFromText text ≡ stops (r .refusal) (r .line)
+      go : (x : FromText (List ℕ)) → fileFromText text ≡ x → fileFromText text ≡ stops (r .read .refusal) (r .read .line)
       go (stops n line) k =
           let s = sym (w .read .says ∙ ap (λ (y : FromText (List ℕ)). answered (fitted before y)) k) in
           k ∙ (λ i. stops (s i .refusal) (s i .line))
@@ -84,10 +84,10 @@ module _ (text before : List ℕ) where
   promised : {x : FromText (List ℕ)} → fitted before (fileFromText text) ≡ x → {r : ReadText} {after : List ℕ} → r ≡ answered x → after ≡ filled before x → ReadTextPromise text before r after
   promised e a b = record { says = a ∙ ap answered (sym e); writes = b ∙ ap (filled before) (sym e) }
 
-  stopped : {n line : ℕ} → fileFromText text ≡ stops n line → JudgePromise text before (record { refusal = n; line = line; length = 0; good = false }) before
+  stopped : {n line : ℕ} → fileFromText text ≡ stops n line → JudgePromise text before (record { read = record { refusal = n; line = line; length = 0 }; good = false }) before
   stopped e = record { read = promised (ap (fitted before) e) refl refl; good = sym (ap isRead e) }
 
-  pub read-stopped : {n line : ℕ} → readLines 1 empty (linesOf text) ≡ stops n line → JudgePromise text before (record { refusal = n; line = line; length = 0; good = false }) before
+  pub read-stopped : {n line : ℕ} → readLines 1 empty (linesOf text) ≡ stops n line → JudgePromise text before (record { read = record { refusal = n; line = line; length = 0 }; good = false }) before
   unfolding fileFromText policyFromText
   read-stopped e = stopped (ap (λ (x : FromText Draft). filed (saidBy 1 x)) e)
 
@@ -143,7 +143,7 @@ module _ (text before : List ℕ) where
         let body : length (p .rules) * ruleSize (length (p .ceilings)) ≡ count * (7 + 4 * t .clocks) = (λ j. many j * ruleSize (c j)) in
         omega (arith, nearly-length p (good-nearly 1 d good), inputs-long f, outputs-long f, c, named, body, f .order)
 
-    pub read-own : {n : ℕ} → n ≡ ownRefusal → (n ≡ 0 → ⊥) → JudgePromise text before (record { refusal = n; line = 0; length = 0; good = false }) before
+    pub read-own : {n : ℕ} → n ≡ ownRefusal → (n ≡ 0 → ⊥) → JudgePromise text before (record { read = record { refusal = n; line = 0; length = 0 }; good = false }) before
     read-own {n} e z = stopped (go n z (file-is ∙ ap (λ (m : ℕ). passed m (bytesOf p)) (own-is ∙ sym e)))
       where
         go : (m : ℕ) → (m ≡ 0 → ⊥) → fileFromText text ≡ passed m (bytesOf p) → fileFromText text ≡ stops m 0
@@ -157,7 +157,7 @@ module _ (text before : List ℕ) where
       with-room : {b : Bool} → leb (length (bytesOf p)) (length before) ≡ b → fitted before (fileFromText text) ≡ cond b (reads (bytesOf p)) (stops 14 0)
       with-room h = ap (fitted before) file-read ∙ ap (λ (b : Bool). cond b (reads (bytesOf p)) (stops 14 0)) h
 
-      pub read-short : length before < fileLength → JudgePromise text before (record { refusal = 14; line = 0; length = 0; good = true }) before
+      pub read-short : length before < fileLength → JudgePromise text before (record { read = record { refusal = 14; line = 0; length = 0 }; good = true }) before
       read-short h = record { read = promised (with-room (lt-leb (length (bytesOf p)) (length before) (omega (arith, file-long)))) refl refl; good = sym (ap isRead file-read) }
 
       -- The counts, then the rules.
@@ -168,7 +168,7 @@ module _ (text before : List ℕ) where
           omega (arith, file-long, length-append (countsBytes p) (rulesBytes rules), c)
 
       pub read-whole : fileLength ≤ length before → {middle after : List ℕ} {from end : ℕ} → Wrote before 0 (countsOf left t count) from middle → Wrote middle from (rulesBytes rules) end after →
-          JudgePromise text before (record { refusal = 0; line = 0; length = end; good = true }) after
+          JudgePromise text before (record { read = record { refusal = 0; line = 0; length = end }; good = true }) after
       unfolding bytesOf policyFrom
       read-whole h {after = after} {end = end} w v =
           let c = counts-are text starts ends left f rules count many in

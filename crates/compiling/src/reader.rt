@@ -40,15 +40,13 @@ fn file_length(signals: usize, clocks: usize, places: usize, count: usize) -> us
     6 + signals + 2 * clocks + places + count * (7 + 4 * clocks)
 }
 
-// As ReadText; and whether the text is a policy's, with room for its file or without.
+// The answer; and whether the text is a policy's, with room for its file or without.
 pub struct Judged {
-    pub refusal: u8,
-    pub line: usize,
-    pub length: usize,
+    pub read: ReadText,
     pub good: bool,
 }
 
-// Writes the file of the text.
+// Writes the file of the text, if there is room for it.
 pub fn judge(text: &[u8], out: &mut [u8]) -> Judged
     ensures { λ r. ⌜ JudgePromise (now (text .entry)) (now (out .entry)) r (now (out .exit)) ⌝ }
 {
@@ -59,9 +57,11 @@ pub fn judge(text: &[u8], out: &mut [u8]) -> Judged
     let said = read_lines(text, &mut kept, &mut starts, &mut ends, &mut left);
     if said.refusal != 0 {
         return Judged {
-            refusal: said.refusal,
-            line: said.line,
-            length: 0,
+            read: ReadText {
+                refusal: said.refusal,
+                line: said.line,
+                length: 0,
+            },
             good: false,
         };
     }
@@ -70,9 +70,11 @@ pub fn judge(text: &[u8], out: &mut [u8]) -> Judged
     let own = own_refusal(ceilings, table.clocks, table.places);
     if own != 0 {
         return Judged {
-            refusal: own,
-            line: 0,
-            length: 0,
+            read: ReadText {
+                refusal: own,
+                line: 0,
+                length: 0,
+            },
             good: false,
         };
     }
@@ -80,30 +82,29 @@ pub fn judge(text: &[u8], out: &mut [u8]) -> Judged
     let length = file_length(table.signals, table.clocks, table.places, count);
     if out.len() < length {
         return Judged {
-            refusal: 14,
-            line: 0,
-            length: 0,
+            read: ReadText {
+                refusal: 14,
+                line: 0,
+                length: 0,
+            },
             good: true,
         };
     }
     let from = put_counts(out, &left, table, count);
     let used = said.used;
     Judged {
-        refusal: 0,
-        line: 0,
-        length: put_bytes(out, from, &kept[..used]),
+        read: ReadText {
+            refusal: 0,
+            line: 0,
+            length: put_bytes(out, from, &kept[..used]),
+        },
         good: true,
     }
 }
 
-// Writes the file of the text.
 pub fn read(text: &[u8], out: &mut [u8]) -> ReadText
     ensures { λ r. ⌜ ReadTextPromise (now (text .entry)) (now (out .entry)) r (now (out .exit)) ⌝ }
 {
     let judged = judge(text, out);
-    ReadText {
-        refusal: judged.refusal,
-        line: judged.line,
-        length: judged.length,
-    }
+    judged.read
 }

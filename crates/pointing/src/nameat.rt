@@ -123,8 +123,8 @@ fn name_of(text: &[u8], kind: usize, i: usize) -> NameAt
     let judged = judge(text, &mut none);
     if !judged.good {
         return NameAt {
-            refusal: judged.refusal,
-            line: judged.line,
+            refusal: judged.read.refusal,
+            line: judged.read.line,
             place: 0,
             length: 0,
         };

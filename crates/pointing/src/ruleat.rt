@@ -63,8 +63,8 @@ pub fn line_of_rule(text: &[u8], i: usize) -> RuleAt
     let judged = judge(text, &mut none);
     if !judged.good {
         return RuleAt {
-            refusal: judged.refusal,
-            line: judged.line,
+            refusal: judged.read.refusal,
+            line: judged.read.line,
         };
     }
     let line = find_rule(text, i);
