@@ -8,7 +8,7 @@ ghost use Rattle.texts.specs.Wrote.{Wrote};
 ghost use Rattle.conditions.specs.Steps.{Masked};
 ghost use Rattle.compiling.specs.Stored.{takenBytes};
 
-// 23 bytes are enough for any.
+// Where the line is one. 23 bytes are enough for any.
 pub(crate) fn keep_rule(kept: &mut [u8], used: usize, taken: Taken) -> usize
     requires { ⌜ (taken .rule ≤ 1) × (taken .rule ≡ 1 → (taken .table .source < 64) × (used + 23 ≤ length (now kept))) × (taken .table .inputs ≤ 4) × (taken .table .clocks ≤ 4) × Masked (taken .parsed) ⌝ }
     ensures { λ r. ⌜ Wrote (now (kept .entry)) used (takenBytes taken) r (now (kept .exit)) × (r ≤ used + 23 * taken .rule) ⌝ }

@@ -12,8 +12,9 @@ ghost use Rattle.wording.specs.Reader.{atLine};
 ghost use Rattle.words.specs.Firsts.{Shaped};
 ghost use Rattle.declarations.specs.Table.{draftOf, lineSaid, Fit, Named};
 
-// Names stand in the text from their start to their end. These places are in two slices beside the table, `starts` and `ends`: the signals' from 0 on, the inputs
-// first, none where both are the same; the clocks' from 8 on; the locations' from 12 on. A third slice, `left`, has a byte for each location. A source of 64 is none.
+// Names stand in the text from their start to their end. These places are in two slices beside the table, `starts` and `ends`: the signals' from 0 on, the
+// inputs first, none where both are the same; the clocks' from 8 on; the locations' from 12 on. A third slice, `left`, has a byte for each location. They would
+// be nearly all of the table, and it goes by value. A source of 64 is none.
 pub struct Table {
     pub tags: [u8; 8],
     pub ceilings: [u16; 4],
