@@ -1,14 +1,14 @@
 -- The laws of demand 3 are not empty: joins are made.
--- In order: what nothing refuses is made; A with the policy that permits all, for every A that passes the check; three policies, grouped either way.
-use mathlib.Core.Path.{_≡_, refl, sym, subst}
+use mathlib.Core.Path.{_≡_, refl, sym, ap, subst}
 use mathlib.Core.Bool.{Bool, true, false, cond}
 use mathlib.Core.List.{List, [], _∷_}
 use Prim.Native.Nat.{ℕ, zero, suc, _+_, _*_, _/_, _%_, _≤_, zero-le}
 use native.Mathlib.Nat.{mul-one, le-refl}
+use native.Mathlib.Numerals.{add-one}
 use native.Mathlib.Omega.{arith}
 use lib.Dec.{ltb, eqb}
 use lib.ListN.{length, take, replicate, length-append}
-use borrow.Author.Tests.{le-leb, ltb-true, ltb-false, eqb-true}
+use borrow.Author.Tests.{le-leb}
 use Rattle.streams.specs.Answer.{gives}
 use Rattle.policy.specs.Rules.{Rule, Policy}
 use Rattle.policy.specs.Rules as Rules
@@ -19,6 +19,8 @@ use Rattle.policy.specs.Sound.{WellFormed}
 use Rattle.policy.specs.Frame.{frame, longest}
 use Rattle.policy.specs.Checked.{checked-file}
 use Rattle.policy.specs.WrittenPasses.{written-passes}
+use Rattle.index.specs.Index.{count, lower, number}
+use Rattle.index.specs.Names.{count-le, lower-next}
 use Rattle.pairing.specs.Join.{of, agree, both, pair, each, cell, rows, join}
 use Rattle.join.specs.Free.{always, free, freeFile}
 use Rattle.join.specs.FreeLaws.{free-well, free-read}
@@ -71,47 +73,27 @@ module _ (k n at : ℕ) where
   cell-few [] ss h = zero-le
   cell-few (r ∷ rs) ss h = rw length-append (omega (arith, each-few r ss, cell-few rs ss h))
 
--- How many rules have a source below m: those of the location m are not among them.
-below : ℕ → List Rule → ℕ
-below m [] = 0
-below m (r ∷ rs) = cond (ltb (r .source) m) (suc (below m rs)) (below m rs)
-
-below-le : (m : ℕ) (rs : List Rule) → below m rs ≤ length rs
-unfolding below
-below-le m [] = zero-le
-below-le m (r ∷ rs) = go (ltb (r .source) m) (below-le m rs)
+-- The rules of a location are as many as the index says.
+of-number : (m : ℕ) (rs : List Rule) → length (of m rs) ≡ number m rs
+unfolding of count
+of-number m [] = refl
+of-number m (r ∷ rs) = go (eqb (r .source) m) (of-number m rs)
   where
-    go : (t : Bool) → below m rs ≤ length rs → cond t (suc (below m rs)) (below m rs) ≤ suc (length rs)
-    go true h = omega arith
-    go false h = omega arith
-
-of-below : (m : ℕ) (rs : List Rule) → below m rs + length (of m rs) ≤ below (suc m) rs
-unfolding below of
-of-below m [] = zero-le
-of-below m (r ∷ rs) = go (ltb (r .source) m) (eqb (r .source) m) (ltb (r .source) (suc m)) refl refl refl (of-below m rs)
-  where
-    go : (t u v : Bool) → ltb (r .source) m ≡ t → eqb (r .source) m ≡ u → ltb (r .source) (suc m) ≡ v →
-        below m rs + length (of m rs) ≤ below (suc m) rs →
-        cond t (suc (below m rs)) (below m rs) + length (cond u (r ∷ of m rs) (of m rs)) ≤ cond v (suc (below (suc m) rs)) (below (suc m) rs)
-    go true true v a b c h = absurd (omega (arith, ltb-true (r .source) m a, eqb-true (r .source) m b))
-    go true false true a b c h = omega arith
-    go true false false a b c h = absurd (omega (arith, ltb-true (r .source) m a, ltb-false (r .source) (suc m) c))
-    go false true true a b c h = omega arith
-    go false true false a b c h = absurd (omega (arith, eqb-true (r .source) m b, ltb-false (r .source) (suc m) c))
-    go false false true a b c h = omega arith
-    go false false false a b c h = omega arith
+    go : (t : Bool) → length (of m rs) ≡ number m rs → length (cond t (r ∷ of m rs) (of m rs)) ≡ cond t (suc (number m rs)) (number m rs)
+    go true h = ap suc h
+    go false h = h
 
 of-few : (m : ℕ) (rs : List Rule) → length (of m rs) ≤ length rs
-of-few m rs = omega (arith, of-below m rs, below-le (suc m) rs)
+of-few m rs = rw (of-number m rs) (count-le _ rs)
 
 -- Joined with a policy of one location and at most one rule, A has no more rules than before.
-rows-few : (k : ℕ) (rs ss : List Rule) (m : ℕ) → length ss ≤ 1 → length (rows k 1 rs ss m) ≤ below m rs
+rows-few : (k : ℕ) (rs ss : List Rule) (m : ℕ) → length ss ≤ 1 → length (rows k 1 rs ss m) ≤ lower m rs
 unfolding rows
 rows-few k rs ss zero h = zero-le
 rows-few k rs ss (suc m) h =
     let e : m / 1 ≡ m = omega arith in
     let one : length (of (m % 1) ss) ≤ 1 = omega (arith, of-few (m % 1) ss) in
-    rw (e, length-append) (omega (arith, rows-few k rs ss m h, cell-few k 1 m (of m rs) (of (m % 1) ss) one, of-below m rs))
+    rw (e, length-append) (omega (arith, rows-few k rs ss m h, cell-few k 1 m (of m rs) (of (m % 1) ss) one, of-number m rs, rw add-one at (lower-next m rs)))
 
 fits-of : (q : Policy) → q .locations ≤ 64 → length (q .ceilings) ≤ 4 → length (q .rules) ≤ 256 → states q ≤ 65536 → joinFits q ≡ true
 unfolding joinFits
@@ -133,7 +115,7 @@ module _ (p : Policy) (w : WellFormed p) where
   unfolding join
   rules-fit =
       let m = p .locations * 1 in
-      omega (arith, rows-few (length (p .ceilings)) (p .rules) (always ∷ []) m (le-refl 1), below-le m (p .rules), w .ruleCount)
+      omega (arith, rows-few (length (p .ceilings)) (p .rules) (always ∷ []) m (le-refl 1), count-le (λ r. ltb (r .source) m) (p .rules), w .ruleCount)
 
   one-state : states unit ≡ 1
   unfolding statesOf
