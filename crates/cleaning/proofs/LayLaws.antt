@@ -17,13 +17,13 @@ use Rattle.policy.specs.Bytes.{pairBytes, pairsBytes, ruleBytes, rulesBytes, co
 use Rattle.policy.specs.Sound.{Each, each-more, each-weak}
 use Rattle.policy.specs.Frame.{Framed, frame, rules-length, inputs-length, outputs-length, pairs-length, bounds-length}
 use Rattle.policy.specs.Checked.{well-ruled}
-use Rattle.policy.specs.Parts.{rules-part}
+use Rattle.policy.specs.Parts.{rules-part, next-rule, no-rule}
 use Rattle.policy.specs.ReadBack.{rule-length}
 use Rattle.policy.specs.declared.Layout.{Layout}
 use Rattle.stepping.specs.Ready.{Laid}
 use Rattle.stepping.specs.Laid.{laid-well, laid-rules, laid-section, laid-limits}
 use Rattle.laying.specs.Lay.{bytesFrom}
-use Rattle.laying.specs.Laying.{pairs-copied, bounds-copied, bytes-add, bytes-part, signals-laid, next-rule, no-rule}
+use Rattle.laying.specs.Laying.{pairs-copied, bounds-copied, bytes-add, bytes-part, signals-laid}
 use Rattle.usage.specs.Sift.{sift, rank, kept}
 use Rattle.cleaning.specs.SiftLaws.{length-sift, rank-full}
 use Rattle.usage.specs.Clean.{Struck, renamed, renumbered, unlessKept, locationsStruck, rulesStruck, struckBytes}

@@ -18,7 +18,7 @@ use Rattle.policy.specs.Sound.{Each, each-none, each-more, each-weak}
 use Rattle.policy.specs.Frame.{frame, rules-length}
 use Rattle.policy.specs.Checked.{Rising, rising-none, rising-more, checked-file, well-rising, well-ruled}
 use Rattle.policy.specs.Parts.{rules-drop}
-use Rattle.policy.specs.Own.{below, level, ownOf}
+use Rattle.policy.specs.Own.{below, ownOf, own-length, below-next}
 use Rattle.index.specs.declared.entry.Entry.{Entry}
 use Rattle.index.specs.Index.{count, lower, number, entryOf, entries, indexOf}
 
@@ -70,24 +70,6 @@ module _ (a : ℕ) where
   lower-high l (rising-more {r = r} {rs = rs} h k) =
       let m : a ≤ r .source = omega arith in rw (le-ltb (r .source) a m) (lower-high m k)
 
-  number-high : {b : ℕ} {rs : List Rule} → a < b → Rising b rs → number a rs ≡ 0
-  unfolding count
-  number-high l rising-none = refl
-  number-high l (rising-more {r = r} {rs = rs} h k) =
-      let m : a < r .source = omega arith in rw (ne-eqb (r .source) a (omega arith)) (number-high m k)
-
-  number-front : {b : ℕ} {rs : List Rule} → a ≤ b → Rising b rs → number a rs ≡ level a rs
-  unfolding count level
-  number-front l rising-none = refl
-  number-front l (rising-more {r = r} {rs = rs} h k) = let m : a ≤ r .source = omega arith in go (eqb (r .source) a) refl (number-front m k)
-    where
-      go : (t : Bool) → eqb (r .source) a ≡ t → number a rs ≡ level a rs →
-          cond t (suc (number a rs)) (number a rs) ≡ cond t (suc (level a rs)) 0
-      go true e ih = ap suc ih
-      go false e ih =
-          let d : r .source ≡ a → ⊥ = eqb-false (r .source) a e in
-          let n : a < r .source = omega arith in number-high n k
-
   -- Where sources never fall, the rules with a lower source are those in front.
   pub lower-below : {b : ℕ} {rs : List Rule} → Rising b rs → lower a rs ≡ below a rs
   unfolding count below
@@ -99,16 +81,8 @@ module _ (a : ℕ) where
       go true e ih = ap suc ih
       go false e ih = lower-high (ltb-false _ _ e) k
 
-  -- Where sources never fall, a location's rules come right after the lower ones.
-  pub number-level : {b : ℕ} {rs : List Rule} → Rising b rs → number a rs ≡ level a (drop (below a rs) rs)
-  unfolding count below level
-  number-level rising-none = refl
-  number-level (rising-more {r = r} {rs = rs} h k) = go (ltb (r .source) a) refl (number-level k)
-    where
-      go : (t : Bool) → ltb (r .source) a ≡ t → number a rs ≡ level a (drop (below a rs) rs) →
-          cond (eqb (r .source) a) (suc (number a rs)) (number a rs) ≡ level a (drop (cond t (suc (below a rs)) 0) (r ∷ rs))
-      go true e ih = rw (ne-eqb (r .source) a (omega (arith, ltb-true (r .source) a e))) ih
-      go false e ih = let m : a ≤ r .source = ltb-false _ _ e in number-front {b = a} (omega arith) (rising-more {before = a} {r = r} {rs = rs} m k)
+pub number-own : (a : ℕ) {b : ℕ} {rs : List Rule} → Rising b rs → number a rs ≡ below (a + 1) (drop (below a rs) rs)
+number-own a {rs = rs} k = omega (arith, lower-next a rs, below-next a rs, own-length a rs, lower-below a k, lower-below (a + 1) k)
 
 -- The i-th rule's source is at least the first one's.
 rising-at : {b : ℕ} {rs : List Rule} (i : ℕ) → Rising b rs → {r : Rule} {ss : List Rule} → drop i rs ≡ r ∷ ss → b ≤ r .source
@@ -265,7 +239,7 @@ module _ (f : List ℕ) (passes : refusalOf f ≡ 0) where
     pub index-own : record { start = getD (indexOf f) (2 * a) 0 * ruleSize (clockCount f); count = getD (indexOf f) (2 * a + 1) 0 } ≡ ownOf (clockCount f) a (rulesOf f)
     index-own =
         let first = at-index .0 ∙ lower-below a rising in
-        let many = at-index .1 ∙ number-level a rising in
+        let many = at-index .1 ∙ number-own a rising in
         λ i. record { start = first i * ruleSize (clockCount f); count = many i }
 
     -- Rule number i of the file has the location for its source exactly if it is one of those that the entry names.

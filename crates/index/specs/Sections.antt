@@ -13,10 +13,10 @@ use Rattle.policy.specs.File.{byteAt, part, ruleSize, rulesFrom, clockCount, lo
 use Rattle.policy.specs.Check.{refusalOf}
 use Rattle.policy.specs.Frame.{Framed, frame}
 use Rattle.policy.specs.Parts.{byte-part, rules-drop}
-use Rattle.policy.specs.Own.{level, ownOf}
+use Rattle.policy.specs.Own.{below, ownOf}
 use Rattle.policy.specs.declared.Layout.{Layout}
 use Rattle.index.specs.Index.{lower, number, indexOf}
-use Rattle.index.specs.Names.{lower-next, not-below, rising, lower-rules, lower-below, number-level, source-exactly, index-own}
+use Rattle.index.specs.Names.{lower-next, not-below, rising, lower-rules, lower-below, number-own, source-exactly, index-own}
 
 -- The file passes the check, and the layout has its locations, its clocks and its rules.
 pub record Sections (f : List ℕ) (l : Layout) : Type 0 where
@@ -49,22 +49,22 @@ module _ {f : List ℕ} {l : Layout} (k : Sections f l) where
   sections-rules = rw (sections-part, k .clocks, k .rules)
 
   -- Past the rules of lower locations those of the location come first.
-  pub sections-level : (a first : ℕ) → first ≡ lower a (rulesOf f) →
+  pub sections-number : (a first : ℕ) → first ≡ lower a (rulesOf f) →
       (first ≤ l .rules)
-      × (level a (rulesFrom (l .clocks) (part f (l .«rules_start») (l .«rules_end» - l .«rules_start»)) (first * ruleSize (l .clocks)) (l .rules - first)) ≡ number a (rulesOf f))
-  sections-level a first e =
+      × (below (a + 1) (rulesFrom (l .clocks) (part f (l .«rules_start») (l .«rules_end» - l .«rules_start»)) (first * ruleSize (l .clocks)) (l .rules - first)) ≡ number a (rulesOf f))
+  sections-number a first e =
       let few : first ≤ l .rules = omega (arith, lower-rules f (k .passes) a, k .rules) in
       let read = rules-drop (l .clocks) (part f (l .«rules_start») (l .«rules_end» - l .«rules_start»)) 0 first (l .rules) few in (
         few,
-        ap (λ (z : ℕ). level a (rulesFrom (l .clocks) (part f (l .«rules_start») (l .«rules_end» - l .«rules_start»)) z (l .rules - first))) (omega arith)
-            ∙ ap (level a) (sym read)
-            ∙ rw (sections-rules, e, lower-below a (rising f (k .passes))) (sym (number-level a (rising f (k .passes)))),
+        ap (λ (z : ℕ). below (a + 1) (rulesFrom (l .clocks) (part f (l .«rules_start») (l .«rules_end» - l .«rules_start»)) z (l .rules - first))) (omega arith)
+            ∙ ap (below (a + 1)) (sym read)
+            ∙ rw (sections-rules, e, lower-below a (rising f (k .passes))) (sym (number-own a (rising f (k .passes)))),
       )
 
   -- The rules of lower locations are at most 256, in at most 5,888 bytes.
   pub sections-passed : (a first : ℕ) → first ≡ lower a (rulesOf f) → (first ≤ 256) × (first * ruleSize (l .clocks) ≤ 256 * 23)
   sections-passed a first e =
-      let few : first ≤ 256 = omega (arith, sections-level a first e, sections-limits) in
+      let few : first ≤ 256 = omega (arith, sections-number a first e, sections-limits) in
       let size : ruleSize (l .clocks) ≤ 23 = omega (arith, sections-limits) in
       (few, mul-le-mul few size)
 

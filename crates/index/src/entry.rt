@@ -2,7 +2,7 @@
 use policy::Layout;
 use policy::limits::BOUND_SIZE;
 use policy::limits::RULE_HEAD;
-use policy::rules_level;
+use policy::rules_below;
 ghost use mathlib.Core.Path.{_≡_};
 ghost use Rattle.policy.specs.File.{rulesOf};
 ghost use Rattle.index.specs.Index.{lower, entryOf};
@@ -26,12 +26,12 @@ pub(crate) fn entry_at(file: &[u8], layout: Layout, location: usize, first: usiz
     }
     let start = layout.rules_start;
     let end = layout.rules_end;
-    let number = rules_level(
+    let number = rules_below(
         &file[start..end],
         first * (RULE_HEAD + BOUND_SIZE * layout.clocks),
         layout.rules - first,
         layout.clocks,
-        location,
+        location + 1,
     );
     Entry { first, number }
 }

@@ -142,17 +142,6 @@ module _ (f : List ℕ) (b : (i : ℕ) → byteAt f i < 256) where
       let s : at + 4 ≡ at + 2 + 2 = omega arith in
       rw (e, bounds-copied (at + 4) k, s, two-copied (at + 2) (4 * k)) (two-copied at (suc (suc (4 * k))))
 
--- The rules from the number i on: the first, and those after it.
-pub next-rule : (k : ℕ) (f : List ℕ) (at n i : ℕ) → i < n →
-    rulesFrom k f at (n - i) ≡ ruleFrom k f at ∷ rulesFrom k f (at + ruleSize k) (n - (i + 1))
-unfolding rulesFrom
-next-rule k f at n i h = let e : n - i ≡ suc (n - (i + 1)) = omega arith in rw e
-
--- After n rules none is left.
-pub no-rule : (k : ℕ) (f : List ℕ) (at n i : ℕ) → n ≤ i → rulesFrom k f at (n - i) ≡ []
-unfolding rulesFrom
-no-rule k f at n i h = let e : n - i ≡ 0 = omega arith in rw e
-
 -- The bytes of a file, part by part.
 pub bytes-add : (f : List ℕ) (at n m : ℕ) → bytesFrom f at (n + m) ≡ bytesFrom f at n ++ bytesFrom f (at + n) m
 unfolding bytesFrom

@@ -1,6 +1,6 @@
 -- Rules read within a part of the file, and some of the rules.
 use mathlib.Core.Path.{_≡_, refl, ap, ap₂, _∙_}
-use mathlib.Core.List.{List, _∷_}
+use mathlib.Core.List.{List, [], _∷_}
 use Prim.Native.Nat.{ℕ, zero, suc, _+_, _-_, _*_, _≤_, _<_}
 use native.Mathlib.Omega.{arith}
 use lib.ListN.{take, drop}
@@ -77,3 +77,13 @@ rules-drop clocks f at (suc j) (suc n) h =
     let e : n - j ≡ suc n - suc j = omega arith in
     let a : at + ruleSize clocks + j * ruleSize clocks ≡ at + suc j * ruleSize clocks = omega arith in
     rules-drop clocks f (at + ruleSize clocks) j n (omega arith) ∙ ap₂ (rulesFrom clocks f) a e
+
+-- The rules from the number i on: the first, and those after it.
+pub next-rule : (clocks : ℕ) (f : List ℕ) (at n i : ℕ) → i < n →
+    rulesFrom clocks f at (n - i) ≡ ruleFrom clocks f at ∷ rulesFrom clocks f (at + ruleSize clocks) (n - (i + 1))
+unfolding rulesFrom
+next-rule clocks f at n i h = let e : n - i ≡ suc (n - (i + 1)) = omega arith in rw e
+
+pub no-rule : (clocks : ℕ) (f : List ℕ) (at n i : ℕ) → n ≤ i → rulesFrom clocks f at (n - i) ≡ []
+unfolding rulesFrom
+no-rule clocks f at n i h = let e : n - i ≡ 0 = omega arith in rw e

@@ -6,7 +6,7 @@ ghost use mathlib.Core.Path.{_≡_};
 ghost use Prim.Native.Nat.{_+_, _*_, _≤_, _<_, _^_};
 ghost use lib.ListN.{length};
 ghost use Rattle.policy.specs.File.{ruleSize, rulesFrom};
-ghost use Rattle.policy.specs.Own.{below, level, ownOf};
+ghost use Rattle.policy.specs.Own.{below, ownOf};
 
 // Where a location's own rules start in the rule section, and how many they are.
 pub struct Own {
@@ -14,34 +14,16 @@ pub struct Own {
     pub count: usize,
 }
 
-// How many rules at the front have a source below the location.
-fn rules_below(rules: &[u8], count: usize, clocks: usize, location: usize) -> usize
-    requires { ⌜ (count ≤ 256) × (clocks ≤ 4) × (count * ruleSize clocks ≤ length (now rules)) ⌝ }
-    ensures { λ r. ⌜ r ≡ below location (rulesFrom clocks (now (rules .entry)) 0 count) ⌝ }
-{
-    let size = RULE_HEAD + BOUND_SIZE * clocks;
-    let mut at = 0;
-    let mut i = 0;
-    while i < count {
-        if location <= byte_within(rules, at) {
-            return i;
-        }
-        at += size;
-        i += 1;
-    }
-    i
-}
-
-// How many of the rules from `at` on have the location for their source, before one that has not.
-pub fn rules_level(rules: &[u8], at: usize, count: usize, clocks: usize, location: usize) -> usize
+// How many of the rules from `at` on have a source below the location, before one that has not.
+pub fn rules_below(rules: &[u8], at: usize, count: usize, clocks: usize, location: usize) -> usize
     requires { ⌜ (at < 2 ^ 16) × (count ≤ 256) × (clocks ≤ 4) × (at + count * ruleSize clocks ≤ length (now rules)) ⌝ }
-    ensures { λ r. ⌜ r ≡ level location (rulesFrom clocks (now (rules .entry)) at count) ⌝ }
+    ensures { λ r. ⌜ r ≡ below location (rulesFrom clocks (now (rules .entry)) at count) ⌝ }
 {
     let size = RULE_HEAD + BOUND_SIZE * clocks;
     let mut next = at;
     let mut i = 0;
     while i < count {
-        if byte_within(rules, next) != location {
+        if location <= byte_within(rules, next) {
             return i;
         }
         next += size;
@@ -51,13 +33,13 @@ pub fn rules_level(rules: &[u8], at: usize, count: usize, clocks: usize, locatio
 }
 
 pub fn own_rules(rules: &[u8], count: usize, clocks: usize, location: usize) -> Own
-    requires { ⌜ (count ≤ 256) × (clocks ≤ 4) × (count * ruleSize clocks ≤ length (now rules)) ⌝ }
+    requires { ⌜ (count ≤ 256) × (clocks ≤ 4) × (location < 2 ^ 16) × (count * ruleSize clocks ≤ length (now rules)) ⌝ }
     ensures { λ r. ⌜ r ≡ ownOf clocks location (rulesFrom clocks (now (rules .entry)) 0 count) ⌝ }
 {
-    let first = rules_below(rules, count, clocks, location);
+    let first = rules_below(rules, 0, count, clocks, location);
     let start = first * (RULE_HEAD + BOUND_SIZE * clocks);
     Own {
         start,
-        count: rules_level(rules, start, count - first, clocks, location),
+        count: rules_below(rules, start, count - first, clocks, location + 1),
     }
 }

@@ -19,12 +19,12 @@ use Rattle.policy.specs.Check.{refusalOf, refusalUnder}
 use Rattle.policy.specs.CheckLaws.{under-none}
 use Rattle.policy.specs.Number.{four, states, numberFrom, locationFrom, clocksFrom, numberOf, placeOf}
 use Rattle.policy.specs.Numbered.{number-take, number-ceilings, location-ceilings, clocks-ceilings, clocks-length, numberOf-below}
-use Rattle.policy.specs.Sound.{WellFormed, Inside}
+use Rattle.policy.specs.Sound.{WellFormed, Each, Inside}
 use Rattle.policy.specs.Frame.{Framed, frame, inputs-length, outputs-length, pairs-length}
-use Rattle.policy.specs.Checked.{checked-file, well-sound, well-ceiling}
+use Rattle.policy.specs.Checked.{checked-file, well-rising, well-sound, well-ceiling}
 use Rattle.policy.specs.Stays.{Of, advance-take, step-inside}
 use Rattle.policy.specs.Parts.{rules-part}
-use Rattle.policy.specs.Own.{level, own, ownOf, level-own, own-ends, own-reads}
+use Rattle.policy.specs.Own.{own, ownOf, own-sources, own-ends, own-reads}
 use Rattle.policy.specs.Layout.{layoutOf, checkedUnder}
 use Rattle.policy.specs.LayoutLaws.{under-says}
 use Rattle.policy.specs.declared.Layout.{Layout}
@@ -199,8 +199,9 @@ module _ {f : List ℕ} {l : Layout} (k : Laid f l) where
     own-rules = own-reads (l .clocks) f (l .«rules_start») (l .rules) a own-from ∙ ap (own a) (sym laid-from)
 
     -- All of them are the location's.
-    pub own-level : level a (rulesFrom (l .clocks) (part f (l .«rules_start» + o .start) (o .count * ruleSize (l .clocks))) 0 (o .count)) ≡ o .count
-    own-level = ap (level a) own-rules ∙ level-own a (rulesOf f) ∙ sym (ap (λ (z : Own). z .count) e)
+    pub own-level : Each (λ r. r .source ≡ a) (rulesFrom (l .clocks) (part f (l .«rules_start» + o .start) (o .count * ruleSize (l .clocks))) 0 (o .count))
+    unfolding policyOf
+    own-level = rw own-rules (own-sources a (well-rising (policyOf (l .reading) f) laid-well))
 
   -- The state that bounds see, as the code works it out, stands for the place looked at.
   pub laid-seen : (s : State) → place (l .clocks) (seenBy l s) ≡ looked stopped (policyOf (l .reading) f) (place (l .clocks) s)

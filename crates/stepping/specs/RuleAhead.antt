@@ -1,20 +1,17 @@
 -- The rules of a location that are still ahead, by where they stand in the file.
 use mathlib.Core.Path.{_≡_, refl, sym, ap, subst, _∙_}
-use mathlib.Core.Bool.{Bool, true, false, cond}
 use mathlib.Core.List.{List, [], _∷_}
 use Prim.Native.Nat.{ℕ, zero, suc, _+_, _-_, _*_, _≤_, _<_}
 use native.Mathlib.Nat.{suc-mul, mul-le-mul-right, pow-le-pow-right}
 use native.Mathlib.Omega.{arith}
-use lib.Dec.{eqb}
-use lib.ListN.{length, take}
-use borrow.Author.Tests.{eqb-true}
+use lib.ListN.{length}
 use Rattle.policy.specs.Rules.{Rule, Policy}
 use Rattle.policy.specs.File.{ruleSize, ruleFrom, rulesFrom, rulesOf, clockCount, policyOf}
 use Rattle.policy.specs.Sound.{WellFormed, Each, each-none, each-more, each-weak, Formed}
 use Rattle.policy.specs.Frame.{frame}
-use Rattle.policy.specs.Checked.{well-ruled}
+use Rattle.policy.specs.Checked.{well-rising, well-ruled}
 use Rattle.policy.specs.Parts.{rules-part}
-use Rattle.policy.specs.Own.{below, level, own, ownOf, each-drop}
+use Rattle.policy.specs.Own.{own, ownOf, each-own, own-sources}
 use Rattle.policy.specs.declared.Layout.{Layout}
 use Rattle.policy.specs.declared.own.Own.{Own}
 use Rattle.stepping.specs.Ready.{Laid}
@@ -36,20 +33,9 @@ pub record Ours (clocks locations a : ℕ) (r : Rule) : Type 0 where
   pub formed : Formed clocks locations r
   pub care : r .inCare < 16
 
-module _ (clocks locations a : ℕ) where
-  each-level : {rs : List Rule} → Each (Cared clocks locations) rs → Each (Ours clocks locations a) (take (level a rs) rs)
-  unfolding level
-  each-level each-none = each-none
-  each-level (each-more {r = r} {rs = rs} f h) = go (eqb (r .source) a) refl (each-level h)
-    where
-      go : (t : Bool) → eqb (r .source) a ≡ t → Each (Ours clocks locations a) (take (level a rs) rs) →
-          Each (Ours clocks locations a) (take (cond t (suc (level a rs)) 0) (r ∷ rs))
-      go true e k = each-more (record { source = eqb-true _ _ e; formed = f .formed; care = f .care }) k
-      go false e k = each-none
-
-  each-own : {rs : List Rule} → Each (Cared clocks locations) rs → Each (Ours clocks locations a) (own a rs)
-  unfolding own
-  each-own {rs} h = each-level (each-drop (below a rs) h)
+each-ours : {clocks locations a : ℕ} {rs : List Rule} → Each (λ r. r .source ≡ a) rs → Each (Cared clocks locations) rs → Each (Ours clocks locations a) rs
+each-ours each-none each-none = each-none
+each-ours (each-more e h) (each-more f k) = each-more (record { source = e; formed = f .formed; care = f .care }) (each-ours h k)
 
 -- n rules from `at` on are the location's, and lie within the file.
 pub record Ahead (f : List ℕ) (l : Layout) (a at n : ℕ) : Type 0 where
@@ -78,7 +64,9 @@ module _ {f : List ℕ} {l : Layout} (k : Laid f l) where
     unfolding policyOf
     own-ahead =
         record {
-          each = rw (own-here, k .locations, laid-clocks k) (each-own _ _ a (well-cared (policyOf (l .reading) f) (laid-well k)));
+          each =
+              rw (own-here, k .locations, laid-clocks k)
+              (each-ours (own-sources a (well-rising (policyOf (l .reading) f) (laid-well k))) (each-own a (well-cared (policyOf (l .reading) f) (laid-well k))));
           ends = own-fits k a e .0;
         }
 

@@ -9,7 +9,7 @@ ghost use Prim.Native.Nat.{_+_, _*_, _≤_, _<_, _^_};
 ghost use lib.ListN.{length, take};
 ghost use Rattle.policy.specs.Rules.{hold, fires, within};
 ghost use Rattle.policy.specs.File.{byteAt, ruleSize, boundsFrom, ruleFrom, rulesFrom};
-ghost use Rattle.policy.specs.Own.{level};
+ghost use Rattle.policy.specs.Sound.{Each};
 ghost use Rattle.stepping.specs.Code.{eventXY, decider, foundSaid};
 ghost use Rattle.stepping.specs.State.{place};
 
@@ -68,7 +68,7 @@ fn rule_fires(rules: &[u8], at: usize, clocks: usize, state: State, x: u8, y: u8
 // The number of the first that fires of the rules, all of which are the location's.
 pub fn first_rule(rules: &[u8], count: usize, clocks: usize, state: State, x: u8, y: u8) -> Found
     requires { ⌜ (count ≤ 256) × (clocks ≤ 4) × (count * ruleSize clocks ≤ length (now rules)) ⌝ }
-    requires { ⌜ level (state .location) (rulesFrom clocks (now rules) 0 count) ≡ count ⌝ }
+    requires { ⌜ Each (λ r. r .source ≡ state .location) (rulesFrom clocks (now rules) 0 count) ⌝ }
     ensures { λ r. ⌜ foundSaid r ≡ decider (rulesFrom clocks (now (rules .entry)) 0 count) (place clocks state) (eventXY x y) ⌝ }
 {
     let size = RULE_HEAD + BOUND_SIZE * clocks;

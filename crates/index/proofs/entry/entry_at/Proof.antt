@@ -9,7 +9,7 @@ use borrow.Author.Tests.{le-ltb}
 use Rattle.policy.specs.File.{ruleSize}
 use Rattle.index.specs.Index.{entryOf}
 use Rattle.index.specs.Names.{entry-within}
-use Rattle.index.specs.Sections.{sections-limits, sections-filled, sections-level, sections-passed}
+use Rattle.index.specs.Sections.{sections-limits, sections-filled, sections-number, sections-passed}
 use Rattle.index.proofs.entry.entry_at.Statement.{statement}
 use Rattle.index.proofs.entry.entry_at.Tie as tie
 
@@ -18,32 +18,35 @@ unfolding entryOf
 returns c =
     let s = c .before .before .before in rw (le-ltb (s .args .location) _ (rw (s .pre .0 .locations) at (c .if1 .taken)))
 
-sub-rules-level : tie.Need-sub-rules-level
-sub-rules-level c = omega (arith, sections-limits (c .before .before .before .pre .0))
+sub-rules-below : tie.Need-sub-rules-below
+sub-rules-below c = omega (arith, sections-limits (c .before .before .before .pre .0))
 
-part-rules-level-start : tie.Need-part-rules-level-start
-part-rules-level-start c = omega (arith, sections-limits (c .before .before .before .pre .0))
+part-rules-below-start : tie.Need-part-rules-below-start
+part-rules-below-start c = omega (arith, sections-limits (c .before .before .before .pre .0))
 
-part-rules-level-end : tie.Need-part-rules-level-end
-part-rules-level-end c = omega (arith, sections-limits (c .before .before .before .pre .0))
+part-rules-below-end : tie.Need-part-rules-below-end
+part-rules-below-end c = omega (arith, sections-limits (c .before .before .before .pre .0))
 
-mul-rules-level : tie.Need-mul-rules-level
-mul-rules-level c = omega (arith, sections-limits (c .before .before .before .before .before .pre .0))
+mul-rules-below : tie.Need-mul-rules-below
+mul-rules-below c = omega (arith, sections-limits (c .before .before .before .before .before .pre .0))
 
-add-rules-level : tie.Need-add-rules-level
-add-rules-level c = omega (arith, sections-limits (c .before .before .before .before .before .pre .0))
+add-rules-below : tie.Need-add-rules-below
+add-rules-below c = omega (arith, sections-limits (c .before .before .before .before .before .pre .0))
 
-mul-rules-level-2 : tie.Need-mul-rules-level-2
-mul-rules-level-2 c = let s = c .before .before .before .before .before in omega (arith, sections-passed (s .pre .0) _ _ (s .pre .1))
+mul-rules-below-2 : tie.Need-mul-rules-below-2
+mul-rules-below-2 c = let s = c .before .before .before .before .before in omega (arith, sections-passed (s .pre .0) _ _ (s .pre .1))
 
-sub-rules-level-2 : tie.Need-sub-rules-level-2
-sub-rules-level-2 c = let s = c .before .before .before .before .before .before in sections-level (s .pre .0) _ _ (s .pre .1) .0
+sub-rules-below-2 : tie.Need-sub-rules-below-2
+sub-rules-below-2 c = let s = c .before .before .before .before .before .before in sections-number (s .pre .0) _ _ (s .pre .1) .0
 
-rules-level-requires : tie.Need-rules-level-requires
-rules-level-requires c κs =
+add-rules-below-2 : tie.Need-add-rules-below-2
+add-rules-below-2 c = omega (arith, sections-limits (c .before .before .before .before .before .before .pre .0))
+
+rules-below-requires : tie.Need-rules-below-requires
+rules-below-requires c κs =
     let s = c .before .before .before .before .before .before in
     let a = s .args in
-    let few = sections-level (s .pre .0) _ _ (s .pre .1) .0 in
+    let few = sections-number (s .pre .0) _ _ (s .pre .1) .0 in
     let all : a .first + (a .layout .rules - a .first) ≡ a .layout .rules = omega (arith, few) in
     simp (length-take, length-drop)
     (omega (
@@ -59,7 +62,7 @@ returns-2 : tie.Need-returns-2
 returns-2 c =
     let s = c .before .before .before .before .before .before .before in
     let a = s .args in
-    let many = c .rules-level .ensures ∙ sections-level (s .pre .0) (a .location) (a .first) (s .pre .1) .1 in
+    let many = c .rules-below .ensures ∙ sections-number (s .pre .0) (a .location) (a .first) (s .pre .1) .1 in
     let within = entry-within (now (a .file)) (s .pre .0 .passes) (a .location) (omega (arith, s .pre .0)) in
     (λ i. record { first = s .pre .1 i; number = many i }) ∙ sym within
 
@@ -67,5 +70,5 @@ pub entry-at-spec : {M : Type 1} → statement M
 entry-at-spec =
     tie.close
     (tie.spec
-    returns sub-rules-level part-rules-level-start part-rules-level-end mul-rules-level add-rules-level mul-rules-level-2 sub-rules-level-2
-    rules-level-requires returns-2)
+    returns sub-rules-below part-rules-below-start part-rules-below-end mul-rules-below add-rules-below mul-rules-below-2 sub-rules-below-2
+    add-rules-below-2 rules-below-requires returns-2)

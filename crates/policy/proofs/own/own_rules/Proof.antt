@@ -1,4 +1,4 @@
--- `policy::own::own_rules` meets its contract: the rules after the first ones are read from their place on. Assumes nothing.
+-- `policy::own::own_rules` meets its contract: the rules behind the first ones are read from their place on. Assumes nothing.
 use mathlib.Core.Path.{_≡_, sym, ap, _∙_}
 use Prim.Native.Nat.{ℕ, _+_, _-_, _*_, _≤_}
 use native.Mathlib.Nat.{add-mul, mul-le-mul}
@@ -9,7 +9,7 @@ use borrow.Author.Needs.{needs}
 use Rattle.policy.specs.File.{ruleSize, rulesFrom}
 use Rattle.policy.specs.Frame.{rules-length}
 use Rattle.policy.specs.Parts.{rules-drop}
-use Rattle.policy.specs.Own.{below, level, below-le}
+use Rattle.policy.specs.Own.{below, below-le}
 use Rattle.policy.proofs.own.own_rules.Statement.{statement}
 use Rattle.policy.proofs.own.own_rules.Tie as tie
 
@@ -34,11 +34,11 @@ passed c =
 mul-start-2 : tie.Need-mul-start-2
 mul-start-2 c = omega (arith, passed c)
 
-sub-rules-level : tie.Need-sub-rules-level
-sub-rules-level c = passed c .0
+sub-rules-below : tie.Need-sub-rules-below
+sub-rules-below c = passed c .0
 
-rules-level-requires : tie.Need-rules-level-requires
-rules-level-requires c κs =
+rules-below-requires-2 : tie.Need-rules-below-requires-2
+rules-below-requires-2 c κs =
     let a = c .before .before .args in
     let n = c .rules-below .result in
     let all : n + (a .count - n) ≡ a .count = omega (arith, passed c) in
@@ -53,11 +53,11 @@ returns c =
     let rest : rulesFrom (a .clocks) (now (a .rules)) (n * ruleSize (a .clocks)) (a .count - n) ≡ drop n rs =
     sym (rules-drop (a .clocks) (now (a .rules)) 0 n (a .count) (passed (c .before) .0) ∙ ap (λ (z : ℕ). rulesFrom (a .clocks) (now (a .rules)) z (a .count - n)) (omega arith))
     in
-    let count = c .rules-level .ensures ∙ ap (level (a .location)) rest ∙ ap (λ (z : ℕ). level (a .location) (drop z rs)) first in
+    let count = c .rules-below2 .ensures ∙ ap (below (a .location + 1)) rest ∙ ap (λ (z : ℕ). below (a .location + 1) (drop z rs)) first in
     λ i. record { start = first i * ruleSize (a .clocks); count = count i }
 
 pub own-rules-spec : {M : Type 1} → statement M
 own-rules-spec =
     tie.close
     (tie.spec
-    (λ c κs. search needs) (λ c. search needs) (λ c. search needs) mul-start-2 sub-rules-level rules-level-requires returns)
+    (λ c κs. omega arith) (λ c. search needs) (λ c. search needs) mul-start-2 sub-rules-below (λ c. search needs) rules-below-requires-2 returns)

@@ -6,8 +6,9 @@ use native.Mathlib.Nat.{mul-le-mul-right}
 use native.Mathlib.Omega.{arith}
 use denote.Ref.{now}
 use borrow.Author.Needs.{needs}
-use Rattle.policy.specs.File.{byteAt, ruleSize, rulesFrom}
-use Rattle.policy.specs.Own.{level, level-all}
+use Rattle.policy.specs.File.{byteAt, ruleSize, ruleFrom, rulesFrom}
+use Rattle.policy.specs.Sound.{Each}
+use Rattle.policy.specs.Own.{each-next}
 use Rattle.stepping.specs.Code.{eventXY, decider}
 use Rattle.stepping.specs.State.{place}
 use Rattle.stepping.proofs.RuleLaws.{deciderFrom, decider-start, decider-here, decider-turn, decider-end}
@@ -17,7 +18,7 @@ use Rattle.stepping.proofs.matcher.first_rule.Tie as tie
 abbrev Inv-loop : tie.InvT-loop
 Inv-loop rules count clocks state x y size at₀ ahead₀ at ahead =
     (ahead ≤ count)
-    × ((at ≤ 23 * (count - ahead)) × (at ≡ (count - ahead) * ruleSize clocks) × (level (state .location) (rulesFrom clocks rules at (count - (count - ahead))) ≡ count - (count - ahead)))
+    × ((at ≤ 23 * (count - ahead)) × (at ≡ (count - ahead) * ruleSize clocks) × Each (λ r. r .source ≡ state .location) (rulesFrom clocks rules at (count - (count - ahead))))
     × (decider (rulesFrom clocks rules 0 count) (place clocks state) (eventXY x y)
     ≡ deciderFrom clocks rules (place clocks state) (eventXY x y) count at (count - ahead))
 
@@ -30,11 +31,12 @@ here : (c : tie.In-loop Inv-loop μ-loop) →
     let l = c .before .loop in
     let i = a .count - l .ahead in
     (byteAt (now (a .rules)) (l .at) ≡ a .state .location)
-    × (level (a .state .location) (rulesFrom (a .clocks) (now (a .rules)) (l .at + ruleSize (a .clocks)) (a .count - (i + 1))) ≡ a .count - (i + 1))
+    × Each (λ r. r .source ≡ a .state .location) (rulesFrom (a .clocks) (now (a .rules)) (l .at + ruleSize (a .clocks)) (a .count - (i + 1)))
+unfolding ruleFrom
 here c =
     let a = c .before .before .before .args in
     let l = c .before .loop in
-    level-all (a .clocks) (now (a .rules)) (l .at) (a .count - l .ahead) (a .count) (a .state .location) (omega arith) (l .inv .1 .2)
+    each-next (a .clocks) (now (a .rules)) (l .at) (a .count - l .ahead) (a .count) (omega arith) (l .inv .1 .2)
 
 loop-holds : tie.Need-loop-holds Inv-loop μ-loop
 loop-holds c =
