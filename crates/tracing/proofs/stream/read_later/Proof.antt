@@ -9,6 +9,7 @@ use denote.Ref.{now}
 use borrow.Author.Needs.{needs}
 use Rattle.tracing.specs.Reached.{ReadSoFar, reached-start, reached-bad, reached-closes, reached-changes}
 use Rattle.tracing.specs.Next.{NextRead}
+use Rattle.tracing.specs.declared.next.Next.{Next}
 use Rattle.tracing.specs.Found.{stored-closes, stored-changes}
 use Rattle.tracing.proofs.stream.read_later.Statement.{statement}
 use Rattle.tracing.proofs.stream.read_later.Tie as tie
@@ -21,6 +22,16 @@ Inv-loop text at inputs outputs first events₀ next₀ count₀ event₀ events
 abbrev μ-loop : tie.MeasureT-loop
 μ-loop text at inputs outputs first events₀ next₀ count₀ event₀ events next count event = length text - next
 
+abbrev entry : tie.After-read-next Inv-loop μ-loop → tie.Start Inv-loop μ-loop
+entry o = o .before .before .before .before .before .before
+
+-- What the text has next, by its kind.
+read : (o : tie.After-read-next Inv-loop μ-loop) {m : Next} → o .read-next .result ≡ m →
+    let a = entry o .args in
+    let l = o .before .loop in
+    NextRead (now (a .inputs)) (now (a .outputs)) (now (a .text)) (l .next) (l .count) (l .event) m
+read o e = subst (NextRead _ _ _ _ _ _) e (o .read-next .ensures)
+
 loop-holds : tie.Need-loop-holds Inv-loop μ-loop
 loop-holds c =
     let s = c .before .before .before .before in (search needs, refl, ([], reached-start (now (s .args .inputs)) (now (s .args .outputs)) _ _ (s .pre .1 .1), refl))
@@ -29,97 +40,60 @@ read-next-requires : tie.Need-read-next-requires Inv-loop μ-loop
 read-next-requires c κs = let g = c .before .before .before .before .before .pre .1 .0 in (c .loop .inv .0, g .fewIn, g .fewOut)
 
 returns : tie.Need-returns Inv-loop μ-loop
-returns c =
-    let l = c .before .before .before in
-    let s = l .before .before .before .before .before in
-    let x = now (s .args .inputs) in
-    let y = now (s .args .outputs) in
-    let t = now (s .args .text) in
-    let g = s .pre .1 .0 in
-    let r = l .loop .inv .2 .1 in
-    let n = subst (NextRead x y t (l .loop .next) (l .loop .count) (l .loop .event)) (c .enum-told .given .1) (c .before .before .read-next .ensures) in
-    reached-bad x y g r (sym (n .said))
+returns c = let o = c .before .before in reached-bad _ _ (entry o .pre .1 .0) (o .before .loop .inv .2 .1) (sym (read o (c .enum-told .given .1) .said))
 
 fill-requires : tie.Need-fill-requires Inv-loop μ-loop
 fill-requires c κs =
-    let l = c .before .before .before .before .before in
-    let s = l .before .before .before .before .before in
-    let x = now (s .args .inputs) in
-    let y = now (s .args .outputs) in
-    let t = now (s .args .text) in
-    let g = s .pre .1 .0 in
-    let r = l .loop .inv .2 .1 in
-    let n = subst (NextRead x y t (l .loop .next) (l .loop .count) (l .loop .event)) (c .before .before .step .given .1) (c .before .before .before .before .read-next .ensures) in
-    reached-closes x y g r (c .before .before .step .given .0 .0) (sym (n .said)) .from
+    let o = c .before .before .before .before in
+    let v = c .before .before .step .given in
+    reached-closes _ _ (entry o .pre .1 .0) (o .before .loop .inv .2 .1) (v .0 .0) (sym (read o (v .1) .said)) .from
 
 returns-2 : tie.Need-returns-2 Inv-loop μ-loop
 returns-2 c =
-    let l = c .before .before .before .before .before .before .before .before in
-    let s = l .before .before .before .before .before in
-    let x = now (s .args .inputs) in
-    let y = now (s .args .outputs) in
-    let t = now (s .args .text) in
-    let g = s .pre .1 .0 in
-    let r = l .loop .inv .2 .1 in
-    let n = subst (NextRead x y t (l .loop .next) (l .loop .count) (l .loop .event)) (c .before .before .before .before .before .step .given .1) (c .before .before .before .before .before .before .before .read-next .ensures) in
-    stored-closes x y g r (c .before .before .before .before .before .step .given .0 .0) (now (s .args .events)) (l .loop .events) (c .before .before .fill .last .0) (sym (n .said)) (l .loop .inv .2 .2) (c .before .before .fill .ensures)
+    let o = c .before .before .before .before .before .before .before in
+    let l = o .before .loop in
+    let v = c .before .before .before .before .before .step .given in
+    let f = c .before .before .fill in
+    stored-closes _ _ (entry o .pre .1 .0) (l .inv .2 .1) (v .0 .0) (now (entry o .args .events)) (l .events) (f .last .0) (sym (read o (v .1) .said)) (l .inv .2 .2) (f .ensures)
 
 fill-requires-2 : tie.Need-fill-requires-2 Inv-loop μ-loop
 fill-requires-2 c κs =
-    let l = c .before .before .before .before .before in
-    let s = l .before .before .before .before .before in
-    let x = now (s .args .inputs) in
-    let y = now (s .args .outputs) in
-    let t = now (s .args .text) in
-    let g = s .pre .1 .0 in
-    let r = l .loop .inv .2 .1 in
-    let n = subst (NextRead x y t (l .loop .next) (l .loop .count) (l .loop .event)) (c .before .before .step2 .given .1) (c .before .before .before .before .read-next .ensures) in
-    reached-changes x y g r (c .before .before .step2 .given .0 .0) _ _ (sym (n .said)) .1
+    let o = c .before .before .before .before in
+    let v = c .before .before .step2 .given in
+    reached-changes _ _ (entry o .pre .1 .0) (o .before .loop .inv .2 .1) (v .0 .0) _ _ (sym (read o (v .1) .said)) .1
 
 add-count : tie.Need-add-count Inv-loop μ-loop
 add-count c =
-    let l = c .before .before .before .before .before .before .before .before .before .before .before .before in
-    let s = l .before .before .before .before .before in
-    let x = now (s .args .inputs) in
-    let y = now (s .args .outputs) in
-    let t = now (s .args .text) in
-    let g = s .pre .1 .0 in
-    let r = l .loop .inv .2 .1 in
-    let n = subst (NextRead x y t (l .loop .next) (l .loop .count) (l .loop .event)) (c .before .before .before .before .before .before .before .before .before .step2 .given .1) (c .before .before .before .before .before .before .before .before .before .before .before .read-next .ensures) in
-    let v = c .before .before .before .before .before .before .before .before .before .step2 .given .0 in
-    let k = reached-changes x y g r (v .0) (v .1 .0) _ (sym (n .said)) in
-    omega (arith, k .2)
+    let t = c .before .before .before .before .before .before .before .before .before in
+    let o = t .before .before in
+    let v = t .step2 .given in
+    omega (arith, reached-changes _ _ (entry o .pre .1 .0) (o .before .loop .inv .2 .1) (v .0 .0) (v .0 .1 .0) _ (sym (read o (v .1) .said)) .2)
 
 loop-less : tie.Need-loop-less Inv-loop μ-loop
 loop-less c =
-    let l = c .before .before .before .before .before .before .before .before .before .before .before .before in
-    let s = l .before .before .before .before .before in
-    let x = now (s .args .inputs) in
-    let y = now (s .args .outputs) in
-    let t = now (s .args .text) in
-    let g = s .pre .1 .0 in
-    let r = l .loop .inv .2 .1 in
-    let n = subst (NextRead x y t (l .loop .next) (l .loop .count) (l .loop .event)) (c .before .before .before .before .before .before .before .before .before .step2 .given .1) (c .before .before .before .before .before .before .before .before .before .before .before .read-next .ensures) in
-    let k = n .between in
+    let t = c .before .before .before .before .before .before .before .before .before in
+    let k = read (t .before .before) (t .step2 .given .1) .between in
     omega (arith, k .after, k .within)
 
 loop-again : tie.Need-loop-again Inv-loop μ-loop
 loop-again c =
-    let l = c .before .before .before .before .before .before .before .before .before .before .before .before in
-    let s = l .before .before .before .before .before in
-    let x = now (s .args .inputs) in
-    let y = now (s .args .outputs) in
-    let t = now (s .args .text) in
-    let g = s .pre .1 .0 in
-    let r = l .loop .inv .2 .1 in
-    let n = subst (NextRead x y t (l .loop .next) (l .loop .count) (l .loop .event)) (c .before .before .before .before .before .before .before .before .before .step2 .given .1) (c .before .before .before .before .before .before .before .before .before .before .before .read-next .ensures) in
-    let v = c .before .before .before .before .before .before .before .before .before .step2 .given .0 in
-    let k = reached-changes x y g r (v .0) (v .1 .0) (drop (v .1 .1 .0) t) (sym (n .said)) in
-    let f = c .before .before .before .before .before .before .fill2 in
+    let f = c .before .before .before .before .before .before in
+    let t = f .before .before .before in
+    let o = t .before .before in
+    let l = o .before .loop in
+    let s = entry o in
+    let v = t .step2 .given in
+    let n = read o (v .1) in
+    let k = reached-changes _ _ (s .pre .1 .0) (l .inv .2 .1) (v .0 .0) (v .0 .1 .0) (drop (v .0 .1 .1 .0) (now (s .args .text))) (sym (n .said)) in
     let p = c .before .before .put in (
       n .between .within,
-      p .kept .0 ∙ f .kept .0 ∙ l .loop .inv .1,
-      (_, k .0, p .ensures ∙ stored-changes x y g r (v .0) (v .1 .0) (now (s .args .events)) (l .loop .events) (f .last .0) (k .1) (l .loop .inv .2 .2) (f .ensures)),
+      p .kept .0 ∙ f .fill2 .kept .0 ∙ l .inv .1,
+      (
+        _,
+        k .0,
+        p .ensures
+            ∙ stored-changes _ _ (s .pre .1 .0) (l .inv .2 .1) (v .0 .0) (v .0 .1 .0) (now (s .args .events)) (l .events) (f .fill2 .last .0) (k .1) (l .inv .2 .2) (f .fill2 .ensures),
+      ),
     )
 
 pub read-later-spec : {M : Type 1} → statement M
