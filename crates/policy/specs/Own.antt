@@ -32,6 +32,7 @@ own a rs = take (below (a + 1) (drop (below a rs) rs)) (drop (below a rs) rs)
 abbrev pub ownOf : ℕ → ℕ → List Rule → Own
 ownOf clocks a rs = record { start = below a rs * ruleSize clocks; count = below (a + 1) (drop (below a rs) rs) }
 
+-- They are no more than there are rules.
 pub below-le : (a : ℕ) (rs : List Rule) → below a rs ≤ length rs
 unfolding below
 below-le a [] = omega arith
@@ -41,11 +42,11 @@ below-le a (r ∷ rs) = go (ltb (r .source) a) (below-le a rs)
     go true h = omega arith
     go false h = omega arith
 
+-- As many rules as `ownOf` says.
 pub own-length : (a : ℕ) (rs : List Rule) → length (own a rs) ≡ below (a + 1) (drop (below a rs) rs)
 unfolding own
 own-length a rs = length-take-le _ _ (below-le (a + 1) (drop (below a rs) rs))
 
--- The rules below the next location are those below this one, and its own.
 below-both : (a : ℕ) (rs : List Rule) → below (a + 1) rs ≡ below a rs + below (a + 1) (drop (below a rs) rs)
 unfolding below
 below-both a [] = refl
@@ -56,10 +57,11 @@ below-both a (r ∷ rs) = go (ltb (r .source) a) refl (below-both a rs)
     go true e ih = rw (lt-ltb (r .source) (a + 1) (omega (arith, ltb-true (r .source) a e))) (omega arith)
     go false e ih = omega arith
 
+-- The rules below the next location are those below this one, and its own.
 pub below-next : (a : ℕ) (rs : List Rule) → below (a + 1) rs ≡ below a rs + length (own a rs)
 below-next a rs = rw (own-length a rs) (below-both a rs)
 
--- Which are no more than there are.
+-- Together they are no more than there are rules.
 pub own-le : (a : ℕ) (rs : List Rule) → below a rs + length (own a rs) ≤ length rs
 own-le a rs = omega (arith, below-next a rs, below-le (a + 1) rs)
 
@@ -79,7 +81,6 @@ below-rises (r ∷ rs) {a} {b} l = go (ltb (r .source) a) refl (below-rises rs l
     go true e h = rw (lt-ltb (r .source) b (omega (arith, ltb-true (r .source) a e))) (omega arith)
     go false e h = omega arith
 
--- What each rule is, each of some of them is.
 each-take : {P : Rule → Type 0} (n : ℕ) {rs : List Rule} → Each P rs → Each P (take n rs)
 each-take zero h = each-none
 each-take (suc n) each-none = each-none
@@ -90,12 +91,14 @@ each-drop zero h = h
 each-drop (suc n) each-none = each-none
 each-drop (suc n) (each-more p h) = each-drop n h
 
+-- What each rule is, each of the location's own is.
 pub each-own : {P : Rule → Type 0} (a : ℕ) {rs : List Rule} → Each P rs → Each P (own a rs)
 unfolding own
 each-own a {rs} h = each-take (below (a + 1) (drop (below a rs) rs)) (each-drop (below a rs) h)
 
--- Where sources never fall: behind the rules below a location none is below it, and its own have it for their source.
+-- Where sources never fall.
 module _ (a : ℕ) where
+  -- Behind the rules below a location none is below it.
   pub rising-from : {b : ℕ} {rs : List Rule} → Rising b rs → Rising a (drop (below a rs) rs)
   unfolding below
   rising-from rising-none = rising-none
@@ -115,17 +118,20 @@ module _ (a : ℕ) where
       go m true e ih = each-more {r = r} (omega (arith, ltb-true (r .source) (a + 1) e)) ih
       go m false e ih = each-none
 
+  -- Its own rules have it for their source.
   pub own-sources : {b : ℕ} {rs : List Rule} → Rising b rs → Each (λ r. r .source ≡ a) (own a rs)
   unfolding own
   own-sources k = sources (omega arith) (rising-from k)
 
 -- One rule more, as a loop over the bytes meets it: i rules of `count` are passed, and the next stands at `at`.
 module _ (clocks : ℕ) (f : List ℕ) (at i count : ℕ) (more : i < count) where
+  -- It is below the location, so the count goes on.
   pub below-more : (a : ℕ) → byteAt f at < a →
       i + 1 + below a (rulesFrom clocks f (at + ruleSize clocks) (count - (i + 1))) ≡ i + below a (rulesFrom clocks f at (count - i))
   unfolding below ruleFrom
   below-more a h = rw (next-rule clocks f at count i more, lt-ltb (byteAt f at) a h) (omega arith)
 
+  -- It is not, and the count ends.
   pub below-done : (a : ℕ) → a ≤ byteAt f at → below a (rulesFrom clocks f at (count - i)) ≡ 0
   unfolding below ruleFrom
   below-done a h = rw (next-rule clocks f at count i more, le-ltb (byteAt f at) a h)
@@ -184,6 +190,7 @@ module _ {A : Type 0} (a : ℕ) (says : List Rule → A) (passes : (r : Rule) (r
       go true q ih = let l : r .source < a = ltb-true _ _ q in ih ∙ sym (passes r rs (omega arith))
       go false q ih = refl
 
+  -- The rules below the location are passed over, and so are those above it.
   pub own-alone : {b : ℕ} {rs : List Rule} → Rising b rs → says (own a rs) ≡ says rs
   unfolding own
   own-alone {rs = rs} k = at-front (rising-from a k) ∙ behind rs

@@ -199,9 +199,9 @@ module _ {f : List ℕ} {l : Layout} (k : Laid f l) where
     own-rules = own-reads (l .clocks) f (l .«rules_start») (l .rules) a own-from ∙ ap (own a) (sym laid-from)
 
     -- All of them are the location's.
-    pub own-level : Each (λ r. r .source ≡ a) (rulesFrom (l .clocks) (part f (l .«rules_start» + o .start) (o .count * ruleSize (l .clocks))) 0 (o .count))
+    pub own-located : Each (λ r. r .source ≡ a) (rulesFrom (l .clocks) (part f (l .«rules_start» + o .start) (o .count * ruleSize (l .clocks))) 0 (o .count))
     unfolding policyOf
-    own-level = rw own-rules (own-sources a (well-rising (policyOf (l .reading) f) laid-well))
+    own-located = rw own-rules (own-sources a (well-rising (policyOf (l .reading) f) laid-well))
 
   -- The state that bounds see, as the code works it out, stands for the place looked at.
   pub laid-seen : (s : State) → place (l .clocks) (seenBy l s) ≡ looked stopped (policyOf (l .reading) f) (place (l .clocks) s)

@@ -8,7 +8,7 @@ use denote.Ref.{now}
 use Rattle.policy.specs.Rules.{Rule, Place}
 use Rattle.policy.specs.Parts.{rules-part}
 use Rattle.stepping.specs.Code.{eventXY, decider}
-use Rattle.stepping.specs.Laid.{laid-limits, own-fits, own-level, here-seen}
+use Rattle.stepping.specs.Laid.{laid-limits, own-fits, own-located, here-seen}
 use borrow.Author.Needs.{needs}
 use Rattle.explaining.proofs.tell.decided.Statement.{statement}
 use Rattle.explaining.proofs.tell.decided.Tie as tie
@@ -52,7 +52,7 @@ first-rule-requires c κs =
     let from = a .layout .«rules_start» + a .here .own .start in
     let n : from + size - from ≡ size = omega arith in (
       simp (length-take, length-drop) (omega (arith, fits (c .before .before))),
-      rw (n, location s) (own-level (s .pre .0) (a .state .location) (s .pre .1 .own)),
+      rw (n, location s) (own-located (s .pre .0) (a .state .location) (s .pre .1 .own)),
     )
 
 returns : tie.Need-returns

@@ -10,7 +10,7 @@ use Rattle.policy.specs.Rules.{Place}
 use Rattle.policy.specs.File.{part, ruleSize, rulesFrom}
 use Rattle.stepping.specs.Code.{eventXY, decider, foundSaid}
 use Rattle.stepping.specs.State.{place}
-use Rattle.stepping.specs.Laid.{laid-limits, own-fits, own-level, here-seen}
+use Rattle.stepping.specs.Laid.{laid-limits, own-fits, own-located, here-seen}
 use Rattle.stepping.specs.Decider.{decider-lt}
 use Rattle.stepping.proofs.DecidedLaws.{decided-none, decided-rule}
 use Rattle.stepping.proofs.here.rule_of.Statement.{statement}
@@ -75,7 +75,7 @@ first-rule-requires c κs =
     let from = a .layout .«rules_start» + a .here .own .start in
     let n : from + size - from ≡ size = omega arith in (
       simp (length-take, length-drop) (omega (arith, fits s)),
-      rw (n, location s) (own-level (s .pre .0) (a .state .location) (s .pre .1 .own)),
+      rw (n, location s) (own-located (s .pre .0) (a .state .location) (s .pre .1 .own)),
     )
 
 mul-t19 : tie.Need-mul-t19
