@@ -31,30 +31,6 @@ held-requires c κs = let s = c .before .before in (s .pre .0 .standing .laid, s
 returns : tie.Need-returns
 returns c = went-not _ _ _ (took-not _ (parted-bounds _ (sym (c .before .held .ensures) ∙ not-true _ (c .if1 .taken))))
 
-add-byte-within : tie.Need-add-byte-within
-add-byte-within c = let s = c .before .before .before .before in omega (arith, s .pre .1 .ends, s .pre .1 .short)
-
-byte-within-requires : tie.Need-byte-within-requires
-byte-within-requires c κs = let s = c .before .before .before .before in omega (arith, s .pre .1 .ends)
-
-add-byte-within-2 : tie.Need-add-byte-within-2
-add-byte-within-2 c = let s = c .before .before .before .before .before in omega (arith, s .pre .1 .ends, s .pre .1 .short)
-
-byte-within-requires-2 : tie.Need-byte-within-requires-2
-byte-within-requires-2 c κs = let s = c .before .before .before .before .before in omega (arith, s .pre .1 .ends)
-
-add-byte-within-3 : tie.Need-add-byte-within-3
-add-byte-within-3 c = let s = c .before .before .before .before .before .before in omega (arith, s .pre .1 .ends, s .pre .1 .short)
-
-byte-within-requires-3 : tie.Need-byte-within-requires-3
-byte-within-requires-3 c κs = let s = c .before .before .before .before .before .before in omega (arith, s .pre .1 .ends)
-
-add-byte-within-4 : tie.Need-add-byte-within-4
-add-byte-within-4 c = let s = c .before .before .before .before .before .before .before in omega (arith, s .pre .1 .ends, s .pre .1 .short)
-
-byte-within-requires-4 : tie.Need-byte-within-requires-4
-byte-within-requires-4 c κs = let s = c .before .before .before .before .before .before .before in omega (arith, s .pre .1 .ends)
-
 is-left-requires : tie.Need-is-left-requires
 unfolding ruleFrom
 is-left-requires c κs =
@@ -120,5 +96,5 @@ pub go-by-spec : {M : Type 1} → statement M
 go-by-spec =
     tie.close
     (tie.spec
-    held-requires returns add-byte-within byte-within-requires add-byte-within-2 byte-within-requires-2 add-byte-within-3 byte-within-requires-3
-    add-byte-within-4 byte-within-requires-4 (λ c κs. search needs) is-left-requires returns-2 take-requires leads-requires returns-3)
+    held-requires returns (λ c. omega arith) (λ c κs. omega arith) (λ c. omega arith) (λ c κs. omega arith) (λ c. omega arith) (λ c κs. omega arith)
+    (λ c. omega arith) (λ c κs. omega arith) (λ c κs. search needs) is-left-requires returns-2 take-requires leads-requires returns-3)
