@@ -36,20 +36,11 @@ returns c =
     let a = c .before .before .before .before .before .args in
     none (l .weight) _ _ (no-more (a .tag) (now (a .file)) (a .at) (l .i) (omega (arith, l .inv .3, c .if1 .taken))) (l .inv .2)
 
-add-if2 : tie.Need-add-if2 Inv-loop μ-loop
-add-if2 c = omega (arith, c .before .before .before .before .before .pre, c .before .before .loop .inv .0)
-
 returns-2 : tie.Need-returns-2 Inv-loop μ-loop
 returns-2 c =
     let l = c .before .before .before .loop in
     let a = c .before .before .before .before .before .before .args in
     none (l .weight) _ _ (file-ends (a .tag) (now (a .file)) (a .at) (l .i) (omega (arith, c .if2 .taken))) (l .inv .2)
-
-add-if3 : tie.Need-add-if3 Inv-loop μ-loop
-add-if3 c = omega (arith, c .before .before .before .before .before .before .pre, c .before .before .before .loop .inv .0)
-
-shared-slice-read-if3 : tie.Need-shared-slice-read-if3 Inv-loop μ-loop
-shared-slice-read-if3 c = omega (arith, c .before .if2 .left)
 
 -- The tag at i, and those after it.
 here : (c : tie.After-shared-slice-known2 Inv-loop μ-loop) →
@@ -98,5 +89,5 @@ pub weight-at-spec : {M : Type 1} → statement M
 weight-at-spec =
     tie.close
     (tie.spec
-    Inv-loop μ-loop (λ c κs. search needs) (λ c. search needs) loop-holds returns add-if2 returns-2 add-if3 shared-slice-read-if3 returns-3 mul-weight
-    (λ c. search needs) (λ c. search needs) loop-again returns-4)
+    Inv-loop μ-loop (λ c κs. search needs) (λ c. search needs) loop-holds returns (λ c. omega arith) returns-2 (λ c. omega arith) (λ c. omega arith)
+    returns-3 mul-weight (λ c. search needs) (λ c. search needs) loop-again returns-4)
