@@ -1,4 +1,5 @@
 -- The laws of demand 3 are not empty: joins are made.
+-- In order: what nothing refuses is made; A with the policy that permits all, for every A that passes the check; three policies, grouped either way.
 use mathlib.Core.Path.{_≡_, refl, sym, ap, subst}
 use mathlib.Core.Bool.{Bool, true, false, cond}
 use mathlib.Core.List.{List, [], _∷_}
