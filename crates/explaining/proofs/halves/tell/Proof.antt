@@ -13,24 +13,28 @@ use borrow.Author.Needs.{needs}
 use Rattle.explaining.proofs.halves.tell.Statement.{statement}
 use Rattle.explaining.proofs.halves.tell.Tie as tie
 
+-- Earlier places in the code.
+abbrev start : tie.After-value-or → tie.Start
+start c = c .before .before .before .before .before .before .before
+
 -- What is passed on, and what is released.
 is-passed : (c : tie.After-value-or) →
-    let s = c .before .before .before .before .before .before .before in
+    let s = start c in
     let h = s .pre .0 .0 in
     c .value-or .result ≡ passed (policyOf (s .args .layout .reading) (now (s .args .file))) (laid-well (h .laid)) (now (s .args .marks)) (s .pre .0 .1) (place (s .args .layout .clocks) (s .args .state)) (h .inside) (s .pre .0 .2) (s .args .x) (s .args .y) .0
 is-passed c =
-    let s = c .before .before .before .before .before .before .before in
+    let s = start c in
     let h = s .pre .0 .0 in
     c .value-or .ensures
     ∙ ap (λ (a : Answer ℕ). valueOr a (s .args .x))
     (c .before .input-by .ensures ∙ input-answer _ _ _ _ (s .args .x) (s .pre .1 .1) (passed _ (laid-well (h .laid)) _ (s .pre .0 .1) _ (h .inside) (s .pre .0 .2) (s .args .x) (s .args .y) .1))
 
 is-released : (c : tie.After-value-or2) →
-    let s = c .before .before .before .before .before .before .before .before .before in
+    let s = start (c .before .before) in
     let h = s .pre .0 .0 in
     c .value-or2 .result ≡ released (policyOf (s .args .layout .reading) (now (s .args .file))) (laid-well (h .laid)) (now (s .args .marks)) (s .pre .0 .1) (place (s .args .layout .clocks) (s .args .state)) (h .inside) (s .pre .0 .2) (s .args .x) (s .args .y) .0
 is-released c =
-    let s = c .before .before .before .before .before .before .before .before .before in
+    let s = start (c .before .before) in
     let h = s .pre .0 .0 in
     let z = passed _ (laid-well (h .laid)) _ (s .pre .0 .1) _ (h .inside) (s .pre .0 .2) (s .args .x) (s .args .y) .0 in
     c .value-or2 .ensures
@@ -41,11 +45,11 @@ is-released c =
 
 -- The state after it.
 is-next : (c : tie.After-output-by) →
-    let s = c .before .before .before .before .before .before .before .before in
+    let s = start (c .before) in
     let h = s .pre .0 .0 in
     c .output-by .result .state ≡ stateOf (moved-to (policyOf (s .args .layout .reading) (now (s .args .file))) (laid-well (h .laid)) (now (s .args .marks)) (s .pre .0 .1) (place (s .args .layout .clocks) (s .args .state)) (h .inside) (s .pre .0 .2) (s .args .x) (s .args .y) .0)
 is-next c =
-    let s = c .before .before .before .before .before .before .before .before in
+    let s = start (c .before) in
     let h = s .pre .0 .0 in
     let z = passed _ (laid-well (h .laid)) _ (s .pre .0 .1) _ (h .inside) (s .pre .0 .2) (s .args .x) (s .args .y) .0 in
     ap (λ (o : OutputAnswer). o .state) (rw (is-passed (c .before)) at (c .output-by .ensures))
@@ -54,7 +58,7 @@ is-next c =
 
 for-input-requires : tie.Need-for-input-requires
 for-input-requires c κs =
-    let s = c .before .before .before .before .before .before .before .before .before in
+    let s = start (c .before .before) in
     let h = s .pre .0 .0 in (
       (h .laid, c .before .before .before .before .here-by .ensures, h .inside),
       (
@@ -65,7 +69,7 @@ for-input-requires c κs =
 
 for-output-requires : tie.Need-for-output-requires
 for-output-requires c κs =
-    let s = c .before .before .before .before .before .before .before .before .before .before in
+    let s = start (c .before .before .before) in
     let h = s .pre .0 .0 in (
       (h .laid, c .before .before .before .before .before .here-by .ensures, h .inside),
       (
@@ -78,7 +82,7 @@ for-output-requires c κs =
 returns : tie.Need-returns
 returns d =
     let c = d .before in
-    let s = c .before .before .before .before .before .before .before .before .before .before .before in
+    let s = start (c .before .before .before .before) in
     let h = s .pre .0 .0 in
     let v = c .before .before in (
       both-told _ (laid-well (h .laid)) _ (s .pre .0 .1) _ (h .inside) (s .pre .0 .2) (s .args .x) (s .args .y)

@@ -14,14 +14,21 @@ use borrow.Author.Needs.{needs}
 use Rattle.explaining.proofs.tell.left_at.Statement.{statement}
 use Rattle.explaining.proofs.tell.left_at.Tie as tie
 
+-- Earlier places in the code.
+abbrev start : tie.After-numbered → tie.Start
+start c = c .before .before .before .before .before .before .before
+
+abbrev numbered : tie.After-may-rest → tie.After-numbered
+numbered c = c .before .before .before
+
 -- Whether the state rests.
 rested : (c : tie.After-may-rest) →
-    let a = c .before .before .before .before .before .before .before .before .before .before .args in
+    let a = start (numbered c) .args in
     machineOf (policyOf (a .layout .reading) (now (a .file))) .rest (a .number) ≡ c .may-rest .result
-rested c = let s = c .before .before .before .before .before .before .before .before .before .before in sym (rest-there (s .pre .0) (s .args .number) (c .before .before .before .numbered .ensures) (c .may-rest .ensures))
+rested c = let s = start (numbered c) in sym (rest-there (s .pre .0) (s .args .number) (numbered c .numbered .ensures) (c .may-rest .ensures))
 
-some-left : (c : tie.Then2) → let a = c .before .before .before .before .before .before .before .before .before .before .before .args in 0 < getD (now (a .rests)) (a .number) 0
-some-left c = let s = c .before .before .before .before .before .before .before .before .before .before .before in rests-some (laid-well (s .pre .0)) (s .pre .1) (s .pre .2) (s .pre .3) (rested (c .before) ∙ c .if2 .taken)
+some-left : (c : tie.Then2) → let a = start (numbered (c .before)) .args in 0 < getD (now (a .rests)) (a .number) 0
+some-left c = let s = start (numbered (c .before)) in rests-some (laid-well (s .pre .0)) (s .pre .1) (s .pre .2) (s .pre .3) (rested (c .before) ∙ c .if2 .taken)
 
 sub-t14 : tie.Need-sub-t14
 sub-t14 c = let s = c .before .before .before .before .before in omega (arith, counted-ticks (laid-well (s .pre .0)) (s .pre .1) (s .pre .2) (c .if1 .taken) .1)
@@ -34,7 +41,7 @@ numbered-requires c κs = let s = c .before .before .before .before .before .bef
 
 may-rest-requires : tie.Need-may-rest-requires
 may-rest-requires c κs =
-    let s = c .before .before .before .before .before .before .before .before .before in
+    let s = start (c .before .before) in
     let k = s .pre .0 in
     (k .locations, k .start, location-below k (s .args .number) (c .before .before .numbered .ensures) (s .pre .2))
 
@@ -43,23 +50,23 @@ sub-t19 c = omega (arith, some-left c)
 
 cast-t20 : tie.Need-cast-t20
 cast-t20 c =
-    let s = c .before .before .before .before .before .before .before .before .before .before .before in
+    let s = start (numbered (c .before)) in
     omega (arith, rests-few (laid-well (s .pre .0)) (s .pre .1) (s .pre .2) (s .pre .3))
 
 cast-t21 : tie.Need-cast-t21
 cast-t21 c =
-    let s = c .before .before .before .before .before .before .before .before .before .before .before in
+    let s = start (numbered (c .before)) in
     omega (arith, rests-few (laid-well (s .pre .0)) (s .pre .1) (s .pre .2) (s .pre .3))
 
 returns-2 : tie.Need-returns-2
 returns-2 c =
-    let s = c .before .before .before .before .before .before .before .before .before .before .before in
-    counted-rests (laid-well (s .pre .0)) (s .pre .1) (s .pre .2) (c .before .before .before .before .before .before .if1 .left) (s .pre .3) (omega (arith, some-left c, ap bit (rested (c .before) ∙ c .if2 .taken)))
+    let s = start (numbered (c .before)) in
+    counted-rests (laid-well (s .pre .0)) (s .pre .1) (s .pre .2) (numbered (c .before) .before .before .if1 .left) (s .pre .3) (omega (arith, some-left c, ap bit (rested (c .before) ∙ c .if2 .taken)))
 
 returns-3 : tie.Need-returns-3
 returns-3 c =
-    let s = c .before .before .before .before .before .before .before .before .before .before .before in
-    counted-rests (laid-well (s .pre .0)) (s .pre .1) (s .pre .2) (c .before .before .before .before .before .before .if1 .left) (s .pre .3) (omega (arith, ap bit (rested (c .before) ∙ c .if2 .left)))
+    let s = start (numbered (c .before)) in
+    counted-rests (laid-well (s .pre .0)) (s .pre .1) (s .pre .2) (numbered (c .before) .before .before .if1 .left) (s .pre .3) (omega (arith, ap bit (rested (c .before) ∙ c .if2 .left)))
 
 pub left-at-spec : {M : Type 1} → statement M
 left-at-spec =

@@ -21,9 +21,16 @@ use borrow.Author.Needs.{needs}
 use Rattle.explaining.proofs.tell.reason_of.Statement.{statement}
 use Rattle.explaining.proofs.tell.reason_of.Tie as tie
 
+-- Earlier places in the code.
+abbrev start : tie.After-known-told → tie.Start
+start c = c .before .before .before .before .before .before .before
+
+abbrev told : tie.After-next-of → tie.After-known-told
+told c = c .before .before .before .before
+
 -- The rule found is the one that decides among the location's own.
 found : (c : tie.After-known-told) →
-    let a = c .before .before .before .before .before .before .before .args in
+    let a = start c .args in
     let p = policyOf (a .layout .reading) (now (a .file)) in
     let v = looked stopped p (place (a .layout .clocks) (a .state)) in
     let i = c .before .i .given .0 .0 in
@@ -31,16 +38,16 @@ found : (c : tie.After-known-told) →
     × (decides (own (a .state .location) (p .rules)) v (eventXY (a .x) (a .y))
     ≡ some (ruleFrom (a .layout .clocks) (now (a .file)) (a .layout .«rules_start» + a .here .own .start + i * ruleSize (a .layout .clocks))))
 found c =
-    let s = c .before .before .before .before .before .before .before in
+    let s = start c in
     found-rule (s .pre .0 .0) (s .pre .0 .1) (eventXY (s .args .x) (s .args .y)) (ap foundSaid (sym (c .before .i .given .1)) ∙ c .before .before .before .decided .ensures)
 
 -- The rules lie within the file.
 fits : (s : tie.Start) → s .args .layout .«rules_start» + s .args .here .own .start < 65536
 fits s = omega (arith, own-fits (s .pre .0 .0) (s .args .state .location) (s .pre .0 .1 .own), laid-short (s .pre .0 .0))
 
-small : (c : tie.After-known-told) → c .before .i .given .0 .0 * (7 + 4 * c .before .before .before .before .before .before .before .args .layout .clocks) ≤ 5888
+small : (c : tie.After-known-told) → c .before .i .given .0 .0 * (7 + 4 * start c .args .layout .clocks) ≤ 5888
 small c =
-    let s = c .before .before .before .before .before .before .before in
+    let s = start c in
     let n = own-fits (s .pre .0 .0) (s .args .state .location) (s .pre .0 .1 .own) .1 in
     let l = laid-limits (s .pre .0 .0) in
     let a : c .before .i .given .0 .0 ≤ 256 = omega (arith, found c .0) in
@@ -49,49 +56,49 @@ small c =
 
 -- It leads to a state.
 leads : (c : tie.Else1) →
-    let a = c .before .before .before .before .before .before .before .before .before .before .before .before .before .args in
+    let a = start (told (c .before .before)) .args in
     Led (place (a .layout .clocks) (a .state)) (policyOf (a .layout .reading) (now (a .file)))
-    (ruleFrom (a .layout .clocks) (now (a .file)) (a .layout .«rules_start» + a .here .own .start + c .before .before .before .before .before .before .before .i .given .0 .0 * ruleSize (a .layout .clocks))) true (c .before .before .next-of .result .number)
+    (ruleFrom (a .layout .clocks) (now (a .file)) (a .layout .«rules_start» + a .here .own .start + told (c .before .before) .before .i .given .0 .0 * ruleSize (a .layout .clocks))) true (c .before .before .next-of .result .number)
 leads c = led-as (not-false _ (c .if1 .left)) (c .before .before .next-of .ensures)
 
 mul-size : tie.Need-mul-size
-mul-size c = omega (arith, laid-limits (c .before .before .before .before .before .before .before .before .pre .0 .0))
+mul-size c = omega (arith, laid-limits (start (c .before) .pre .0 .0))
 
 add-size : tie.Need-add-size
-add-size c = omega (arith, laid-limits (c .before .before .before .before .before .before .before .before .pre .0 .0))
+add-size c = omega (arith, laid-limits (start (c .before) .pre .0 .0))
 
 add-next-of : tie.Need-add-next-of
-add-next-of c = omega (arith, fits (c .before .before .before .before .before .before .before .before .before .before))
+add-next-of c = omega (arith, fits (start (c .before .before .before)))
 
 mul-next-of : tie.Need-mul-next-of
 mul-next-of c = omega (arith, small (c .before .before .before))
 
 add-next-of-2 : tie.Need-add-next-of-2
-add-next-of-2 c = omega (arith, fits (c .before .before .before .before .before .before .before .before .before .before), small (c .before .before .before))
+add-next-of-2 c = omega (arith, fits (start (c .before .before .before)), small (c .before .before .before))
 
 next-of-requires : tie.Need-next-of-requires
 next-of-requires c κs =
-    let s = c .before .before .before .before .before .before .before .before .before .before in
+    let s = start (c .before .before .before) in
     (s .pre .0 .0, s .pre .0 .2, rule-there (s .pre .0 .0) (s .pre .0 .1) (eventXY (s .args .x) (s .args .y)) (found (c .before .before .before) .0))
 
 add-t19 : tie.Need-add-t19
-add-t19 c = let s = c .before .before .before .before .before .before .before .before .before .before .before .before .before .before in omega (arith, rule-few (s .pre .0 .0) (s .pre .0 .1) (eventXY (s .args .x) (s .args .y)) (found (c .before .before .before .before .before .before .before) .0))
+add-t19 c = let s = start (told (c .before .before .before)) in omega (arith, rule-few (s .pre .0 .0) (s .pre .0 .1) (eventXY (s .args .x) (s .args .y)) (found (told (c .before .before .before)) .0))
 
 returns : tie.Need-returns
 returns c =
-    let s = c .before .before .before .before .before .before .before .before .before .before .before .before .before .before in
+    let s = start (told (c .before .before .before)) in
     let k = s .pre .0 .0 in
     let e = eventXY (s .args .x) (s .args .y) in
-    let d = found (c .before .before .before .before .before .before .before) in
+    let d = found (told (c .before .before .before)) in
     told-rule _ (laid-well k) _ (s .pre .0 .2) e (d .2) (d .1) (led-as (not-true _ (c .before .if1 .taken)) (c .before .before .before .next-of .ensures))
     (rule-number k (s .pre .0 .1) e _) (rule-few k (s .pre .0 .1) e (d .0))
 
 left-at-requires : tie.Need-left-at-requires
 left-at-requires c κs =
-    let s = c .before .before .before .before .before .before .before .before .before .before .before .before .before in
+    let s = start (told (c .before .before)) in
     let k = s .pre .0 .0 in
     let w = leads c in
-    (k, s .pre .1 .0, w .below refl, led-dead _ (laid-well k) _ (s .pre .0 .2) (eventXY (s .args .x) (s .args .y)) (found (c .before .before .before .before .before .before) .2) w (s .pre .1 .1))
+    (k, s .pre .1 .0, w .below refl, led-dead _ (laid-well k) _ (s .pre .0 .2) (eventXY (s .args .x) (s .args .y)) (found (told (c .before .before)) .2) w (s .pre .1 .1))
 
 returns-2 : tie.Need-returns-2
 returns-2 c =
@@ -101,8 +108,8 @@ returns-2 c =
 
 returns-3 : tie.Need-returns-3
 returns-3 c =
-    let s = c .before .before .before .before .before .before .before .before .before .before .before .before .before .before in
-    told-counted _ (laid-well (s .pre .0 .0)) _ (s .pre .0 .2) (eventXY (s .args .x) (s .args .y)) (found (c .before .before .before .before .before .before .before) .2) (leads (c .before)) (c .left-at .ensures)
+    let s = start (told (c .before .before .before)) in
+    told-counted _ (laid-well (s .pre .0 .0)) _ (s .pre .0 .2) (eventXY (s .args .x) (s .args .y)) (found (told (c .before .before .before)) .2) (leads (c .before)) (c .left-at .ensures)
 
 pub reason-of-spec : {M : Type 1} → statement M
 reason-of-spec =
