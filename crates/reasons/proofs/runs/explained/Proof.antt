@@ -17,6 +17,10 @@ use Rattle.reasons.specs.RunLaws.{Walking, walking-starts, run-20, run-1
 use Rattle.reasons.proofs.runs.explained.Statement.{statement}
 use Rattle.reasons.proofs.runs.explained.Tie as tie
 
+-- Earlier places in the code.
+abbrev start : tie.Else1 → tie.Start
+start c = c .before .before .before .before .before .before .before
+
 clocks : (c : tie.Start) → length (c .args .state .clocks) ≡ 4
 clocks c = search needs
 
@@ -37,7 +41,7 @@ returns c =
 returns-2 : tie.Need-returns-2
 returns-2 c =
     let f = c .before .before in
-    let s = c .before .before .before .before .before .before .before .before .before .before in
+    let s = start (f .before) in
     λ work z.
     rw (c .refused2 .ensures)
     (answers-no _ _ _ _ _ _ work
@@ -46,7 +50,7 @@ returns-2 c =
 explain-all-requires : tie.Need-explain-all-requires
 explain-all-requires c κs =
     let f = c .before .before in
-    let s = c .before .before .before .before .before .before .before .before .before .before in (
+    let s = start (f .before) in (
       (starts s, s .pre .1 .2),
       (marks-prepared (policyOf (s .args .layout .reading) (now (s .args .file))) (now (s .args .marks)) (sym (s .pre .0 .1) ∙ f .before .if1 .left), s .pre .0 .2, sym (f .events-good .ensures) ∙ not-false _ (c .before .if2 .left)),
     )
@@ -56,7 +60,7 @@ returns-3 c =
     let g = c .before .before .explain-all .ensures in
     let d = c .before .before .before .before in
     let f = d .before in
-    let s = f .before .before .before .before .before .before .before .before in
+    let s = start (f .before) in
     λ work z.
     answers-all _ _ (s .pre .0 .0) _ _ _ work z (sym (s .pre .0 .1) ∙ f .before .if1 .left) (sym (f .events-good .ensures) ∙ not-false _ (d .if2 .left)) (g .ready)
     (s .pre .1 .2) g

@@ -18,6 +18,19 @@ use Rattle.counting.proofs.Laws.{part-fits, part-length, back-fits, back-part}
 use Rattle.reasons.proofs.runs.why_run.Statement.{statement}
 use Rattle.reasons.proofs.runs.why_run.Tie as tie
 
+-- Earlier places in the code.
+abbrev begun : tie.After-check-under → tie.After-slice-known
+begun c = c .before .before .before .before .before .before .before .before .before
+
+abbrev past-room : tie.After-count-in-arg6 → tie.Else1
+past-room c = c .before .before .before .before .before .before .before .before .before
+
+abbrev counted : tie.After-from → tie.After-count-in
+counted c = c .before .before .before .before .before .before .before .before .before
+
+abbrev put-back : tie.After-slice-known17 → tie.After-from
+put-back c = c .before .before .before .before .before .before .before
+
 -- What is lent to work in.
 abbrev room : tie.Start → Room
 room s =
@@ -31,17 +44,17 @@ room s =
 
 -- What the code finds up to 14 is the refusal.
 roomed : (c : tie.After-room-refusal) →
-    let s = c .before .before .before .before .before .before .before .before .before .before .before .before .before .before .before in
+    let s = begun (c .before .before) .before .before .before .before in
     let a = s .args in
     c .room-refusal .result ≡ roomRefusal (a .reading) (now (a .file)) (now (a .marks)) (shortestOf (room s)) (length (now (a .events))) (length (now (a .words)))
 roomed c =
-    let a = c .before .before .before .before .before .before .before .before .before .before .before .before .before .before .before .args in
+    let a = begun (c .before .before) .before .before .before .before .args in
     c .room-refusal .ensures
     ∙ ap (λ (n : ℕ). roomRefusal (a .reading) (now (a .file)) (now (a .marks)) n (length (now (a .events))) (length (now (a .words)))) (c .before .shortest .ensures)
 
 -- None up to 14.
 abbrev start : tie.Else1 → tie.Start
-start c = c .before .before .before .before .before .before .before .before .before .before .before .before .before .before .before .before
+start c = begun (c .before .before .before) .before .before .before .before
 
 abbrev layout : tie.Else1 → Layout
 layout c = c .before .before .before .check-under .result .layout
@@ -125,7 +138,7 @@ slice-aggregate-count-in-2 c = sym (length-take-le _ _ (slice-relend-prefix-coun
 
 count-in-requires : tie.Need-count-in-requires
 count-in-requires c κs =
-    let e = c .before .before .before .before .before .before .before .before .before .before .before in
+    let e = past-room (c .before .before) in
     let k = laid e in
     let m = enough e in (
       (k .laid, k .enough, part-length (k .laid) (now (start e .args .ticks)) (enough e .ticks), part-length (k .laid) (now (start e .args .rests)) (enough e .rests)),
@@ -133,20 +146,20 @@ count-in-requires c κs =
     )
 
 slice-reshare-prefix-explained : tie.Need-slice-reshare-prefix-explained
-slice-reshare-prefix-explained c = ticks-fits (c .before .before .before .before .before .before .before .before .before .before .before .before .before .before .before .before)
+slice-reshare-prefix-explained c = ticks-fits (counted (put-back c))
 
 slice-aggregate-explained : tie.Need-slice-aggregate-explained
-slice-aggregate-explained c = sym (length-take-le _ _ (ticks-fits (c .before .before .before .before .before .before .before .before .before .before .before .before .before .before .before .before .before)))
+slice-aggregate-explained c = sym (length-take-le _ _ (ticks-fits (counted (put-back (c .before)))))
 
 slice-reshare-prefix-explained-2 : tie.Need-slice-reshare-prefix-explained-2
-slice-reshare-prefix-explained-2 c = rests-fits (c .before .before .before .before .before .before .before .before .before .before .before .before .before .before .before .before .before)
+slice-reshare-prefix-explained-2 c = rests-fits (counted (put-back (c .before)))
 
 slice-aggregate-explained-2 : tie.Need-slice-aggregate-explained-2
-slice-aggregate-explained-2 c = sym (length-take-le _ _ (rests-fits (c .before .before .before .before .before .before .before .before .before .before .before .before .before .before .before .before .before .before)))
+slice-aggregate-explained-2 c = sym (length-take-le _ _ (rests-fits (counted (put-back (c .before .before)))))
 
 explained-requires : tie.Need-explained-requires
 explained-requires c κs =
-    let t = c .before .before .before .before .before .before .before .before .before .before .before .before .before .before .before .before .before .before .before in
+    let t = counted (put-back (c .before .before .before)) in
     let d = past t in
     let e = d .before .before .before in
     let k = laid e in
@@ -163,7 +176,7 @@ explained-requires c κs =
 returns-3 : tie.Need-returns-3
 returns-3 c =
     let x = c .before .before .explained in
-    let d = past (c .before .before .before .before .before .before .before .before .before .before .before .before .before .before .before .before .before .before .before .before .before .before) in
+    let d = past (counted (put-back (c .before .before .before .before .before .before))) in
     let e = d .before .before .before in
     let s = start e in
     let a = s .args in
