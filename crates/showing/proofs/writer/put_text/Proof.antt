@@ -21,6 +21,13 @@ Inv-loop out₀ file layout line₀ lines next₀ i₀ out line next i =
 abbrev μ-loop : tie.MeasureT-loop
 μ-loop out₀ file layout line₀ lines next₀ i₀ out line next i = lines - i
 
+-- Earlier places in the code.
+abbrev start : tie.At-loop Inv-loop μ-loop → tie.Start Inv-loop μ-loop
+start c = c .before .before .before .before .before
+
+abbrev at-loop : tie.After-put-line Inv-loop μ-loop → tie.At-loop Inv-loop μ-loop
+at-loop c = c .before .before .before
+
 -- There is room for the text.
 fits : (s : tie.Start Inv-loop μ-loop) → 0 + length (textFrom (now (s .args .file)) 0) ≤ length (now (s .args .out))
 fits s = omega (arith, s .pre .2, ap length (text-start (now (s .args .file)) (s .pre .0 .passes)))
@@ -33,7 +40,8 @@ loop-holds c = (omega arith, refl, under-start _ _ _)
 
 put-line-requires : tie.Need-put-line-requires Inv-loop μ-loop
 put-line-requires c κs =
-    (c .before .before .before .before .before .before .before .pre .0, omega (arith, c .before .before .before .line-count .ensures, c .before .before .before .before .before .before .before .pre .0, c .before .loop-test .taken), omega (arith, c .before .before .before .before .before .before .before .pre .1, c .before .before .loop .inv .1))
+    let s = start (c .before .before) in
+    (s .pre .0, omega (arith, c .before .before .before .line-count .ensures, s .pre .0, c .before .loop-test .taken), omega (arith, s .pre .1, c .before .before .loop .inv .1))
 
 slice-reshare-prefix-put-bytes : tie.Need-slice-reshare-prefix-put-bytes Inv-loop μ-loop
 slice-reshare-prefix-put-bytes c =
@@ -45,20 +53,22 @@ slice-aggregate-put-bytes c =
 
 put-bytes-requires : tie.Need-put-bytes-requires Inv-loop μ-loop
 put-bytes-requires c κs =
-    let p = c .before .before .before .before .put-line .ensures .0 in
-    omega (arith, under-room (fits (c .before .before .before .before .before .before .before .before .before .before .before .before)) (c .before .before .before .before .before .before .before .loop .inv .2) (p .line) (textFrom _ _) (p .turn), ap length (front-is (p .wrote)))
+    let w = c .before .before .before .before in
+    let p = w .put-line .ensures .0 in
+    omega (arith, under-room (fits (start (at-loop w))) (at-loop w .loop .inv .2) (p .line) (textFrom _ _) (p .turn), ap length (front-is (p .wrote)))
 
 loop-again : tie.Need-loop-again Inv-loop μ-loop
 loop-again c =
+    let d = c .before .before .before .before .before .before .before in
     let w = c .before .before .put-bytes in
-    let p = c .before .before .before .before .before .before .before .put-line in
-    let l = c .before .before .before .before .before .before .before .before .before .before .loop in
+    let p = d .put-line in
+    let l = at-loop d .loop in
     let one = subst (λ (z : List ℕ). Wrote (l .out) (l .next) z (w .result) (w .last .0)) (front-is (p .ensures .0 .wrote)) (w .ensures) in
-    (omega (arith, c .before .before .before .before .before .before .before .before .before .loop-test .taken), p .kept .0 ∙ l .inv .1, under-more (fits (c .before .before .before .before .before .before .before .before .before .before .before .before .before .before .before)) (l .inv .2) (p .ensures .0 .turn) one (w .kept .0))
+    (omega (arith, d .before .before .loop-test .taken), p .kept .0 ∙ l .inv .1, under-more (fits (start (at-loop d))) (l .inv .2) (p .ensures .0 .turn) one (w .kept .0))
 
 returns : tie.Need-returns Inv-loop μ-loop
 returns c =
-    let s = c .before .before .before .before .before .before in
+    let s = start (c .before) in
     let f = now (s .args .file) in
     let l = c .before .loop in
     let none = text-end f (framed (s .pre .0)) (l .i) (omega (arith, c .before .before .line-count .ensures, s .pre .0, c .loop-test .left)) in
