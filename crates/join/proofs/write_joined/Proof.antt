@@ -14,12 +14,19 @@ use Rattle.join.proofs.JoinLaws.{file-length, file-laid}
 use Rattle.join.proofs.write_joined.Statement.{statement}
 use Rattle.join.proofs.write_joined.Tie as tie
 
+-- Earlier places in the code.
+abbrev start : tie.After-lay-counts → tie.Start
+start c = c .before .before .before .before .before
+
+abbrev counted : tie.After-lay-joined → tie.After-lay-counts
+counted c = c .before .before .before .before
+
 -- the counts end within the slice
 begins : (c : tie.After-lay-counts) →
-    let s = c .before .before .before .before .before in
+    let s = start c in
     (c .lay-counts .result ≡ countsLength (s .args .x) (s .args .y)) × (length (c .lay-counts .last .1 .1 .1 .1 .1 .0) ≡ length (now (s .args .out)))
 begins c =
-    let s = c .before .before .before .before .before in
+    let s = start c in
     let e = c .lay-counts .ensures in (omega (arith, e .ends, counts-long (s .pre .0) (s .args .rules)), laid-length e)
 
 lay-counts-requires : tie.Need-lay-counts-requires
@@ -35,27 +42,28 @@ part-lay-joined-end : tie.Need-part-lay-joined-end
 part-lay-joined-end c = omega (arith, begins (c .before .before))
 
 lay-joined-requires : tie.Need-lay-joined-requires
-lay-joined-requires c κs = c .before .before .before .before .before .before .before .before .pre .0
+lay-joined-requires c κs = start (c .before .before .before) .pre .0
 
 add-result : tie.Need-add-result
 add-result c =
-    let s = c .before .before .before .before .before .before .before .before .before .before .before in
-    omega (arith, begins (c .before .before .before .before .before .before), c .before .before .lay-joined .ensures .1, few (s .pre .0), sizes (s .pre .0 .first))
+    let d = counted (c .before .before) in
+    let s = start d in
+    omega (arith, begins d, c .before .before .lay-joined .ensures .1, few (s .pre .0), sizes (s .pre .0 .first))
 
 same-length : tie.Need-same-length
 same-length c =
-    let d = c .before .before .before .before .before .before in
+    let d = counted (c .before .before) in
     let m = d .lay-counts .last .1 .1 .1 .1 .1 .0 in
     let n = d .lay-counts .result in
     let w = c .before .before .lay-joined in same-len-mid {X = ℕ} n (length m - n) m (w .last .1 .1 .1 .1 .0) (w .kept .1 .1 .1 .1 .0) ∙ begins d .1
 
 returns : tie.Need-returns
 returns c =
-    let s = c .before .before .before .before .before .before .before .before .before .before .before in
+    let d = counted (c .before .before) in
+    let s = start d in
     let out = now (s .args .out) in
-    let d = c .before .before .before .before .before .before in
-    let a : (i : ℕ) → byteAt (now (s .args .a)) i < 256 = λ i. omega (arith, c .before .before .before .before .before .before .before .before .before .before .shared-slice-known .given i) in
-    let b : (i : ℕ) → byteAt (now (s .args .b)) i < 256 = λ i. omega (arith, c .before .before .before .before .before .before .before .before .before .shared-slice-known2 .given i) in (
+    let a : (i : ℕ) → byteAt (now (s .args .a)) i < 256 = λ i. omega (arith, d .before .before .before .before .shared-slice-known .given i) in
+    let b : (i : ℕ) → byteAt (now (s .args .b)) i < 256 = λ i. omega (arith, d .before .before .before .shared-slice-known2 .given i) in (
       omega (arith, begins d .0, c .before .before .lay-joined .ensures .0 .ends, file-length (s .pre .0) a b out),
       file-laid (s .pre .0) a b out (s .pre .1 .2) (s .pre .1 .0) (d .lay-counts .ensures) (c .before .before .lay-joined .ensures .0),
     )

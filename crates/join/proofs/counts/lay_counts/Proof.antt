@@ -9,6 +9,13 @@ use Rattle.join.proofs.FileLaws.{few}
 use Rattle.join.proofs.counts.lay_counts.Statement.{statement}
 use Rattle.join.proofs.counts.lay_counts.Tie as tie
 
+-- Earlier places in the code.
+abbrev start : tie.After-copy → tie.Start
+start c = c .before .before .before .before .before .before .before .before .before
+
+abbrev copied : tie.After-lay-clocks → tie.After-copy
+copied c = c .before .before .before .before
+
 add-p : tie.Need-add-p
 add-p c = omega (arith, sizes (c .before .before .before .before .pre .0 .first))
 
@@ -26,7 +33,7 @@ copy-requires c κs = omega (arith, sizes (c .before .before .before .before .be
 
 lay-clocks-requires : tie.Need-lay-clocks-requires
 lay-clocks-requires c κs =
-    let s = c .before .before .before .before .before .before .before .before .before .before .before .before in
+    let s = start (c .before .before .before) in
     let r = s .pre .0 in
     omega (
       arith,
@@ -39,22 +46,24 @@ lay-clocks-requires c κs =
 
 lay-places-requires : tie.Need-lay-places-requires
 lay-places-requires c κs =
-    let s = c .before .before .before .before .before .before .before .before .before .before .before .before .before .before .before .before in (
+    let w = c .before .before .before in
+    let s = start (copied w) in (
       s .pre .0,
       s .pre .1,
       omega (
         arith,
         sizes (s .pre .0 .first),
-        c .before .before .before .lay-clocks .ensures .1,
-        c .before .before .before .before .before .before .before .copy .ensures .ends,
+        w .lay-clocks .ensures .1,
+        copied w .copy .ensures .ends,
         bytes-length (now (s .args .a)) 0 (clocksFor (s .args .x)),
       ),
     )
 
 returns : tie.Need-returns
 returns c =
-    laid-more (c .before .before .before .before .before .before .before .before .before .before .copy .ensures)
-    (laid-more (c .before .before .before .before .before .before .lay-clocks .ensures .0) (c .before .before .lay-places .ensures))
+    let w = c .before .before .before .before .before .before in
+    laid-more (copied w .copy .ensures)
+    (laid-more (w .lay-clocks .ensures .0) (c .before .before .lay-places .ensures))
 
 pub lay-counts-spec : {M : Type 1} → statement M
 lay-counts-spec = tie.close (tie.spec add-p add-p-2 add-q add-q-2 copy-requires lay-clocks-requires lay-places-requires (λ c. search needs) returns)

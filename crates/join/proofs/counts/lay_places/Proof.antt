@@ -10,6 +10,13 @@ use Rattle.join.proofs.FileLaws.{few}
 use Rattle.join.proofs.counts.lay_places.Statement.{statement}
 use Rattle.join.proofs.counts.lay_places.Tie as tie
 
+-- Earlier places in the code.
+abbrev start : tie.After-put → tie.Start
+start c = c .before .before .before .before .before .before .before
+
+abbrev put-count : tie.After-lay-left → tie.After-put
+put-count c = c .before .before .before .before
+
 mul-put : tie.Need-mul-put
 mul-put c = omega (arith, few (c .before .before .before .before .before .pre .0))
 
@@ -18,28 +25,30 @@ put-requires c κs = let s = c .before .before .before .before .before .before i
 
 lay-left-requires : tie.Need-lay-left-requires
 lay-left-requires c κs =
-    let s = c .before .before .before .before .before .before .before .before .before .before in
+    let s = start (c .before .before .before) in
     (s .pre .0, omega (arith, s .pre .2, c .before .before .before .put .ensures .ends))
 
 put-pair-requires : tie.Need-put-pair-requires
 put-pair-requires c κs =
-    let s = c .before .before .before .before .before .before .before .before .before .before .before .before .before .before in
+    let w = c .before .before .before in
+    let s = start (put-count w) in
     let a = s .args in (
       omega (arith, s .pre .1),
       omega (
         arith,
         few (s .pre .0),
         s .pre .2,
-        c .before .before .before .before .before .before .before .put .ensures .ends,
-        c .before .before .before .lay-left .ensures .ends,
+        put-count w .put .ensures .ends,
+        w .lay-left .ensures .ends,
         left-length (said (now (a .a))) (said (now (a .b))) (a .x .locations * a .y .locations),
       ),
     )
 
 returns : tie.Need-returns
 returns c =
+    let w = c .before .before .before .before .before .before in
     laid-more
-    (laid-more (c .before .before .before .before .before .before .before .before .before .before .put .ensures) (c .before .before .before .before .before .before .lay-left .ensures))
+    (laid-more (put-count w .put .ensures) (w .lay-left .ensures))
     (c .before .before .put-pair .ensures)
 
 pub lay-places-spec : {M : Type 1} → statement M

@@ -10,6 +10,10 @@ use borrow.Author.Needs.{needs}
 use Rattle.join.proofs.counts.same_signals.Statement.{statement}
 use Rattle.join.proofs.counts.same_signals.Tie as tie
 
+-- Earlier places in the code.
+abbrev start : tie.After-same-tags → tie.Start
+start c = c .before .before .before .before .before .before .before .before .before
+
 add-a-end : tie.Need-add-a-end
 add-a-end c = let s = c .before .before .before in omega (arith, sizes (s .pre .0), sizes (s .pre .1))
 
@@ -47,43 +51,43 @@ part-same-tags-end-2 : tie.Need-part-same-tags-end-2
 part-same-tags-end-2 c = let s = c .before .before .before .before .before .before .before in omega (arith, sizes (s .pre .0), sizes (s .pre .1))
 
 inputs : (c : tie.After-same-tags) →
-    let s = c .before .before .before .before .before .before .before .before .before in c .same-tags .result ≡ sameTags (inputTags (now (s .args .a))) (inputTags (now (s .args .b)))
+    let s = start c in c .same-tags .result ≡ sameTags (inputTags (now (s .args .a))) (inputTags (now (s .args .b)))
 inputs c =
-    let s = c .before .before .before .before .before .before .before .before .before in c .same-tags .ensures ∙ ap₂ sameTags (tags-read (s .pre .0) .0) (tags-read (s .pre .1) .0)
+    let s = start c in c .same-tags .ensures ∙ ap₂ sameTags (tags-read (s .pre .0) .0) (tags-read (s .pre .1) .0)
 
 returns : tie.Need-returns
 unfolding sameSignals policyOf
 returns c = rw (sym (inputs (c .before)) ∙ not-true _ (c .if1 .taken))
 
 add-same-tags : tie.Need-add-same-tags
-add-same-tags c = let s = c .before .before .before .before .before .before .before .before .before .before in omega (arith, sizes (s .pre .0), sizes (s .pre .1))
+add-same-tags c = let s = start (c .before) in omega (arith, sizes (s .pre .0), sizes (s .pre .1))
 
 sub-same-tags-3 : tie.Need-sub-same-tags-3
-sub-same-tags-3 c = let s = c .before .before .before .before .before .before .before .before .before .before in omega (arith, sizes (s .pre .0), sizes (s .pre .1))
+sub-same-tags-3 c = let s = start (c .before) in omega (arith, sizes (s .pre .0), sizes (s .pre .1))
 
 part-same-tags-start-3 : tie.Need-part-same-tags-start-3
-part-same-tags-start-3 c = let s = c .before .before .before .before .before .before .before .before .before .before in omega (arith, sizes (s .pre .0), sizes (s .pre .1))
+part-same-tags-start-3 c = let s = start (c .before) in omega (arith, sizes (s .pre .0), sizes (s .pre .1))
 
 part-same-tags-end-3 : tie.Need-part-same-tags-end-3
-part-same-tags-end-3 c = let s = c .before .before .before .before .before .before .before .before .before .before in omega (arith, sizes (s .pre .0), sizes (s .pre .1))
+part-same-tags-end-3 c = let s = start (c .before) in omega (arith, sizes (s .pre .0), sizes (s .pre .1))
 
 add-same-tags-2 : tie.Need-add-same-tags-2
-add-same-tags-2 c = let s = c .before .before .before .before .before .before .before .before .before .before .before in omega (arith, sizes (s .pre .0), sizes (s .pre .1))
+add-same-tags-2 c = let s = start (c .before .before) in omega (arith, sizes (s .pre .0), sizes (s .pre .1))
 
 sub-same-tags-4 : tie.Need-sub-same-tags-4
-sub-same-tags-4 c = let s = c .before .before .before .before .before .before .before .before .before .before .before in omega (arith, sizes (s .pre .0), sizes (s .pre .1))
+sub-same-tags-4 c = let s = start (c .before .before) in omega (arith, sizes (s .pre .0), sizes (s .pre .1))
 
 part-same-tags-start-4 : tie.Need-part-same-tags-start-4
-part-same-tags-start-4 c = let s = c .before .before .before .before .before .before .before .before .before .before .before in omega (arith, sizes (s .pre .0), sizes (s .pre .1))
+part-same-tags-start-4 c = let s = start (c .before .before) in omega (arith, sizes (s .pre .0), sizes (s .pre .1))
 
 part-same-tags-end-4 : tie.Need-part-same-tags-end-4
-part-same-tags-end-4 c = let s = c .before .before .before .before .before .before .before .before .before .before .before in omega (arith, sizes (s .pre .0), sizes (s .pre .1))
+part-same-tags-end-4 c = let s = start (c .before .before) in omega (arith, sizes (s .pre .0), sizes (s .pre .1))
 
 returns-2 : tie.Need-returns-2
 unfolding sameSignals policyOf
 returns-2 c = let d = c .before .before .before in
     rw (sym (inputs (d .before)) ∙ not-false _ (d .if1 .left))
-    (let s = c .before .before .before .before .before .before .before .before .before .before .before .before .before in c .same-tags2 .ensures ∙ ap₂ sameTags (tags-read (s .pre .0) .1) (tags-read (s .pre .1) .1))
+    (let s = start (d .before) in c .same-tags2 .ensures ∙ ap₂ sameTags (tags-read (s .pre .0) .1) (tags-read (s .pre .1) .1))
 
 pub same-signals-spec : {M : Type 1} → statement M
 same-signals-spec =
