@@ -15,15 +15,20 @@ Inv-loop out₀ at clocks low high next₀ i₀ out next i =
 abbrev μ-loop : tie.MeasureT-loop
 μ-loop out₀ at clocks low high next₀ i₀ out next i = clocks - i
 
+-- Earlier places in the code.
+abbrev at-loop : tie.After-low-byte2 Inv-loop μ-loop → tie.At-loop Inv-loop μ-loop
+at-loop c = c .before .before .before .before .before
+
 loop-holds : tie.Need-loop-holds Inv-loop μ-loop
 loop-holds c = (omega arith, omega arith, under-start _ _ _)
 
 loop-again : tie.Need-loop-again Inv-loop μ-loop
 loop-again c =
+    let w = c .before .before .before .before .before in
     let p = c .before .before .put-bytes in
-    let l = c .before .before .before .before .before .before .before .before .before .before .loop in
-    let a = c .before .before .before .before .before .before .before .before .before .before .before .before .args in
-    (omega arith, omega (arith, p .ensures .next, l .inv .1), under-on (omega arith) (l .inv .2) (stored-turn (a .t3) (a .t4) (a .clocks) (l .i) (omega arith) (omega arith) (omega arith) (c .before .before .before .before .before .before .before .before .high-byte .ensures) (c .before .before .before .before .before .before .before .low-byte .ensures) (c .before .before .before .before .before .before .high-byte2 .ensures) (c .before .before .before .before .before .low-byte2 .ensures)) (p .ensures) (p .kept .0))
+    let l = at-loop w .loop in
+    let a = at-loop w .before .before .args in
+    (omega arith, omega (arith, p .ensures .next, l .inv .1), under-on (omega arith) (l .inv .2) (stored-turn (a .t3) (a .t4) (a .clocks) (l .i) (omega arith) (omega arith) (omega arith) (w .before .before .before .high-byte .ensures) (w .before .before .low-byte .ensures) (w .before .high-byte2 .ensures) (w .low-byte2 .ensures)) (p .ensures) (p .kept .0))
 
 returns : tie.Need-returns Inv-loop μ-loop
 returns c =

@@ -22,17 +22,24 @@ Inv-loop text tags starts ends clock-starts clock-ends clocks place-starts place
 abbrev μ-loop : tie.MeasureT-loop
 μ-loop text tags starts ends clock-starts clock-ends clocks place-starts place-ends places line parsed₀ at₀ parsed at = length line - at
 
+-- Earlier places in the code.
+abbrev start : tie.After-shared-slice-known9 Inv-loop μ-loop → tie.Start Inv-loop μ-loop
+start c = c .before .before .before .before .before .before .before .before .before
+
+abbrev at-loop : tie.After-next-word Inv-loop μ-loop → tie.At-loop Inv-loop μ-loop
+at-loop c = c .before .before
+
 loop-holds : tie.Need-loop-holds Inv-loop μ-loop
 loop-holds c =
-    let a = c .before .before .before .before .before .before .before .before .before .before .args in
+    let a = start (c .before) .args in
     let d = (scopeOf (now (a .text)) (now (a .tags)) (now (a .starts)) (now (a .ends)) (now (a .clock-starts)) (now (a .clock-ends)) (a .clocks) (spans (now (a .text)) (now (a .place-starts)) (now (a .place-ends)) 0 (a .places))) in
-    (omega arith, c .unsaid .ensures .1, sym (from-first d (a .clocks) (now (a .line)) (c .unsaid .result) (c .unsaid .ensures .0 (a .clocks) (omega (arith, c .before .before .before .before .before .before .before .before .before .before .pre .1 .0)))))
+    (omega arith, c .unsaid .ensures .1, sym (from-first d (a .clocks) (now (a .line)) (c .unsaid .result) (c .unsaid .ensures .0 (a .clocks) (omega (arith, start (c .before) .pre .1 .0)))))
 
 returns : tie.Need-returns Inv-loop μ-loop
 returns c =
-    let a = c .before .before .before .before .before .before .before .before .before .before .before .before .before .before .args in
+    let a = start (at-loop (c .before) .before .before) .args in
     let d = (scopeOf (now (a .text)) (now (a .tags)) (now (a .starts)) (now (a .ends)) (now (a .clock-starts)) (now (a .clock-ends)) (a .clocks) (spans (now (a .text)) (now (a .place-starts)) (now (a .place-ends)) 0 (a .places))) in
-    (from-none d (a .clocks) (now (a .line)) (c .before .before .before .loop .at) (c .before .before .before .loop .parsed) (c .before .next-word .result .start) (c .before .next-word .result .end) (c .before .next-word .ensures) (c .if1 .taken) ∙ sym (c .before .before .before .loop .inv .2), c .before .before .before .loop .inv .1)
+    (from-none d (a .clocks) (now (a .line)) (at-loop (c .before) .loop .at) (at-loop (c .before) .loop .parsed) (c .before .next-word .result .start) (c .before .next-word .result .end) (c .before .next-word .ensures) (c .if1 .taken) ∙ sym (at-loop (c .before) .loop .inv .2), at-loop (c .before) .loop .inv .1)
 
 sub-on-word : tie.Need-sub-on-word Inv-loop μ-loop
 sub-on-word c = c .before .next-word .ensures .order
@@ -45,22 +52,25 @@ part-on-word-end c = omega (arith, c .before .next-word .ensures .within, c .bef
 
 returns-2 : tie.Need-returns-2 Inv-loop μ-loop
 returns-2 c =
-    let a = c .before .before .before .before .before .before .before .before .before .before .before .before .before .before .before .before .before .before .args in
+    let n = c .before .before .before .before .before in
+    let a = start (at-loop n .before .before) .args in
     let d = (scopeOf (now (a .text)) (now (a .tags)) (now (a .starts)) (now (a .ends)) (now (a .clock-starts)) (now (a .clock-ends)) (a .clocks) (spans (now (a .text)) (now (a .place-starts)) (now (a .place-ends)) 0 (a .places))) in
-    (from-refused d (a .clocks) (now (a .line)) (c .before .before .before .before .before .before .before .loop .at) (c .before .before .before .before .before .before .before .loop .parsed) (c .before .before .before .before .before .next-word .result .start) (c .before .before .before .before .before .next-word .result .end) (c .before .before .before .before .before .next-word .ensures) (c .before .before .on-word .result) (omega (arith, c .before .before .before .before .if1 .left)) (c .before .before .on-word .ensures .0 (a .clocks)) (c .if2 .taken) ∙ sym (c .before .before .before .before .before .before .before .loop .inv .2), c .before .before .on-word .ensures .1)
+    (from-refused d (a .clocks) (now (a .line)) (at-loop n .loop .at) (at-loop n .loop .parsed) (n .next-word .result .start) (n .next-word .result .end) (n .next-word .ensures) (c .before .before .on-word .result) (omega (arith, c .before .before .before .before .if1 .left)) (c .before .before .on-word .ensures .0 (a .clocks)) (c .if2 .taken) ∙ sym (at-loop n .loop .inv .2), c .before .before .on-word .ensures .1)
 
 loop-less : tie.Need-loop-less Inv-loop μ-loop
 loop-less c = omega (arith, c .before .before .before .before .before .before .next-word .ensures .after, c .before .before .before .before .before .before .next-word .ensures .within, c .before .before .before .before .before .if1 .left)
 
 loop-again : tie.Need-loop-again Inv-loop μ-loop
 loop-again c =
-    let a = c .before .before .before .before .before .before .before .before .before .before .before .before .before .before .before .before .before .before .before .args in
+    let o = c .before .before .before in
+    let n = o .before .before .before in
+    let a = start (at-loop n .before .before) .args in
     let d = (scopeOf (now (a .text)) (now (a .tags)) (now (a .starts)) (now (a .ends)) (now (a .clock-starts)) (now (a .clock-ends)) (a .clocks) (spans (now (a .text)) (now (a .place-starts)) (now (a .place-ends)) 0 (a .places))) in
-    (c .before .before .before .before .before .before .next-word .ensures .within, c .before .before .before .on-word .ensures .1, c .before .before .before .before .before .before .before .before .loop .inv .2 ∙ from-on d (a .clocks) (now (a .line)) (c .before .before .before .before .before .before .before .before .loop .at) (c .before .before .before .before .before .before .before .before .loop .parsed) (c .before .before .before .before .before .before .next-word .result .start) (c .before .before .before .before .before .before .next-word .result .end) (c .before .before .before .before .before .before .next-word .ensures) (c .before .before .before .on-word .result) (omega (arith, c .before .before .before .before .before .if1 .left)) (c .before .before .before .on-word .ensures .0 (a .clocks)) (c .before .if2 .left))
+    (n .next-word .ensures .within, o .on-word .ensures .1, at-loop n .loop .inv .2 ∙ from-on d (a .clocks) (now (a .line)) (at-loop n .loop .at) (at-loop n .loop .parsed) (n .next-word .result .start) (n .next-word .result .end) (n .next-word .ensures) (o .on-word .result) (omega (arith, o .before .before .if1 .left)) (o .on-word .ensures .0 (a .clocks)) (c .before .if2 .left))
 
 returns-3 : tie.Need-returns-3 Inv-loop μ-loop
 returns-3 c =
-    let a = c .before .before .before .before .before .before .before .before .before .before .before .before .args in
+    let a = start (c .before .before .before) .args in
     let d = (scopeOf (now (a .text)) (now (a .tags)) (now (a .starts)) (now (a .ends)) (now (a .clock-starts)) (now (a .clock-ends)) (a .clocks) (spans (now (a .text)) (now (a .place-starts)) (now (a .place-ends)) 0 (a .places))) in
     (from-end d (a .clocks) (now (a .line)) (c .before .loop .at) (c .before .loop .parsed) (omega arith) ∙ sym (c .before .loop .inv .2), c .before .loop .inv .1)
 
