@@ -17,9 +17,16 @@ use Rattle.meter.proofs.meter.meter_input.Statement.{statement}
 use Rattle.meter.proofs.meter.meter_input.Tie as tie
 use Rattle.stepping.specs.declared.state.State.{State}
 
+-- Earlier places in the code.
+abbrev start : tie.After-signals-of → tie.Start
+start c = c .before .before .before .before
+
+abbrev unrefused : tie.After-pulses → tie.Else3
+unrefused c = c .before .before
+
 returns : tie.Need-returns
 returns c =
-    let a = c .before .before .before .before .before .before .before .args in
+    let a = start (c .before .before .before) .args in
     let z = sym (ap (λ (s : Signals). s .pulse) (c .before .before .before .signals-of .ensures)) ∙ c .before .if1 .taken in
     record {
       said =
@@ -29,8 +36,9 @@ returns c =
 
 returns-2 : tie.Need-returns-2
 returns-2 c =
-    let a = c .before .before .before .before .before .before .before .before .before .args in
-    let z = sym (ap (λ (s : Signals). s .dispense) (c .before .before .before .before .before .signals-of .ensures)) ∙ c .before .if2 .taken in
+    let w = c .before .before .before .before .before in
+    let a = start w .args in
+    let z = sym (ap (λ (s : Signals). s .dispense) (w .signals-of .ensures)) ∙ c .before .if2 .taken in
     record {
       said =
           ap refused (c .no-signals2 .ensures)
@@ -39,7 +47,7 @@ returns-2 c =
 
 -- Both signals are there.
 some : (c : tie.Else2) →
-    let f = now (c .before .before .before .before .before .before .before .before .args .file) in (inputWeight f tagP ≡ 0 → ⊥) × (outputWeight f tagD ≡ 0 → ⊥)
+    let f = now (start (c .before .before .before .before) .args .file) in (inputWeight f tagP ≡ 0 → ⊥) × (outputWeight f tagD ≡ 0 → ⊥)
 some c =
     let s = c .before .before .before .before .signals-of .ensures in (
       λ z. c .before .before .if1 .left (ap (λ (r : Signals). r .pulse) s ∙ z),
@@ -48,7 +56,7 @@ some c =
 
 returns-3 : tie.Need-returns-3
 returns-3 c =
-    let a = c .before .before .before .before .before .before .before .before .before .before .args in
+    let a = start (c .before .before .before .before .before .before) .args in
     let k = some (c .before .before) in
     record {
       said =
@@ -59,18 +67,19 @@ returns-3 c =
 
 returns-4 : tie.Need-returns-4
 returns-4 c =
-    let a = c .before .before .before .before .before .before .before .before .before .before .before .before .before .before .args in
-    let k = some (c .before .before .before .before .before .before) in
+    let u = unrefused (c .before .before .before) in
+    let a = start (u .before .before .before .before .before) .args in
+    let k = some (u .before) in
     let x =
     c .before .before .with-pulse .ensures
-    ∙ ap₂ (λ (w n : ℕ). withPulse w n (a .x)) (ap (λ (r : Signals). r .pulse) (c .before .before .before .before .before .before .before .before .before .before .signals-of .ensures)) (c .before .before .before .pulses .ensures)
+    ∙ ap₂ (λ (w n : ℕ). withPulse w n (a .x)) (ap (λ (r : Signals). r .pulse) (u .before .before .before .before .before .signals-of .ensures)) (c .before .before .before .pulses .ensures)
     in
     record {
       said =
           c .input-half .ensures .said
           ∙ ap₂ (λ (s : State) (z : ℕ). inputOf (a .reading) (now (a .file)) (now (a .marks)) s z) (c .before .station-state .ensures) x
           ∙ sym (input-there (a .reading) (now (a .file)) (now (a .marks)) (now (a .station)) (k .0) (k .1) (a .register) (a .x)
-          (le-leb 6 (length (now (a .station))) (c .before .before .before .before .before .if3 .left)));
+          (le-leb 6 (length (now (a .station))) (u .if3 .left)));
     }
 
 pub meter-input-spec : {M : Type 1} → statement M

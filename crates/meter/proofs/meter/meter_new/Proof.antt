@@ -10,6 +10,10 @@ use borrow.Author.Needs.{needs}
 use Rattle.meter.proofs.meter.meter_new.Statement.{statement}
 use Rattle.meter.proofs.meter.meter_new.Tie as tie
 
+-- Earlier places in the code.
+abbrev stationed : tie.After-clear-totals → tie.After-put-station
+stationed c = c .before .before .before .before
+
 returns : tie.Need-returns
 unfolding newRefusal newStation newTotals
 returns c = let e = lt-leb 6 (length (now (c .before .before .before .args .station))) (c .if1 .taken) in record { said = rw e; placed = rw e; cleared = rw e }
@@ -25,12 +29,13 @@ returns-2 c =
 returns-3 : tie.Need-returns-3
 unfolding newRefusal newStation newTotals
 returns-3 c =
-    let a = c .before .before .before .before .before .before .before .before .before .before .before .before .before .args in
-    let e = le-leb 6 (length (now (a .station))) (c .before .before .before .before .before .before .before .before .before .before .if1 .left) in
-    let g = le-leb 2 (length (now (a .totals))) (c .before .before .before .before .before .before .before .before .before .if2 .left) in
+    let w = stationed (c .before .before) in
+    let a = w .before .before .before .before .before .before .before .args in
+    let e = le-leb 6 (length (now (a .station))) (w .before .before .before .before .if1 .left) in
+    let g = le-leb 2 (length (now (a .totals))) (w .before .before .before .if2 .left) in
     record {
       said = rw (e, g);
-      placed = rw (e, g) (c .before .before .before .before .before .before .put-station .ensures ∙ ap (λ (s : State). withStation (now (a .station)) s (a .register)) (c .before .before .before .before .before .before .before .start .ensures));
+      placed = rw (e, g) (w .put-station .ensures ∙ ap (λ (s : State). withStation (now (a .station)) s (a .register)) (w .before .start .ensures));
       cleared = rw (e, g) (c .before .before .clear-totals .ensures);
     }
 

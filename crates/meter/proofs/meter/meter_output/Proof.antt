@@ -14,6 +14,13 @@ use borrow.Author.Needs.{needs}
 use Rattle.meter.proofs.meter.meter_output.Statement.{statement}
 use Rattle.meter.proofs.meter.meter_output.Tie as tie
 
+-- Earlier places in the code.
+abbrev start : tie.After-struct-known2 → tie.Start
+start c = c .before .before .before .before .before .before .before .before
+
+abbrev unrefused : tie.After-release → tie.Else4
+unrefused c = c .before .before .before
+
 returns : tie.Need-returns
 returns c =
     let a = c .before .before .before .before .before .before .before .before .args in
@@ -26,7 +33,7 @@ returns c =
 
 returns-2 : tie.Need-returns-2
 returns-2 c =
-    let a = c .before .before .before .before .before .before .before .before .before .before .args in
+    let a = start (c .before .before) .args in
     let z = sym (ap (λ (s : Signals). s .dispense) (c .before .before .before .before .before .signals-of .ensures)) ∙ c .before .if2 .taken in
     record {
       said =
@@ -36,7 +43,7 @@ returns-2 c =
 
 -- Both signals are there.
 some : (c : tie.Else2) →
-    let f = now (c .before .before .before .before .before .before .before .before .before .args .file) in (inputWeight f tagP ≡ 0 → ⊥) × (outputWeight f tagD ≡ 0 → ⊥)
+    let f = now (start (c .before) .args .file) in (inputWeight f tagP ≡ 0 → ⊥) × (outputWeight f tagD ≡ 0 → ⊥)
 some c =
     let s = c .before .before .before .before .signals-of .ensures in (
       λ z. c .before .before .if1 .left (ap (λ (r : Signals). r .pulse) s ∙ z),
@@ -45,7 +52,7 @@ some c =
 
 returns-3 : tie.Need-returns-3
 returns-3 c =
-    let a = c .before .before .before .before .before .before .before .before .before .before .before .args in
+    let a = start (c .before .before .before) .args in
     let k = some (c .before .before) in
     record {
       said =
@@ -56,7 +63,7 @@ returns-3 c =
 
 returns-4 : tie.Need-returns-4
 returns-4 c =
-    let a = c .before .before .before .before .before .before .before .before .before .before .before .before .args in
+    let a = start (c .before .before .before .before) .args in
     let k = some (c .before .before .before) in
     record {
       said =
@@ -67,16 +74,18 @@ returns-4 c =
 
 returns-5 : tie.Need-returns-5
 returns-5 c =
-    let a = c .before .before .before .before .before .before .before .before .before .before .before .before .before .before .before .before .before .before .args in
-    let e = c .before .before .before .before .before .before .before .before .before in
+    let r = c .before .before .before .before in
+    let u = unrefused r in
+    let a = start (u .before .before .before) .args in
+    let e = u .before .before in
     let k = some e in
     let o = outputOf (a .reading) (now (a .file)) (now (a .marks)) (stationState (now (a .station))) (a .x) (a .y) in
     record {
       said =
-          c .before .before .before .before .release .ensures .said
+          r .release .ensures .said
           ∙ ap (λ (s : Signals). metered (now (a .station)) (now (a .totals)) (a .register) (s .dispense) (o .state) (o .answer)) (e .before .before .before .before .signals-of .ensures)
           ∙ sym (output-there (a .reading) (now (a .file)) (now (a .marks)) (now (a .station)) (k .0) (k .1) (now (a .totals)) (a .register) (a .x) (a .y)
-          (rw (le-leb 6 (length (now (a .station))) (c .before .before .before .before .before .before .before .before .if3 .left), le-leb 2 (length (now (a .totals))) (c .before .before .before .before .before .before .before .if4 .left))));
+          (rw (le-leb 6 (length (now (a .station))) (u .before .if3 .left), le-leb 2 (length (now (a .totals))) (u .if4 .left))));
     }
 
 pub meter-output-spec : {M : Type 1} → statement M

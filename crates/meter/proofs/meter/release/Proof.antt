@@ -11,6 +11,10 @@ use Rattle.meter.proofs.meter.release.Statement.{statement}
 use Rattle.meter.proofs.meter.release.Tie as tie
 use Rattle.stepping.specs.declared.state.State.{State}
 
+-- Earlier places in the code.
+abbrev answered : tie.After-settle → tie.After-answer
+answered c = c .before .before .before .before
+
 -- The output half of the station's state.
 given : (c : tie.After-output-of) →
     let a = c .before .before .before .before .before .before .before .args in
@@ -32,7 +36,7 @@ follows c e =
     ∙ ap (λ (o : OutputAnswer). metered (now (a .station)) (now (a .totals)) (a .register) (a .weight) (o .state) (o .answer)) (given c)
 
 returns : tie.Need-returns
-returns c = record { said = c .before .before .before .before .settle .ensures .said ∙ follows (c .before .before .before .before .before .before .before .before .before .before .before) (c .before .before .before .before .before .before .before .before .answer .given .1) }
+returns c = let w = c .before .before .before .before in record { said = w .settle .ensures .said ∙ follows (answered w .before .before .before) (answered w .answer .given .1) }
 
 returns-2 : tie.Need-returns-2
 returns-2 c = record { said = follows (c .before .before .before .before) (c .before .answer2 .given .1) }
