@@ -11,14 +11,18 @@ use Rattle.telling.specs.Prints.{start-marks, start-good, start-asked, s
 use Rattle.telling.proofs.reply.tell_all.Statement.{statement}
 use Rattle.telling.proofs.reply.tell_all.Tie as tie
 
+-- Earlier places in the code.
+abbrev start : tie.After-check-under → tie.Start
+start c = c .before .before .before .before .before .before .before
+
 granted : (c : tie.After-check-under) →
-    let a = c .before .before .before .before .before .before .before .args in Granted (a .reading) (now (a .file)) (now (a .marks)) (c .check-under .result .layout)
-granted c = granted-laid _ (c .check-under .ensures) (c .before .before .before .before .before .before .before .pre .0 .early)
+    let a = start c .args in Granted (a .reading) (now (a .file)) (now (a .marks)) (c .check-under .result .layout)
+granted c = granted-laid _ (c .check-under .ensures) (start c .pre .0 .early)
 
 slice-relend-prefix-tell-counted : tie.Need-slice-relend-prefix-tell-counted
 slice-relend-prefix-tell-counted c =
     let k = granted (c .before .before) in
-    omega (arith, k .laid .states, laid-well (k .laid) .states, c .before .before .before .before .before .before .before .before .before .pre .1 .0)
+    omega (arith, k .laid .states, laid-well (k .laid) .states, start (c .before .before) .pre .1 .0)
 
 slice-aggregate-tell-counted : tie.Need-slice-aggregate-tell-counted
 slice-aggregate-tell-counted c = sym (length-take-le _ _ (slice-relend-prefix-tell-counted (c .before)))
@@ -26,17 +30,18 @@ slice-aggregate-tell-counted c = sym (length-take-le _ _ (slice-relend-prefix-te
 slice-relend-prefix-tell-counted-2 : tie.Need-slice-relend-prefix-tell-counted-2
 slice-relend-prefix-tell-counted-2 c =
     let k = granted (c .before .before .before) in
-    omega (arith, k .laid .states, laid-well (k .laid) .states, c .before .before .before .before .before .before .before .before .before .before .pre .1 .1)
+    omega (arith, k .laid .states, laid-well (k .laid) .states, start (c .before .before .before) .pre .1 .1)
 
 slice-aggregate-tell-counted-2 : tie.Need-slice-aggregate-tell-counted-2
 slice-aggregate-tell-counted-2 c = sym (length-take-le _ _ (slice-relend-prefix-tell-counted-2 (c .before)))
 
 tell-counted-requires : tie.Need-tell-counted-requires
 tell-counted-requires c κs =
-    let s = c .before .before .before .before .before .before .before .before .before .before .before .before in
-    let k = granted (c .before .before .before .before .before) in
+    let w = c .before .before .before .before .before in
+    let s = start w in
+    let k = granted w in
     let h = s .pre .0 in (
-      (subst (Asked (now (s .args .file)) (c .before .before .before .before .before .check-under .result .layout) (now (s .args .marks))) (sym (c .before .before .before .before .start .ensures)) (start-asked k h), k .laid, start-marks k h),
+      (subst (Asked (now (s .args .file)) (w .check-under .result .layout) (now (s .args .marks))) (sym (c .before .before .before .before .start .ensures)) (start-asked k h), k .laid, start-marks k h),
       (
         (
           length-take-le _ _ (slice-relend-prefix-tell-counted (c .before .before .before)) ∙ k .laid .states,
@@ -49,7 +54,7 @@ tell-counted-requires c κs =
 returns : tie.Need-returns
 returns c =
     let t = c .before .before .before .before .before .before in
-    let s = t .before .before .before .before .before .before .before .before .before .before .before .before .before in
+    let s = start (t .before .before .before .before .before .before) in
     let k = granted (t .before .before .before .before .before .before) in
     start-told k (s .pre .0) (rw (t .before .before .before .before .before .start .ensures) at (t .tell-counted .ensures))
 

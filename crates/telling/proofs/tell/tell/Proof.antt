@@ -16,12 +16,16 @@ Inv-loop file layout marks ticks rests events text₀ at state₀ next₀ i₀ t
 abbrev μ-loop : tie.MeasureT-loop
 μ-loop file layout marks ticks rests events text₀ at state₀ next₀ i₀ text state next i = length events - i
 
+-- Earlier places in the code.
+abbrev start : tie.At-loop Inv-loop μ-loop → tie.Start Inv-loop μ-loop
+start c = c .before .before .before .before .before .before .before
+
 loop-holds : tie.Need-loop-holds Inv-loop μ-loop
 loop-holds c = telling-starts _ _ _ (c .before .before .before .before .before .before .pre .0 .0)
 
 tell-tick-requires : tie.Need-tell-tick-requires Inv-loop μ-loop
 tell-tick-requires c κs =
-    let s = c .before .before .before .before .before .before .before .before .before .before in
+    let s = start (c .before .before .before) in
     let l = c .before .before .before .loop in
     let i = c .before .before .loop-test .taken in
     let g = and-eq-true-iff _ _ .0 (all-at _ _ (s .pre .1 .1) (l .i) i) in (
@@ -31,9 +35,10 @@ tell-tick-requires c κs =
 
 loop-again : tie.Need-loop-again Inv-loop μ-loop
 loop-again c =
-    let s = c .before .before .before .before .before .before .before .before .before .before .before .before .before .before in
+    let l = c .before .before .before .before .before .before .before in
+    let s = start l in
     let t = c .before .before .before .tell-tick in
-    telling-turn (c .before .before .before .before .before .before .before .loop .inv) (c .before .before .before .before .before .before .loop-test .taken) (omega (arith, s .pre .1 .2)) (t .kept .1 .1 .1 .1 .1 .1 .1 .1 .0) (t .ensures)
+    telling-turn (l .loop .inv) (c .before .before .before .before .before .before .loop-test .taken) (omega (arith, s .pre .1 .2)) (t .kept .1 .1 .1 .1 .1 .1 .1 .1 .0) (t .ensures)
 
 returns : tie.Need-returns Inv-loop μ-loop
 returns c = telling-ends (c .before .loop .inv) (c .loop-test .left)
