@@ -22,6 +22,13 @@ Inv-loop file layout here marks state inputs outputs size left₀ found₀ at₀
 abbrev μ-loop : tie.MeasureT-loop
 μ-loop file layout here marks state inputs outputs size left₀ found₀ at₀ ahead₀ left found at ahead = ahead
 
+-- Earlier places in the code.
+abbrev start : tie.After-values2 Inv-loop μ-loop → tie.Start Inv-loop μ-loop
+start c = c .before .before .before .before
+
+abbrev values : tie.At-loop Inv-loop μ-loop → tie.After-values2 Inv-loop μ-loop
+values c = c .before .before .before .before .before
+
 -- The values counted are those of the inputs and of the outputs.
 counted : (c : tie.After-values2 Inv-loop μ-loop) →
     let p = policyOf (c .before .before .before .before .args .layout .reading) (now (c .before .before .before .before .args .file)) in
@@ -37,23 +44,23 @@ values-requires-2 : tie.Need-values-requires-2 Inv-loop μ-loop
 values-requires-2 c κs = omega (arith, laid-limits (c .before .before .before .pre .standing .laid))
 
 mul-size : tie.Need-mul-size Inv-loop μ-loop
-mul-size c = omega (arith, laid-limits (c .before .before .before .before .before .pre .standing .laid))
+mul-size c = omega (arith, laid-limits (start (c .before) .pre .standing .laid))
 
 add-size : tie.Need-add-size Inv-loop μ-loop
-add-size c = omega (arith, laid-limits (c .before .before .before .before .before .pre .standing .laid))
+add-size c = omega (arith, laid-limits (start (c .before) .pre .standing .laid))
 
 room-requires : tie.Need-room-requires Inv-loop μ-loop
 room-requires c κs = let k = counted (c .before) in (k .0 .1, k .1 .1)
 
 add-at : tie.Need-add-at Inv-loop μ-loop
 add-at c =
-    let s = c .before .before .before .before .before .before .before .before in
+    let s = start (c .before .before .before .before) in
     omega (arith, laid-short (s .pre .standing .laid), own-ahead (s .pre .standing .laid) (s .args .state .location) (s .pre .here .own) .ends)
 
 loop-holds : tie.Need-loop-holds Inv-loop μ-loop
 loop-holds c =
     let v = c .before .before .before .before in
-    let s = v .before .before .before .before in
+    let s = start v in
     let k = s .pre .standing .laid in
     let a = s .args .state .location in (
       (c .before .before .room .ensures .size, refl, own-ahead k a (s .pre .here .own)),
@@ -64,22 +71,22 @@ loop-holds c =
 gather-by-requires : tie.Need-gather-by-requires Inv-loop μ-loop
 gather-by-requires c κs =
     let i = c .before .before in
-    let v = i .before .before .before .before .before .before in
-    let s = v .before .before .before .before in
+    let v = values (i .before) in
+    let s = start v in
     let g = i .before .loop .inv .0 in
     (s .pre, ahead-rule (s .pre .standing .laid) (g .2) (i .loop-test .taken), counted v .0 .1, g .0, g .1)
 
 add-at-2 : tie.Need-add-at-2 Inv-loop μ-loop
 add-at-2 c =
     let i = c .before .before .before in
-    let s = i .before .before .before .before .before .before .before .before .before .before in
+    let s = start (values (i .before)) in
     omega (arith, laid-short (s .pre .standing .laid), ahead-rest (s .pre .standing .laid) (i .before .loop .inv .0 .2) (i .loop-test .taken) .ends)
 
 loop-again : tie.Need-loop-again Inv-loop μ-loop
 loop-again c =
     let i = c .before .before .before in
-    let v = i .before .before .before .before .before .before in
-    let k = v .before .before .before .before .pre .standing .laid in
+    let v = values (i .before) in
+    let k = start v .pre .standing .laid in
     let g = i .before .loop .inv in
     let m = i .loop-test .taken in
     let w = c .gather-by .ensures in (

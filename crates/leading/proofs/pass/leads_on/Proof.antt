@@ -25,6 +25,13 @@ Inv-loop file layout here marks state inputs outputs size left₀ at₀ ahead₀
 abbrev μ-loop : tie.MeasureT-loop
 μ-loop file layout here marks state inputs outputs size left₀ at₀ ahead₀ left at ahead = ahead
 
+-- Earlier places in the code.
+abbrev start : tie.After-values2 Inv-loop μ-loop → tie.Start Inv-loop μ-loop
+start c = c .before .before .before .before .before .before
+
+abbrev values : tie.At-loop Inv-loop μ-loop → tie.After-values2 Inv-loop μ-loop
+values c = c .before .before .before .before .before
+
 -- The values counted are those of the inputs and of the outputs.
 counted : (c : tie.After-values2 Inv-loop μ-loop) →
     let p = policyOf (c .before .before .before .before .before .before .args .layout .reading) (now (c .before .before .before .before .before .before .args .file)) in
@@ -47,23 +54,23 @@ values-requires-2 : tie.Need-values-requires-2 Inv-loop μ-loop
 values-requires-2 c κs = omega (arith, laid-limits (c .before .before .before .before .before .pre .standing .laid))
 
 mul-size : tie.Need-mul-size Inv-loop μ-loop
-mul-size c = omega (arith, laid-limits (c .before .before .before .before .before .before .before .pre .standing .laid))
+mul-size c = omega (arith, laid-limits (start (c .before) .pre .standing .laid))
 
 add-size : tie.Need-add-size Inv-loop μ-loop
-add-size c = omega (arith, laid-limits (c .before .before .before .before .before .before .before .pre .standing .laid))
+add-size c = omega (arith, laid-limits (start (c .before) .pre .standing .laid))
 
 room-requires : tie.Need-room-requires Inv-loop μ-loop
 room-requires c κs = let k = counted (c .before) in (k .0 .1, k .1 .1)
 
 add-at : tie.Need-add-at Inv-loop μ-loop
 add-at c =
-    let s = c .before .before .before .before .before .before .before .before .before .before in
+    let s = start (c .before .before .before .before) in
     omega (arith, laid-short (s .pre .standing .laid), own-ahead (s .pre .standing .laid) (s .args .state .location) (s .pre .here .own) .ends)
 
 loop-holds : tie.Need-loop-holds Inv-loop μ-loop
 loop-holds c =
     let v = c .before .before .before .before in
-    let s = v .before .before .before .before .before .before in
+    let s = start v in
     let k = s .pre .standing .laid in
     let a = s .args .state .location in (
       (c .before .before .room .ensures .size, own-ahead k a (s .pre .here .own)),
@@ -74,15 +81,15 @@ loop-holds c =
 go-by-requires : tie.Need-go-by-requires Inv-loop μ-loop
 go-by-requires c κs =
     let i = c .before in
-    let v = i .before .before .before .before .before .before in
-    let s = v .before .before .before .before .before .before in
+    let v = values (i .before) in
+    let s = start v in
     (s .pre, ahead-rule (s .pre .standing .laid) (i .before .loop .inv .0 .1) (i .loop-test .taken), counted v .0 .1, i .before .loop .inv .0 .0)
 
 returns-2 : tie.Need-returns-2 Inv-loop μ-loop
 returns-2 c =
     let i = c .before .before .before in
-    let v = i .before .before .before .before .before .before in
-    let k = v .before .before .before .before .before .before .pre .standing .laid in
+    let v = values (i .before) in
+    let k = start v .pre .standing .laid in
     let g = i .before .loop .inv in
     sym (gathering-found _ _ _ (laid-well k) (rw (ahead-first k (g .0 .1) (i .loop-test .taken)) at (g .1))
     (went-as _ _ _ (counted v .0 .0) (c .if2 .taken) (c .before .go-by .ensures)))
@@ -90,14 +97,14 @@ returns-2 c =
 add-at-2 : tie.Need-add-at-2 Inv-loop μ-loop
 add-at-2 c =
     let i = c .before .before .before in
-    let s = i .before .before .before .before .before .before .before .before .before .before .before .before in
+    let s = start (values (i .before)) in
     omega (arith, laid-short (s .pre .standing .laid), ahead-rest (s .pre .standing .laid) (i .before .loop .inv .0 .1) (i .loop-test .taken) .ends)
 
 loop-again : tie.Need-loop-again Inv-loop μ-loop
 loop-again c =
     let i = c .before .before .before in
-    let v = i .before .before .before .before .before .before in
-    let k = v .before .before .before .before .before .before .pre .standing .laid in
+    let v = values (i .before) in
+    let k = start v .pre .standing .laid in
     let g = i .before .loop .inv in
     let m = i .loop-test .taken in (
       (c .before .go-by .ensures .changed .size ∙ g .0 .0, ahead-rest k (g .0 .1) m),
@@ -107,7 +114,7 @@ loop-again c =
 returns-3 : tie.Need-returns-3 Inv-loop μ-loop
 returns-3 c =
     let l = c .before .loop in
-    let k = c .before .before .before .before .before .before .before .before .before .before .before .before .pre .standing .laid in
+    let k = start (values (c .before)) .pre .standing .laid in
     sym (gathering-nothing _ _ _ (laid-well k) (rw (none-ahead _ _ _ (l .ahead) (omega arith)) at (l .inv .1)))
 
 pub leads-on-spec : {M : Type 1} → statement M

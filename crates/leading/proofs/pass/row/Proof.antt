@@ -22,6 +22,10 @@ Inv-loop file layout here marks state x size left₀ found₀ at₀ ahead₀ lef
 abbrev μ-loop : tie.MeasureT-loop
 μ-loop file layout here marks state x size left₀ found₀ at₀ ahead₀ left found at ahead = ahead
 
+-- Earlier places in the code.
+abbrev start : tie.At-loop Inv-loop μ-loop → tie.Start Inv-loop μ-loop
+start c = c .before .before .before .before .before .before .before .before
+
 -- The values counted are those of the outputs.
 counted : (c : tie.After-values Inv-loop μ-loop) →
     (c .values .result ≡ outputValues (policyOf (c .before .before .before .before .args .layout .reading) (now (c .before .before .before .before .args .file)))) × (c .values .result ≤ 16)
@@ -57,33 +61,33 @@ loop-holds c =
 
 takes-requires : tie.Need-takes-requires Inv-loop μ-loop
 takes-requires c κs =
-    let s = c .before .before .before .before .before .before .before .before .before in
+    let s = start (c .before) in
     (s .pre .standing .laid, s .pre .here, ahead-rule (s .pre .standing .laid) (c .before .loop .inv .0) (c .loop-test .taken))
 
 kept-requires : tie.Need-kept-requires Inv-loop μ-loop
 kept-requires c κs =
-    let s = c .before .before .before .before .before .before .before .before .before .before in
+    let s = start (c .before .before) in
     (s .pre .standing, ahead-rule (s .pre .standing .laid) (c .before .before .loop .inv .0) (c .before .loop-test .taken))
 
 returns : tie.Need-returns Inv-loop μ-loop
 returns c =
     let b = c .before in
     let i = b .before .before in
-    let k = i .before .before .before .before .before .before .before .before .before .pre .standing .laid in
+    let k = start (i .before) .pre .standing .laid in
     let g = i .before .loop .inv in
     rowing-empty _ _ _ _ (rowing-more _ _ _ _ (rw (ahead-first k (g .0) (i .loop-test .taken)) at (g .1)) (b .before .takes .ensures) (b .kept .ensures)) (c .if1 .taken)
 
 add-at-2 : tie.Need-add-at-2 Inv-loop μ-loop
 add-at-2 c =
     let i = c .before .before .before in
-    let k = i .before .before .before .before .before .before .before .before .before .pre .standing .laid in
+    let k = start (i .before) .pre .standing .laid in
     omega (arith, laid-short k, ahead-rest k (i .before .loop .inv .0) (i .loop-test .taken) .ends)
 
 loop-again : tie.Need-loop-again Inv-loop μ-loop
 loop-again c =
     let b = c .before in
     let i = b .before .before in
-    let k = i .before .before .before .before .before .before .before .before .before .pre .standing .laid in
+    let k = start (i .before) .pre .standing .laid in
     let g = i .before .loop .inv in
     let m = i .loop-test .taken in
     (ahead-rest k (g .0) m, rowing-more _ _ _ _ (rw (ahead-first k (g .0) m) at (g .1)) (b .before .takes .ensures) (b .kept .ensures))
