@@ -10,9 +10,13 @@ use Rattle.groovepawn.specs.Clean.{cleanWord}
 use Rattle.groovepawn.proofs.clean_call.groovepawn_clean.Statement.{statement}
 use Rattle.groovepawn.proofs.clean_call.groovepawn_clean.Tie as tie
 
+-- Earlier places in the code.
+abbrev start : tie.After-clean → tie.Start
+start c = c .before .before .before .before .before .before
+
 -- The lengths are those of the entry, and they are small.
 given : (c : tie.After-l) →
-    let a = c .before .before .before .before .before .before .before .before .before .before .before .before .args in
+    let a = start (c .before .before .before .before .before .before) .args in
     let l = c .l .given .0 .0 in
     cleanOf (a .reading) (now (a .file)) (now (a .cleaned)) (now (a .struck)) ≡ gives (record { cleaned = l .cleaned; struck = l .struck })
 given c = sym (c .before .before .before .before .before .before .clean .ensures .said) ∙ rw (c .l .given .1)

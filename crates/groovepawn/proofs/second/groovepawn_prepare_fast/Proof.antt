@@ -6,12 +6,16 @@ use Rattle.groovepawn.specs.Fast.{fast-small}
 use Rattle.groovepawn.proofs.second.groovepawn_prepare_fast.Statement.{statement}
 use Rattle.groovepawn.proofs.second.groovepawn_prepare_fast.Tie as tie
 
+-- Earlier places in the code.
+abbrev prepared : tie.After-bound → tie.After-prepare-fast
+prepared c = c .before .before .before .before .before .before .before .before .before
+
 summary-word-requires : tie.Need-summary-word-requires
-summary-word-requires c κs = λ s e. fast-small _ _ _ _ s (sym (c .before .before .before .before .before .before .before .before .before .before .before .before .prepare-fast .ensures .said) ∙ e)
+summary-word-requires c κs = λ s e. fast-small _ _ _ _ s (sym (prepared (c .before .before .before) .prepare-fast .ensures .said) ∙ e)
 
 returns : tie.Need-returns
 returns c =
-    let e = c .before .before .before .before .before .before .before .before .before .before .before .before .before .prepare-fast .ensures in
+    let e = prepared (c .before .before .before .before) .prepare-fast .ensures in
     record { said = c .summary-word .ensures ∙ ap summaryWord (e .said); marks = e .marks; scratch = e .scratch }
 
 pub groovepawn-prepare-fast-spec : {M : Type 1} → statement M

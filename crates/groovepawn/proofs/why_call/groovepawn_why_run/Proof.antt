@@ -12,6 +12,19 @@ use Rattle.groovepawn.specs.Why.{oddWhyRun}
 use Rattle.groovepawn.proofs.why_call.groovepawn_why_run.Statement.{statement}
 use Rattle.groovepawn.proofs.why_call.groovepawn_why_run.Tie as tie
 
+-- Earlier places in the code.
+abbrev start : tie.After-slice-known6 → tie.Start
+start c = c .before .before .before .before .before .before .before .before .before
+
+abbrev stated : tie.After-why-run-arg9 → tie.After-state-of
+stated c = c .before .before .before .before .before .before .before .before .before
+
+abbrev ran : tie.After-stack → tie.After-why-run
+ran c = c .before .before .before .before .before .before .before .before .before
+
+abbrev put-back : tie.After-place → tie.After-stack
+put-back c = c .before .before .before .before .before .before .before .before
+
 -- What is lent to work in.
 abbrev room : tie.Start → Room
 room s =
@@ -25,7 +38,7 @@ room s =
 
 returns : tie.Need-returns
 returns c =
-    let a = c .before .before .before .before .before .before .before .before .before .before .before .before .before .before .before .before .args in
+    let a = start (c .before .before .before .before .before .before .before) .args in
     record {
       odd =
           λ e. (
@@ -39,14 +52,15 @@ returns c =
     }
 
 put-state-requires : tie.Need-put-state-requires
-put-state-requires c κs = c .before .before .before .before .before .before .before .before .before .before .before .before .before .before .before .before .before .before .before .before .before .before .before .before .before .before .before .before .before .before .before .before .if1 .left
+put-state-requires c κs = stated (ran (put-back (c .before .before .before)) .before) .before .before .if1 .left
 
 returns-2 : tie.Need-returns-2
 returns-2 c =
-    let w = c .before .before .before .before .before .before .before .before .before .before .before .before .before .before .before .before .before .before .before .before .before .before .before .before .why-run in
-    let s = c .before .before .before .before .before .before .before .before .before .before .before .before .before .before .before .before .before .before .before .before .before .before .before .before .before .before .before .before .before .before .before .before .before .before in
+    let r = ran (put-back (c .before .before .before .before .before .before .before)) in
+    let w = r .why-run in
+    let s = stated (r .before) in
     let e = s .before .before in
-    let t = e .before .before .before .before .before .before .before .before .before .before .before .before .before .before in
+    let t = start (e .before .before .before .before .before) in
     let a = t .args in
     record {
       odd = λ q. absurd (eqb-false _ 5 q (e .if1 .left));
