@@ -11,6 +11,10 @@ use borrow.Author.Needs.{needs}
 use Rattle.tracing.proofs.stream.read_body.Statement.{statement}
 use Rattle.tracing.proofs.stream.read_body.Tie as tie
 
+-- Earlier places in the code.
+abbrev put-first : tie.After-read-later → tie.After-put
+put-first c = c .before .before .before .before
+
 returns : tie.Need-returns
 returns c =
     let e = c .before .before .before .before in
@@ -35,7 +39,8 @@ read-later-requires c κs =
 
 returns-2 : tie.Need-returns-2
 returns-2 c =
-    let e = c .before .before .before .before .before .before .before .before .before .before .before .before in
+    let d = put-first (c .before .before) in
+    let e = d .before .before .before .before .before .before in
     let s = e .before .before .before .before .before in
     let x = now (s .args .inputs) in
     let y = now (s .args .outputs) in
@@ -43,8 +48,8 @@ returns-2 c =
     let g = s .pre .1 in
     let v = e .read-event .ensures in
     let l = c .before .before .read-later in
-    let p = c .before .before .before .before .before .before .put in
-    let i = c .before .before .before .before .before .before .before .before in
+    let p = d .put in
+    let i = d .before .before in
     let r = e .read-event .result in
     let z = now (s .args .events) in
     let after = l .last .1 .1 .1 .1 .1 .0 in
