@@ -17,6 +17,10 @@ Inv-loop word i₀ i = (1 ≤ i) × (i ≤ length word) × (every inner (drop i 
 abbrev μ-loop : tie.MeasureT-loop
 μ-loop word i₀ i = length word - i
 
+-- Earlier places in the code.
+abbrev start : tie.At-loop Inv-loop μ-loop → tie.Start Inv-loop μ-loop
+start c = c .before .before .before .before .before .before .before
+
 returns : tie.Need-returns Inv-loop μ-loop
 returns c = name-none (now (c .before .before .args .word)) (omega arith)
 
@@ -31,25 +35,29 @@ loop-holds c = (omega arith, omega arith, refl)
 
 returns-4 : tie.Need-returns-4 Inv-loop μ-loop
 returns-4 c =
-    let w = now (c .before .before .before .before .before .before .before .before .before .before .before .args .word) in
-    let l = c .before .before .before .before .loop in
+    let d = c .before .before .before .before in
+    let w = now (start d .args .word) in
+    let l = d .loop in
     name-inner w (sym (inner-off w (l .i) (omega arith) (sym (not-true _ (c .if4 .taken)) ∙ c .before .is-inner .ensures)) ∙ l .inv .2)
 
 loop-again : tie.Need-loop-again Inv-loop μ-loop
 loop-again c =
-    let w = now (c .before .before .before .before .before .before .before .before .before .before .before .args .word) in
-    let l = c .before .before .before .before .loop in
+    let d = c .before .before .before .before in
+    let w = now (start d .args .word) in
+    let l = d .loop in
     (omega arith, omega arith, sym (inner-on w (l .i) (omega arith) (sym (not-false _ (c .if4 .left)) ∙ c .before .is-inner .ensures)) ∙ l .inv .2)
 
 returns-5 : tie.Need-returns-5 Inv-loop μ-loop
 returns-5 c =
-    let w = now (c .before .before .before .before .before .before .before .before .before .before .args .word) in
-    sym (not-plain w (c .before .keyword .result) (c .before .keyword .ensures) (omega arith)) ∙ name-plain w (omega arith) (omega arith) (sym (not-false _ (c .before .before .before .before .if3 .left)) ∙ c .before .before .before .before .before .is-lower .ensures) (sym (inner-end w (c .before .before .before .loop .i) (omega arith)) ∙ c .before .before .before .loop .inv .2)
+    let l = c .before .before .before in
+    let w = now (start l .args .word) in
+    sym (not-plain w (c .before .keyword .result) (c .before .keyword .ensures) (omega arith)) ∙ name-plain w (omega arith) (omega arith) (sym (not-false _ (l .before .if3 .left)) ∙ l .before .before .is-lower .ensures) (sym (inner-end w (l .loop .i) (omega arith)) ∙ l .loop .inv .2)
 
 returns-6 : tie.Need-returns-6 Inv-loop μ-loop
 returns-6 c =
-    let w = now (c .before .before .before .before .before .before .before .before .before .before .args .word) in
-    sym (is-plain w (c .before .keyword .result) (c .before .keyword .ensures) (omega arith)) ∙ name-plain w (omega arith) (omega arith) (sym (not-false _ (c .before .before .before .before .if3 .left)) ∙ c .before .before .before .before .before .is-lower .ensures) (sym (inner-end w (c .before .before .before .loop .i) (omega arith)) ∙ c .before .before .before .loop .inv .2)
+    let l = c .before .before .before in
+    let w = now (start l .args .word) in
+    sym (is-plain w (c .before .keyword .result) (c .before .keyword .ensures) (omega arith)) ∙ name-plain w (omega arith) (omega arith) (sym (not-false _ (l .before .if3 .left)) ∙ l .before .before .is-lower .ensures) (sym (inner-end w (l .loop .i) (omega arith)) ∙ l .loop .inv .2)
 
 pub is-name-spec : {M : Type 1} → statement M
 is-name-spec =
