@@ -11,6 +11,10 @@ use Rattle.sentences.specs.Named.{tags-fit, rule-fits, rule-cares, rule-
 use Rattle.sentences.proofs.asked.put_asked.Statement.{statement}
 use Rattle.sentences.proofs.asked.put_asked.Tie as tie
 
+-- Earlier places in the code.
+abbrev start : tie.After-struct-known4 → tie.Start
+start c = c .before .before .before .before .before .before
+
 add-inputs-end : tie.Need-add-inputs-end
 add-inputs-end c = let s = c .before .before .before in omega (arith, laid-limits (s .pre .0 .0))
 
@@ -30,23 +34,23 @@ mul-rule-start : tie.Need-mul-rule-start
 mul-rule-start c = let s = c .before .before .before .before .before in omega (arith, laid-limits (s .pre .0 .0), rule-fits (s .pre .0 .0) (s .args .i) (s .pre .0 .1))
 
 add-rule-start : tie.Need-add-rule-start
-add-rule-start c = let s = c .before .before .before .before .before .before in omega (arith, laid-limits (s .pre .0 .0), rule-fits (s .pre .0 .0) (s .args .i) (s .pre .0 .1))
+add-rule-start c = let s = start c in omega (arith, laid-limits (s .pre .0 .0), rule-fits (s .pre .0 .0) (s .args .i) (s .pre .0 .1))
 
 add-rule-end : tie.Need-add-rule-end
-add-rule-end c = let s = c .before .before .before .before .before .before in omega (arith, laid-limits (s .pre .0 .0), rule-fits (s .pre .0 .0) (s .args .i) (s .pre .0 .1))
+add-rule-end c = let s = start c in omega (arith, laid-limits (s .pre .0 .0), rule-fits (s .pre .0 .0) (s .args .i) (s .pre .0 .1))
 
 part-put-asks-end : tie.Need-part-put-asks-end
-part-put-asks-end c = let s = c .before .before .before .before .before .before .before in omega (arith, tags-fit (s .pre .0 .0))
+part-put-asks-end c = let s = start (c .before) in omega (arith, tags-fit (s .pre .0 .0))
 
 part-put-asks-end-2 : tie.Need-part-put-asks-end-2
-part-put-asks-end-2 c = let s = c .before .before .before .before .before .before .before .before in omega (arith, tags-fit (s .pre .0 .0))
+part-put-asks-end-2 c = let s = start (c .before .before) in omega (arith, tags-fit (s .pre .0 .0))
 
 part-put-asks-end-3 : tie.Need-part-put-asks-end-3
-part-put-asks-end-3 c = let s = c .before .before .before .before .before .before .before .before .before in omega (arith, rule-fits (s .pre .0 .0) (s .args .i) (s .pre .0 .1))
+part-put-asks-end-3 c = let s = start (c .before .before .before) in omega (arith, rule-fits (s .pre .0 .0) (s .args .i) (s .pre .0 .1))
 
 put-asks-requires : tie.Need-put-asks-requires
 put-asks-requires c κs =
-    let s = c .before .before .before .before .before .before .before .before .before .before in
+    let s = start (c .before .before .before .before) in
     let k = s .pre .0 .0 in
     let i = s .args .i in
     let h = s .pre .0 .1 in
@@ -63,7 +67,7 @@ put-asks-requires c κs =
 returns : tie.Need-returns
 returns c =
     let e = c .before .before in
-    let s = e .before .before .before .before .before .before .before .before .before .before .before in
+    let s = start (e .before .before .before .before .before) in
     rw (← asks-taken (s .pre .0 .0) (s .args .i) (s .pre .0 .1)) (e .put-asks .ensures)
 
 pub put-asked-spec : {M : Type 1} → statement M

@@ -15,6 +15,10 @@ use Rattle.sentences.specs.Named.{line-short}
 use Rattle.sentences.proofs.lines.put_reason.Statement.{statement}
 use Rattle.sentences.proofs.lines.put_reason.Tie as tie
 
+-- Earlier places in the code.
+abbrev start : tie.After-reason2 → tie.Start
+start c = c .before .before .before .before .before .before
+
 abbrev line : tie.Start → Reason → List ℕ
 line s q = reasonLine (policyOf (s .args .layout .reading) (now (s .args .file))) (now (s .args .broken)) (now (s .args .half)) (reasonSaid q)
 
@@ -40,8 +44,9 @@ put-plain-requires c κs =
 
 put-most-requires : tie.Need-put-most-requires
 put-most-requires c κs =
-    let k = c .before .before .before .before .reason2 .given in
-    let s = c .before .before .before .before .before .before .before .before .before .before in
+    let r = c .before .before .before .before in
+    let k = r .reason2 .given in
+    let s = start r in
     omega (arith, room s (k .1), length-append (now (s .args .half)) (ticksWords (k .0 .0)))
 
 put-rests-requires : tie.Need-put-rests-requires
@@ -62,7 +67,7 @@ returns-3 c = let k = c .before .before .before .before .before in rw (ap (line 
 returns-4 : tie.Need-returns-4
 returns-4 c =
     let k = c .before .before .before .before .before .before .before in
-    rw (ap (line (k .before .before .before .before .before .before)) (k .reason2 .given .1)) (c .before .before .put-most .ensures)
+    rw (ap (line (start k)) (k .reason2 .given .1)) (c .before .before .put-most .ensures)
 
 returns-5 : tie.Need-returns-5
 returns-5 c = let k = c .before .before .before .before .before in rw (ap (line (k .before .before .before .before .before .before)) (k .reason3 .given .1)) (c .before .before .put-rests .ensures)
