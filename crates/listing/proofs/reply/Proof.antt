@@ -17,9 +17,13 @@ use Rattle.listing.specs.Ways.{refused-way, GoesOut, given-way}
 use Rattle.listing.proofs.reply.Statement.{statement}
 use Rattle.listing.proofs.reply.Tie as tie
 
+-- Earlier places in the code.
+abbrev begun : tie.After-clean → tie.Start
+begun c = c .before .before .before .before .before .before .before
+
 -- It gives lengths: what clean promises then.
 abbrev start : tie.After-lengths → tie.Start
-start k = k .before .before .before .before .before .before .before .before .before .before .before .before .before
+start k = begun (k .before .before .before .before .before .before)
 
 abbrev cleanedAfter : tie.After-lengths → List ℕ
 cleanedAfter k = k .before .before .before .before .before .before .clean .last .1 .1 .0
@@ -63,7 +67,7 @@ returns : tie.Need-returns
 returns c =
     let r = c .before .before .put-refused in
     let k = c .before .before .before .before .before in
-    let s = k .before .before .before .before .before .before .before .before .before .before .before .before .before in
+    let s = begun (k .before .before .before .before .before .before) in
     let a = s .args in
     let d = k .before .before .before .before .before .before .clean in
     let w = refused-way (a .reading) (now (a .file)) (now (a .cleaned)) (now (a .list)) (s .pre .0) (s .pre .1)
