@@ -13,6 +13,13 @@ use Rattle.cleaning.proofs.PromiseLaws.{clean-refused, clean-past}
 use Rattle.cleaning.proofs.clean.Statement.{statement}
 use Rattle.cleaning.proofs.clean.Tie as tie
 
+-- Earlier places in the code.
+abbrev cleaned : tie.After-slice-known4 → tie.After-clean-with
+cleaned c = c .before .before .before .before
+
+abbrev past-check : tie.After-clean-with → tie.Else1
+past-check c = c .before .before .before .before .before .before
+
 -- The check's number is the file's.
 numbered : (c : tie.After-check-under) →
     let a = c .before .before .before .before .args in
@@ -35,10 +42,10 @@ clean-with-requires c κs =
 
 returns-2 : tie.Need-returns-2
 returns-2 c =
-    let k = c .before .before .before .before .before .before .before .before .before .before .before in
+    let k = past-check (cleaned c) .before in
     let a = k .before .before .before .before .args in
-    let z = c .before .before .before .before .before .before .before .before .before .before .if1 .left in
-    let w = c .before .before .before .before .clean-with in
+    let z = past-check (cleaned c) .if1 .left in
+    let w = cleaned c .clean-with in
     let l = laid-of (a .reading) (now (a .file)) (k .check-under .result) (k .check-under .ensures) z .1 in
     clean-past (a .reading) (now (a .file)) (now (a .out)) (now (a .list)) (sym (numbered k) ∙ z)
     (subst (λ (n : ℕ). WritesPromise (cleanedFile n (now (a .file))) (struckList n (now (a .file))) (now (a .out)) (now (a .list)) (w .result) (w .last .1 .1 .1 .1 .0) (w .last .1 .1 .1 .1 .1 .0)) l (w .ensures))

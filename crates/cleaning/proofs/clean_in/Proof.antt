@@ -15,6 +15,13 @@ use Rattle.cleaning.proofs.PromiseLaws.{cleaned-is, struck-is}
 use Rattle.cleaning.proofs.clean_in.Statement.{statement}
 use Rattle.cleaning.proofs.clean_in.Tie as tie
 
+-- Earlier places in the code.
+abbrev start : tie.After-find → tie.Start
+start c = c .before .before .before .before .before .before .before .before
+
+abbrev searched : tie.After-slice-known6 → tie.After-find
+searched c = c .before .before .before .before
+
 -- The states have bytes, and so have the locations and the rules.
 sizes : (s : tie.Start) →
     let l = s .args .layout in
@@ -42,40 +49,40 @@ find-requires c κs =
 
 -- What `find` leaves, by its lengths.
 found : (c : tie.After-find) →
-    let s = c .before .before .before .before .before .before .before .before in
+    let s = start c in
     (s .args .layout .locations ≤ length (c .find .last .1 .1 .0)) × (s .args .layout .rules ≤ length (c .find .last .1 .1 .1 .0))
 found c =
-    let s = c .before .before .before .before .before .before .before .before in
+    let s = start c in
     let n = sizes s in (
       omega (arith, n .2, c .find .ensures .0 .0, length-take-le (s .args .layout .states) (now (s .args .marks)) (n .1)),
       omega (arith, n .3, c .find .ensures .1 .0, s .pre .2),
     )
 
 slice-reshare-prefix-write : tie.Need-slice-reshare-prefix-write
-slice-reshare-prefix-write c = omega (arith, found (c .before .before .before .before) .0, length-append (c .before .before .before .before .find .last .1 .1 .0) (drop (c .before .before .before .before .before .before .before .before .before .before .before .before .args .layout .states) (now (c .before .before .before .before .before .before .before .before .before .before .before .before .args .marks))))
+slice-reshare-prefix-write c = omega (arith, found (searched c) .0, length-append (searched c .find .last .1 .1 .0) (drop (start (searched c) .args .layout .states) (now (start (searched c) .args .marks))))
 
 slice-aggregate-write : tie.Need-slice-aggregate-write
-slice-aggregate-write c = sym (first-long _ (c .before .before .before .before .before .find .last .1 .1 .0) _ (found (c .before .before .before .before .before) .0))
+slice-aggregate-write c = sym (first-long _ (searched (c .before) .find .last .1 .1 .0) _ (found (searched (c .before)) .0))
 
 slice-reshare-prefix-write-2 : tie.Need-slice-reshare-prefix-write-2
-slice-reshare-prefix-write-2 c = found (c .before .before .before .before .before) .1
+slice-reshare-prefix-write-2 c = found (searched (c .before)) .1
 
 slice-aggregate-write-2 : tie.Need-slice-aggregate-write-2
-slice-aggregate-write-2 c = sym (length-take-le _ (c .before .before .before .before .before .before .find .last .1 .1 .1 .0) (found (c .before .before .before .before .before .before) .1))
+slice-aggregate-write-2 c = let w = searched (c .before .before) in sym (length-take-le _ (w .find .last .1 .1 .1 .0) (found w .1))
 
 write-requires : tie.Need-write-requires
 write-requires c κs =
-    let d = c .before .before .before .before .before .before .before .before in
+    let d = searched (c .before .before .before .before) in
     record {
-      laid = c .before .before .before .before .before .before .before .before .before .before .before .before .before .before .before .before .pre .0;
+      laid = start d .pre .0;
       locations = first-long _ (d .find .last .1 .1 .0) _ (found d .0);
       rules = length-take-le _ (d .find .last .1 .1 .1 .0) (found d .1);
     }
 
 returns : tie.Need-returns
 returns c =
-    let s = c .before .before .before .before .before .before .before .before .before .before .before .before .before .before .before .before .before .before .before .before .before in
-    let d = c .before .before .before .before .before .before .before .before .before .before .before .before .before in
+    let d = searched (c .before .before .before .before .before .before .before .before .before) in
+    let s = start d in
     let f : List ℕ = now (s .args .file) in
     let l = s .args .layout in
     let marks : List ℕ = d .find .last .1 .1 .0 in

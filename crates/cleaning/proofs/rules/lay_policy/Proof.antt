@@ -10,6 +10,22 @@ use Rattle.cleaning.proofs.LayLaws.{flags-few, places-at, head-few, fil
 use Rattle.cleaning.proofs.rules.lay_policy.Statement.{statement}
 use Rattle.cleaning.proofs.rules.lay_policy.Tie as tie
 
+-- Earlier places in the code.
+abbrev start : tie.After-rank2 → tie.Start
+start c = c .before .before .before .before .before .before .before .before
+
+abbrev ranked : tie.After-copy → tie.After-rank2
+ranked c = c .before .before
+
+abbrev copied : tie.After-put → tie.After-copy
+copied c = c .before .before .before .before
+
+abbrev put-count : tie.After-lay-left → tie.After-put
+put-count c = c .before .before .before .before
+
+abbrev laid-left : tie.After-put-pair → tie.After-lay-left
+laid-left c = c .before .before .before .before
+
 sub-locations : tie.Need-sub-locations
 sub-locations c = omega (arith, places-at (c .before .before .before .before .before .pre) .1)
 
@@ -24,51 +40,56 @@ rank-requires-2 c κs = (omega arith, flags-few (c .before .before .before .befo
 
 copy-requires : tie.Need-copy-requires
 copy-requires c κs =
-    let k = c .before .before .before .before .before .before .before .before .before .pre in
+    let k = start (c .before) .pre in
     (omega (arith, laid-limits (k .laid)), omega (arith, head-few k), omega arith)
 
 -- Where the locations' count stands.
 begins : (c : tie.After-copy) → c .copy .result ≤ 19
 begins c =
-    let s = c .before .before .before .before .before .before .before .before .before .before in
+    let s = start (ranked c) in
     omega (arith, c .copy .ensures .ends, bytes-length (now (s .args .file)) 0 (s .args .layout .«rules_start» - 3 - s .args .layout .locations), head-few (s .pre))
 
 put-requires : tie.Need-put-requires
 put-requires c κs =
-    let s = c .before .before .before .before .before .before .before .before .before .before .before .before .before in
-    (omega (arith, c .before .before .before .before .before .before .rank .ensures .1, flags-few (s .pre) .0), omega (arith, begins (c .before .before .before)))
+    let w = c .before .before .before in
+    let s = start (ranked w) in
+    (omega (arith, ranked w .before .rank .ensures .1, flags-few (s .pre) .0), omega (arith, begins w))
 
 add-lay-left : tie.Need-add-lay-left
-add-lay-left c = omega (arith, head-few (c .before .before .before .before .before .before .before .before .before .before .before .before .before .before .before .before .pre))
+add-lay-left c = omega (arith, head-few (start (ranked (copied (c .before .before))) .pre))
 
 lay-left-requires : tie.Need-lay-left-requires
 lay-left-requires c κs =
-    let k = c .before .before .before .before .before .before .before .before .before .before .before .before .before .before .before .before .before .pre in (
+    let p = c .before .before .before in
+    let k = start (ranked (copied p)) .pre in (
       omega (arith, places-at k .1, laid-limits (k .laid), k .locations),
       flags-few k .0,
       omega (arith, head-few k),
-      omega (arith, begins (c .before .before .before .before .before .before .before), c .before .before .before .put .ensures .ends),
+      omega (arith, begins (copied p), p .put .ensures .ends),
     )
 
 put-pair-requires : tie.Need-put-pair-requires
 put-pair-requires c κs =
-    let k = c .before .before .before .before .before .before .before .before .before .before .before .before .before .before .before .before .before .before .before .before .before .pre in (
-      omega (arith, c .before .before .before .before .before .before .before .before .before .before .before .before .before .rank2 .ensures .1, flags-few k .1),
-      omega (arith, c .before .before .before .lay-left .ensures .1, begins (c .before .before .before .before .before .before .before .before .before .before .before), c .before .before .before .before .before .before .before .put .ensures .ends),
+    let p = put-count (c .before .before .before) in
+    let k = start (ranked (copied p)) .pre in (
+      omega (arith, ranked (copied p) .rank2 .ensures .1, flags-few k .1),
+      omega (arith, c .before .before .before .lay-left .ensures .1, begins (copied p), p .put .ensures .ends),
     )
 
 lay-rules-requires : tie.Need-lay-rules-requires
-lay-rules-requires c κs = (
-  c .before .before .before .before .before .before .before .before .before .before .before .before .before .before .before .before .before .before .before .before .before .before .before .before .before .pre,
-  omega (arith, c .before .before .before .put-pair .ensures .ends, c .before .before .before .before .before .before .before .lay-left .ensures .1, begins (c .before .before .before .before .before .before .before .before .before .before .before .before .before .before .before), c .before .before .before .before .before .before .before .before .before .before .before .put .ensures .ends),
+lay-rules-requires c κs = let w = laid-left (c .before .before .before) in (
+  start (ranked (copied (put-count w))) .pre,
+  omega (arith, c .before .before .before .put-pair .ensures .ends, w .lay-left .ensures .1, begins (copied (put-count w)), put-count w .put .ensures .ends),
 )
 
 returns : tie.Need-returns
 returns c =
-    let s = c .before .before .before .before .before .before .before .before .before .before .before .before .before .before .before .before .before .before .before .before .before .before .before .before .before .before .before .before in
-    let bytes : (i : ℕ) → byteAt (now (s .args .file)) i < 256 = λ i. omega (arith, c .before .before .before .before .before .before .before .before .before .before .before .before .before .before .before .before .before .before .before .before .before .before .before .before .before .before .before .shared-slice-known .given i) in
-    laid-as (file-laid (s .pre) bytes (places-at (s .pre) .0) (c .before .before .before .before .before .before .before .before .before .before .before .before .before .before .before .before .before .before .before .before .before .rank .ensures .0) (c .before .before .before .before .before .before .before .before .before .before .before .before .before .before .before .before .before .before .before .before .rank2 .ensures .0))
-    (laid-more (laid-more (laid-more (laid-more (c .before .before .before .before .before .before .before .before .before .before .before .before .before .before .before .before .before .before .copy .ensures) (c .before .before .before .before .before .before .before .before .before .before .before .before .before .before .put .ensures)) (c .before .before .before .before .before .before .before .before .before .before .lay-left .ensures .0)) (c .before .before .before .before .before .before .put-pair .ensures)) (c .before .before .lay-rules .ensures))
+    let w = c .before .before .before .before .before .before in
+    let p = put-count (laid-left w) in
+    let s = start (ranked (copied p)) in
+    let bytes : (i : ℕ) → byteAt (now (s .args .file)) i < 256 = λ i. omega (arith, ranked (copied p) .before .before .before .before .before .before .before .shared-slice-known .given i) in
+    laid-as (file-laid (s .pre) bytes (places-at (s .pre) .0) (ranked (copied p) .before .rank .ensures .0) (ranked (copied p) .rank2 .ensures .0))
+    (laid-more (laid-more (laid-more (laid-more (copied p .copy .ensures) (p .put .ensures)) (laid-left w .lay-left .ensures .0)) (w .put-pair .ensures)) (c .before .before .lay-rules .ensures))
 
 pub lay-policy-spec : {M : Type 1} → statement M
 lay-policy-spec =

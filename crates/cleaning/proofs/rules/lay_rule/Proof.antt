@@ -13,6 +13,19 @@ use Rattle.cleaning.proofs.LayLaws.{rule-laid}
 use Rattle.cleaning.proofs.rules.lay_rule.Statement.{statement}
 use Rattle.cleaning.proofs.rules.lay_rule.Tie as tie
 
+-- Earlier places in the code.
+abbrev start : tie.After-renumber → tie.Start
+start c = c .before .before .before .before .before .before .before
+
+abbrev numbered : tie.After-put → tie.After-renumber
+numbered c = c .before .before
+
+abbrev put-source : tie.After-copy → tie.After-put
+put-source c = c .before .before .before .before
+
+abbrev copied : tie.After-put2 → tie.After-copy
+copied c = c .before .before .before .before
+
 byte-within-requires : tie.Need-byte-within-requires
 byte-within-requires c κs = omega (arith, c .before .before .before .pre .0)
 
@@ -33,46 +46,49 @@ renumber-requires c κs = let s = c .before .before .before .before .before .bef
 put-requires : tie.Need-put-requires
 put-requires c κs =
     let r = c .before .before .before in
-    (omega (arith, r .rank .ensures .1, r .before .byte-within .ensures .1), omega (arith, c .before .before .before .before .before .before .before .before .pre .0))
+    (omega (arith, r .rank .ensures .1, r .before .byte-within .ensures .1), omega (arith, start (c .before) .pre .0))
 
 add-copy : tie.Need-add-copy
-add-copy c = omega (arith, c .before .before .before .before .before .before .before .before .before .before .before .pre .0)
+add-copy c = omega (arith, start (numbered (c .before .before)) .pre .0)
 
 copy-requires : tie.Need-copy-requires
 copy-requires c κs =
-    let s = c .before .before .before .before .before .before .before .before .before .before .before .before in
+    let s = start (numbered (c .before .before .before)) in
     (omega (arith, s .pre .0), omega arith, omega (arith, c .before .before .before .put .ensures .ends, s .pre .0))
 
 put-requires-2 : tie.Need-put-requires-2
 put-requires-2 c κs =
-    let s = c .before .before .before .before .before .before .before .before .before .before .before .before .before .before .before .before in
-    let r = c .before .before .before .before .before .before .before .before .before in
-    (omega (arith, r .renumber .ensures .1, r .before .byte-within2 .ensures .1), omega (arith, c .before .before .before .copy .ensures .ends, bytes-length (now (s .args .file)) (s .args .p + 1) 5, c .before .before .before .before .before .before .before .put .ensures .ends, s .pre .0))
+    let w = c .before .before .before in
+    let r = numbered (put-source w) in
+    let s = start r in
+    (omega (arith, r .renumber .ensures .1, r .before .byte-within2 .ensures .1), omega (arith, w .copy .ensures .ends, bytes-length (now (s .args .file)) (s .args .p + 1) 5, put-source w .put .ensures .ends, s .pre .0))
 
 add-copy-2 : tie.Need-add-copy-2
-add-copy-2 c = omega (arith, c .before .before .before .before .before .before .before .before .before .before .before .before .before .before .before .before .before .before .before .pre .0)
+add-copy-2 c = omega (arith, start (numbered (put-source (copied (c .before .before)))) .pre .0)
 
 mul-copy : tie.Need-mul-copy
-mul-copy c = omega (arith, c .before .before .before .before .before .before .before .before .before .before .before .before .before .before .before .before .before .before .before .pre .0)
+mul-copy c = omega (arith, start (numbered (put-source (copied (c .before .before)))) .pre .0)
 
 copy-requires-2 : tie.Need-copy-requires-2
 copy-requires-2 c κs =
-    let s = c .before .before .before .before .before .before .before .before .before .before .before .before .before .before .before .before .before .before .before .before in (
+    let w = c .before .before .before in
+    let s = start (numbered (put-source (copied w))) in (
       omega (arith, s .pre .0),
       omega (arith, s .pre .0),
-      omega (arith, c .before .before .before .put2 .ensures .ends, c .before .before .before .before .before .before .before .copy .ensures .ends, bytes-length (now (s .args .file)) (s .args .p + 1) 5, c .before .before .before .before .before .before .before .before .before .before .before .put .ensures .ends, s .pre .0),
+      omega (arith, w .put2 .ensures .ends, copied w .copy .ensures .ends, bytes-length (now (s .args .file)) (s .args .p + 1) 5, put-source (copied w) .put .ensures .ends, s .pre .0),
     )
 
 returns : tie.Need-returns
 returns c =
-    let s = c .before .before .before .before .before .before .before .before .before .before .before .before .before .before .before .before .before .before .before .before .before .before .before in
+    let w = c .before .before .before .before .before .before in
+    let s = start (numbered (put-source (copied w))) in
     let a = s .args in
-    let r = c .before .before .before .before .before .before .before .before .before .before .before .before .before .before .before .before in
-    let bytes : (i : ℕ) → byteAt (now (a .file)) i < 256 = λ i. omega (arith, c .before .before .before .before .before .before .before .before .before .before .before .before .before .before .before .before .before .before .before .before .before .before .shared-slice-known .given i) in
+    let r = numbered (put-source (copied w)) in
+    let bytes : (i : ℕ) → byteAt (now (a .file)) i < 256 = λ i. omega (arith, r .before .before .before .before .before .before .shared-slice-known .given i) in
     laid-as
     (rule-laid (flagsOf (now (a .entered))) (a .clocks) (now (a .file)) (a .p) bytes (r .before .before .rank .ensures .0 ∙ ap (rank (flagsOf (now (a .entered)))) (r .before .before .before .byte-within .ensures .0))
     (r .renumber .ensures .0 ∙ ap (renumbered (flagsOf (now (a .entered)))) (r .before .byte-within2 .ensures .0)))
-    (laid-more (laid-more (laid-more (c .before .before .before .before .before .before .before .before .before .before .before .before .before .before .put .ensures) (c .before .before .before .before .before .before .before .before .before .before .copy .ensures)) (c .before .before .before .before .before .before .put2 .ensures)) (c .before .before .copy2 .ensures))
+    (laid-more (laid-more (laid-more (put-source (copied w) .put .ensures) (copied w .copy .ensures)) (w .put2 .ensures)) (c .before .before .copy2 .ensures))
 
 pub lay-rule-spec : {M : Type 1} → statement M
 lay-rule-spec =
