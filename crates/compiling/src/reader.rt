@@ -1,6 +1,7 @@
 // The reader: the lines of the text, the file's own check, the room, and then the file.
 use crate::counts::put_counts;
 use crate::lines::read_lines;
+use declarations::table::NAMES;
 use policy::states_of;
 use texts::put_bytes;
 ghost use mathlib.Core.Path.{_≡_};
@@ -10,6 +11,9 @@ ghost use lib.ListN.{length, getD};
 ghost use Rattle.streams.specs.Answer.{unless, _orElse_};
 ghost use Rattle.policy.specs.Number.{statesOf};
 ghost use Rattle.compiling.specs.Promise.{ReadTextPromise, JudgePromise};
+
+// Room for all rules: 256 of at most 23 bytes.
+const ALL_RULES: usize = 5888;
 
 // A refusal and the line that it stands in, 0 for the file's own; or 0 and the length written.
 pub struct ReadText {
@@ -50,9 +54,9 @@ pub struct Judged {
 pub fn judge(text: &[u8], out: &mut [u8]) -> Judged
     ensures { λ r. ⌜ JudgePromise (now (text .entry)) (now (out .entry)) r (now (out .exit)) ⌝ }
 {
-    let mut kept = [0u8; 5888];
-    let mut starts = [0usize; 76];
-    let mut ends = [0usize; 76];
+    let mut kept = [0u8; ALL_RULES];
+    let mut starts = [0usize; NAMES];
+    let mut ends = [0usize; NAMES];
     let mut left = [0u8; 64];
     let said = read_lines(text, &mut kept, &mut starts, &mut ends, &mut left);
     if said.refusal != 0 {

@@ -1,5 +1,7 @@
 // The line of a rule.
 use conditions::steps::Step;
+use declarations::table::CLOCK_NAMES;
+use declarations::table::LOCATION_NAMES;
 use declarations::table::Table;
 use phrases::ended::rule_refusal;
 use phrases::told::rule_words;
@@ -38,11 +40,11 @@ fn words_by(
         &tags[..signals],
         starts,
         ends,
-        &starts[8..],
-        &ends[8..],
+        &starts[CLOCK_NAMES..],
+        &ends[CLOCK_NAMES..],
         table.clocks,
-        &starts[12..],
-        &ends[12..],
+        &starts[LOCATION_NAMES..],
+        &ends[LOCATION_NAMES..],
         table.places,
         &text[at..end],
     )

@@ -1,5 +1,6 @@
 // The words behind `clock`.
 use crate::fresh::name_refusal;
+use crate::table::CLOCK_NAMES;
 use crate::table::Lined;
 use crate::table::Table;
 use words::firsts::Few;
@@ -31,7 +32,7 @@ fn add_clock(
 {
     let mut t = table;
     let n = t.clocks;
-    let k = 8 + n;
+    let k = CLOCK_NAMES + n;
     starts[k] = a;
     ends[k] = b;
     t.ceilings[n] = ceiling;

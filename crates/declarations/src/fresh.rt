@@ -1,4 +1,5 @@
 // A name looked up, and a new one of a signal or of a clock.
+use crate::table::CLOCK_NAMES;
 use crate::table::Table;
 use words::keywords::is_name;
 use words::names::find_name;
@@ -46,7 +47,7 @@ pub(crate) fn name_refusal(
         return 31;
     }
     let clocks = table.clocks;
-    if find_from(text, starts, ends, 8, clocks, &text[a..b]) < clocks {
+    if find_from(text, starts, ends, CLOCK_NAMES, clocks, &text[a..b]) < clocks {
         return 31;
     }
     0

@@ -1,5 +1,6 @@
 // The words behind `location`.
 use crate::fresh::find_from;
+use crate::table::LOCATION_NAMES;
 use crate::table::Lined;
 use crate::table::Table;
 use words::firsts::word_in;
@@ -34,7 +35,7 @@ fn add_place(
 {
     let mut t = table;
     let n = t.places;
-    let k = 12 + n;
+    let k = LOCATION_NAMES + n;
     starts[k] = a;
     ends[k] = b;
     left[n] = byte;
@@ -62,7 +63,7 @@ fn place_refusal(
         return 30;
     }
     let places = table.places;
-    if find_from(text, starts, ends, 12, places, &text[a..b]) < places {
+    if find_from(text, starts, ends, LOCATION_NAMES, places, &text[a..b]) < places {
         return 31;
     }
     if 64 <= places {

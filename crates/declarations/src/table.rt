@@ -12,8 +12,15 @@ ghost use Rattle.wording.specs.Reader.{atLine};
 ghost use Rattle.words.specs.Firsts.{Shaped};
 ghost use Rattle.declarations.specs.Table.{draftOf, lineSaid, Fit, Named};
 
+// Where the places of the clocks' names begin, and those of the locations' names; and how many places there are.
+pub const CLOCK_NAMES: usize = 8;
+
+pub const LOCATION_NAMES: usize = 12;
+
+pub const NAMES: usize = 76;
+
 // Names stand in the text from their start to their end. These places are in two slices beside the table, `starts` and `ends`: the signals' from 0 on, the
-// inputs first, none where both are the same; the clocks' from 8 on; the locations' from 12 on. A third slice, `left`, has a byte for each location. They would
+// inputs first, none where both are the same; then the clocks', then the locations'. A third slice, `left`, has a byte for each location. They would
 // be nearly all of the table, and it goes by value. A source of 64 is none.
 pub struct Table {
     pub tags: [u8; 8],
@@ -43,7 +50,7 @@ pub fn at_line(text: &[u8], few: Few, starts: &[usize], ends: &[usize], table: T
     let a = few.start;
     let b = few.end;
     let places = table.places;
-    let k = find_from(text, starts, ends, 12, places, &text[a..b]);
+    let k = find_from(text, starts, ends, LOCATION_NAMES, places, &text[a..b]);
     if places <= k {
         return Lined { refusal: 31, table };
     }
