@@ -18,19 +18,23 @@ Inv-loop file layout index marks events out₀ state₀ i₀ out state i = Going
 abbrev μ-loop : tie.MeasureT-loop
 μ-loop file layout index marks events out₀ state₀ i₀ out state i = length events - i
 
+-- Earlier places in the code.
+abbrev start : tie.At-loop Inv-loop μ-loop → tie.Start Inv-loop μ-loop
+start c = c .before .before .before .before .before .before
+
 loop-holds : tie.Need-loop-holds Inv-loop μ-loop
 loop-holds c = let k = c .before .before .before .before .before .pre .0 in going-starts _ _ (k .0) (k .1)
 
 own-at-requires : tie.Need-own-at-requires Inv-loop μ-loop
 own-at-requires c κs =
     let l = c .before .before in
-    (laid-sections (l .loop .inv .standing .laid), l .before .before .before .before .before .before .pre .1 .1, standing-location (l .loop .inv .standing))
+    (laid-sections (l .loop .inv .standing .laid), start l .pre .1 .1, standing-location (l .loop .inv .standing))
 
 tick-requires : tie.Need-tick-requires Inv-loop μ-loop
 tick-requires c κs =
     let i = c .before .before in
     let l = i .before in
-    let s = l .before .before .before .before .before .before in
+    let s = start l in
     let g = and-eq-true-iff _ _ .0 (all-at _ _ (s .pre .1 .0 .1) (l .loop .i) (i .loop-test .taken)) in
     (l .loop .inv .standing, c .own-at .ensures, ltb-true _ _ (g .0), ltb-true _ _ (g .1))
 
@@ -44,14 +48,14 @@ returns c =
 turned : (c : tie.Else1 Inv-loop μ-loop) →
     let t = c .before .before .tick .result in
     let l = c .before .before .before .before .before .before in
-    let a = l .before .before .before .before .before .before .args in
+    let a = start l .args in
     (t .x < 16) × (t .y < 16)
     × Going (now (a .file)) (a .layout) (now (a .marks)) (now (a .events)) (now (a .out)) (a .start) (l .loop .i + 1)
     (set (l .loop .out) (l .loop .i) (t .x + t .y * 16)) (t .state)
 turned c =
     let t = c .before .before in
     let l = t .before .before .before in
-    going-turn (l .before .loop .inv) (l .loop-test .taken) (t .tick .ensures) (not-false _ (c .if1 .left)) (omega (arith, l .before .before .before .before .before .before .before .pre .1))
+    going-turn (l .before .loop .inv) (l .loop-test .taken) (t .tick .ensures) (not-false _ (c .if1 .left)) (omega (arith, start (l .before) .pre .1))
 
 mul-out : tie.Need-mul-out Inv-loop μ-loop
 mul-out c = omega (arith, turned (c .before))
@@ -62,10 +66,10 @@ add-out c = omega (arith, turned (c .before .before))
 slice-write-out : tie.Need-slice-write-out Inv-loop μ-loop
 slice-write-out c =
     let i = c .before .before .before .before .before .before .before in
-    omega (arith, i .loop-test .taken, i .before .loop .inv .long, i .before .before .before .before .before .before .before .pre .1)
+    omega (arith, i .loop-test .taken, i .before .loop .inv .long, start (i .before) .pre .1)
 
 add-i : tie.Need-add-i Inv-loop μ-loop
-add-i c = omega (arith, c .before .before .before .before .before .before .before .before .before .before .before .before .before .before .before .good)
+add-i c = omega (arith, start (c .before .before .before .before .before .before .before .before .before) .good)
 
 loop-again : tie.Need-loop-again Inv-loop μ-loop
 loop-again c = turned (c .before .before .before) .2
