@@ -6,13 +6,18 @@ use Rattle.texts.specs.Decimal.{decimal-short}
 use Rattle.rule_text.proofs.limits.put_name.Statement.{statement}
 use Rattle.rule_text.proofs.limits.put_name.Tie as tie
 
+-- Earlier places in the code.
+abbrev start : tie.After-put-bytes → tie.Start
+start c = c .before .before .before .before
+
 put-digits-requires : tie.Need-put-digits-requires
-put-digits-requires c κs = omega (arith, c .before .before .before .put-bytes .ensures .next, decimal-short (c .before .before .before .before .before .before .before .args .n) 4 (omega arith))
+put-digits-requires c κs = omega (arith, c .before .before .before .put-bytes .ensures .next, decimal-short (start (c .before .before .before) .args .n) 4 (omega arith))
 
 returns : tie.Need-returns
 returns c =
-    let a = c .before .before .before .before .before .before .before .before .before .before .args in
-    let p = c .before .before .before .before .before .before .put-bytes in
+    let w = c .before .before .before .before .before .before in
+    let a = start w .args in
+    let p = w .put-bytes in
     let q = c .before .before .put-digits in
     (wrote-then (omega arith) (p .ensures) (q .ensures), omega (arith, p .ensures .next, q .ensures .next, decimal-short (a .n) 4 (omega arith)))
 

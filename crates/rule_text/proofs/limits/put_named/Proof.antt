@@ -8,13 +8,18 @@ use Rattle.texts.specs.WroteLaws.{wrote-then}
 use Rattle.rule_text.proofs.limits.put_named.Statement.{statement}
 use Rattle.rule_text.proofs.limits.put_named.Tie as tie
 
+-- Earlier places in the code.
+abbrev start : tie.After-put-bytes → tie.Start
+start c = c .before .before .before .before .before
+
 put-number-requires : tie.Need-put-number-requires
 put-number-requires c κs = let p = c .before .before .before .put-bytes in (omega arith, omega (arith, p .ensures .next))
 
 returns : tie.Need-returns
 returns c =
-    let a = c .before .before .before .before .before .before .before .before .before .before .before .args in
-    let p = c .before .before .before .before .before .before .put-bytes in
+    let w = c .before .before .before .before .before .before in
+    let a = start w .args in
+    let p = w .put-bytes in
     let q = c .before .before .put-number in
     (rw (append-assoc (now (a .before)) (decimal (a .n)) (now (a .after))) (wrote-then (omega arith) (p .ensures) (q .ensures .0)), omega (arith, p .ensures .next, q .ensures .1))
 

@@ -6,9 +6,13 @@ use Rattle.texts.specs.WroteLaws.{wrote-then}
 use Rattle.rule_text.proofs.rule.put_asked.Statement.{statement}
 use Rattle.rule_text.proofs.rule.put_asked.Tie as tie
 
+-- Earlier places in the code.
+abbrev put-inputs : tie.After-put-signals2 → tie.After-put-signals
+put-inputs c = c .before .before .before .before .before .before
+
 returns : tie.Need-returns
 unfolding ruleFrom
-returns c = (wrote-then (omega arith) (wrote-then (omega arith) (c .before .before .before .before .before .before .before .before .before .before .before .before .put-signals .ensures .0) (c .before .before .before .before .before .before .put-signals2 .ensures .0)) (c .before .before .put-bounds .ensures .0), omega arith)
+returns c = let p = c .before .before .before .before .before .before in (wrote-then (omega arith) (wrote-then (omega arith) (put-inputs p .put-signals .ensures .0) (p .put-signals2 .ensures .0)) (c .before .before .put-bounds .ensures .0), omega arith)
 
 pub put-asked-spec : {M : Type 1} → statement M
 put-asked-spec =

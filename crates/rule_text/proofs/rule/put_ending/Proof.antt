@@ -5,8 +5,12 @@ use Rattle.texts.specs.WroteLaws.{wrote-then}
 use Rattle.rule_text.proofs.rule.put_ending.Statement.{statement}
 use Rattle.rule_text.proofs.rule.put_ending.Tie as tie
 
+-- Earlier places in the code.
+abbrev put-goal : tie.After-put-clears → tie.After-put-target
+put-goal c = c .before .before .before .before
+
 returns : tie.Need-returns
-returns c = (wrote-then (omega arith) (wrote-then (omega arith) (c .before .before .before .before .before .before .before .before .before .before .before .put-target .ensures .0) (c .before .before .before .before .before .before .before .put-clears .ensures .0)) (c .before .before .put-bytes .ensures), omega (arith, c .before .before .put-bytes .ensures .next))
+returns c = let p = c .before .before .before .before .before .before .before in (wrote-then (omega arith) (wrote-then (omega arith) (put-goal p .put-target .ensures .0) (p .put-clears .ensures .0)) (c .before .before .put-bytes .ensures), omega (arith, c .before .before .put-bytes .ensures .next))
 
 pub put-ending-spec : {M : Type 1} → statement M
 put-ending-spec =
