@@ -15,14 +15,17 @@ use Rattle.declarations.specs.Fresh.{spans-long}
 use Rattle.declarations.specs.SignalLine.{inputs-long, outputs-long}
 use Rattle.declarations.specs.declared.table.Table.{Table}
 
+-- The file's bytes before the rules, by the code's table: inputs, outputs, clocks, locations, and the number of rules.
 abbrev pub countsOf : List ℕ → Table → ℕ → List ℕ
 countsOf left t count =
     (t .inputs ∷ take (t .inputs) (t .tags)) ++ (((t .signals - t .inputs) ∷ take (t .signals - t .inputs) (drop (t .inputs) (t .tags)))
     ++ ((t .clocks ∷ pairsBytes (take (t .clocks) (t .ceilings))) ++ ((t .places ∷ take (t .places) left) ++ pairBytes count)))
 
+-- The table has one ceiling for each clock.
 pub ceilings-long : {t : Table} → Fit t → length (take (t .clocks) (t .ceilings)) ≡ t .clocks
 ceilings-long {t = t} f = length-take-le (t .clocks) (t .ceilings) (omega (arith, f .clocks, f .ceilings-long))
 
+-- These are the bytes before the rules of the policy that the lines have said.
 pub counts-are : (text starts ends left : List ℕ) {t : Table} (f : Fit t) (rules : List Rule) (count : ℕ) → length rules ≡ count →
     countsBytes (policyFrom 1 (draftOf text starts ends left t rules)) ≡ countsOf left t count
 unfolding countsBytes policyFrom
@@ -37,12 +40,15 @@ counts-are text starts ends left {t = t} f rules count e =
 
 -- Two bytes for each clock.
 module _ (cs : List ℕ) (n : ℕ) where
+  -- What is left to write from clock i on: two bytes for each ceiling up to the n-th.
   abbrev pub pairsFrom : ℕ → List ℕ
   pairsFrom i = pairsBytes (take (n - i) (drop i cs))
 
+  -- From clock 0 on, these are the bytes of all n ceilings.
   pub pairs-start : pairsFrom 0 ≡ pairsBytes (take n cs)
   pairs-start = let z : n - 0 ≡ n = omega arith in ap (λ (k : ℕ). pairsBytes (take k cs)) z
 
+  -- The ceiling of clock i, the high byte first, and then what is left from the next clock on.
   pub pairs-turn : (i : ℕ) → i < n → n ≤ length cs → {p q : ℕ} → p ≡ getD cs i 0 / 256 → q ≡ getD cs i 0 % 256 → pairsFrom i ≡ (p ∷ q ∷ []) ++ pairsFrom (i + 1)
   unfolding pairsBytes
   pairs-turn i h b p q =
@@ -50,6 +56,7 @@ module _ (cs : List ℕ) (n : ℕ) where
       let s : suc i ≡ i + 1 = omega arith in
       rw (p, q, e, drop-cons cs i 0 (omega arith), s)
 
+  -- After the last clock no byte is left.
   pub pairs-end : (i : ℕ) → n ≤ i → pairsFrom i ≡ []
   unfolding pairsBytes
   pairs-end i h = let e : n - i ≡ 0 = omega arith in rw e

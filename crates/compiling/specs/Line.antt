@@ -29,7 +29,7 @@ behind (suc (suc zero)) d l = clockLine d l
 behind (suc (suc (suc zero))) d l = locationLine d l
 behind (suc (suc (suc (suc k)))) d l = atLine d l
 
--- The last of the five.
+-- A number below 5 that is none of the first four is 4.
 pub fifth : (k : ℕ) → k < 5 → (k ≡ 0 → ⊥) → (k ≡ 1 → ⊥) → (k ≡ 2 → ⊥) → (k ≡ 3 → ⊥) → k ≡ 4
 fifth zero h a b c d = absurd (a refl)
 fifth (suc zero) h a b c d = absurd (b refl)
@@ -45,6 +45,7 @@ module _ (d : Draft) (w : Word) (ws : Line) (r : ℕ) (e : find 0 w keywords ≡
       let k : (n : ℕ) → n < 14 → same w (getD keywords n []) ≡ eqb r n = keyword-is w r e in
       rw (k 0 (omega arith), k 1 (omega arith), k 2 (omega arith), k 3 (omega arith), k 4 (omega arith))
 
+  -- A line that begins with `input`, `output`, `clock`, `location` or `at` says what the words behind it say.
   pub line-declares : r < 5 → readLine d (w ∷ ws) ≡ behind r d ws
   line-declares h = by-word ∙ go r h
     where
@@ -56,6 +57,7 @@ module _ (d : Draft) (w : Word) (ws : Line) (r : ℕ) (e : find 0 w keywords ≡
       go (suc (suc (suc (suc zero)))) l = refl
       go (suc (suc (suc (suc (suc k))))) l = absurd (omega arith)
 
+  -- A line that begins with any other word is read as a rule.
   pub line-rules : 5 ≤ r → readLine d (w ∷ ws) ≡ ruleLine d (w ∷ ws) (d .source)
   line-rules h =
       by-word ∙ rw (ne-eqb r 0 (λ z. omega arith), ne-eqb r 1 (λ z. omega arith), ne-eqb r 2 (λ z. omega arith), ne-eqb r 3 (λ z. omega arith), ne-eqb r 4 (λ z. omega arith))
@@ -65,6 +67,7 @@ abbrev pub withRule : ℕ → List Rule → Rule → List Rule
 withRule zero rules r = rules
 withRule (suc n) rules r = rules ++ (r ∷ [])
 
+-- The rules after a line: those before it, and the line's own if it has one.
 abbrev pub takenRules : List Rule → Taken → List Rule
 takenRules rules r = withRule (r .rule) rules (ruleSaid (r .table) (r .parsed))
 
@@ -78,14 +81,17 @@ pub record Took (text : List ℕ) (before : List Rule → Draft) (end at count :
 
 -- By the first word.
 module _ {text : List ℕ} {end at a b : ℕ} (n : NextIn text end at a b) (d : Draft) where
+  -- A line without a word changes nothing.
   pub line-blank : b ≤ a → gives d ≡ readLine d (wordsOf (part text at (end - at)))
   unfolding readLine
   line-blank h = sym (ap (readLine d) (in-none n h))
 
   module _ (h : a < b) (r : ℕ) (e : find 0 (part text a (b - a)) keywords ≡ placeBelow 14 r) where
+    -- A line found to begin with one of the first five words is read from the end of that word on.
     pub line-behind : r < 5 → behind r d (wordsOf (part text b (end - b))) ≡ readLine d (wordsOf (part text at (end - at)))
     line-behind l = sym (ap (readLine d) (in-word n h) ∙ line-declares d (part text a (b - a)) (wordsOf (part text b (end - b))) r e l)
 
+    -- A line found to begin with any other word is read whole, as a rule.
     pub line-ruled : 5 ≤ r → ruleLine d (wordsOf (part text at (end - at))) (d .source) ≡ readLine d (wordsOf (part text at (end - at)))
     line-ruled l =
         let w = in-word n h in

@@ -20,6 +20,7 @@ pub record Sofar (text : List ℕ) (draft : List Rule → Draft) (rules : List R
   pub many : length rules ≡ count
   pub rest : readLines 1 empty (linesOf text) ≡ readLines (suc passed) (draft rules) (linesOf (drop at text))
 
+-- Before the first line there is no rule, and the whole text is left.
 pub before-lines : (text : List ℕ) (draft : List Rule → Draft) → draft [] ≡ empty → Sofar text draft [] 0 0 0
 before-lines text draft e = record { many = refl; rest = ap (λ (d : Draft). readLines 1 d (linesOf text)) (sym e) }
 
@@ -32,7 +33,7 @@ unnamed text =
       within = λ k h. rw (getD-replicate {A = ℕ} 76 k 0 0 h) (omega arith, omega arith);
     }
 
--- Where the next line begins.
+-- The next line begins behind the line feed, or where the text ends.
 pub next-drop : (text : List ℕ) (end next : ℕ) → end ≤ length text → (end < length text → next ≡ end + 1) → (length text ≤ end → next ≡ length text) → drop (end + 1) text ≡ drop next text
 next-drop text end next h a b = go (length text - end) refl
   where
@@ -45,6 +46,7 @@ next-drop text end next h a b = go (length text - end) refl
         drop-of-length-le text past ∙ sym (drop-of-length-le text last)
     go (suc n) e = let y : end < length text = omega arith in ap (λ (k : ℕ). drop k text) (sym (a y))
 
+-- The next line begins further on than this one, so the reading comes to an end.
 pub next-more : (at end length next : ℕ) → at ≤ end → at < length → end ≤ length → (end < length → next ≡ end + 1) → (length ≤ end → next ≡ length) → at < next
 next-more at end length next a h e b c = go (length - end) refl
   where
@@ -59,6 +61,7 @@ few-rules (suc zero) count a b c = let h : count < 256 = c refl in omega arith
 few-rules (suc (suc n)) count a b c = absurd (omega arith)
 
 module _ {text : List ℕ} {draft : List Rule → Draft} {rules : List Rule} {count passed at : ℕ} (s : Sofar text draft rules count passed at) where
+  -- At the end of the text, what the lines have said is what the text says.
   pub lines-end : length text ≤ at → readLines 1 empty (linesOf text) ≡ reads (draft rules)
   unfolding readLines linesOf split
   lines-end h = s .rest ∙ ap (λ (l : List ℕ). readLines (suc passed) (draft rules) (linesOf l)) (drop-of-length-le text h)
@@ -80,6 +83,7 @@ module _ {text : List ℕ} {draft : List Rule → Draft} {rules : List Rule} {co
       stopped zero z d go = absurd (z refl)
       stopped (suc q) z d go = refl
 
+      -- A refused line stops the reading, with its refusal and its number, counted from 1.
       pub lines-stop : (r .refusal ≡ 0 → ⊥) → readLines 1 empty (linesOf text) ≡ stops (r .refusal) (passed + 1)
       lines-stop z =
           let p : suc passed ≡ passed + 1 = omega arith in
@@ -92,6 +96,7 @@ module _ {text : List ℕ} {draft : List Rule → Draft} {rules : List Rule} {co
       longer (suc zero) u rs x = length-append rs (x ∷ [])
       longer (suc (suc n)) u rs x = absurd (omega arith)
 
+      -- After a line that is not refused the reading goes on at the next one, with the line's rule if it has one.
       pub sofar-on : r .refusal ≡ 0 → {next : ℕ} → drop (end + 1) text ≡ drop next text → Sofar text after (takenRules rules r) (count + r .rule) (passed + 1) next
       sofar-on z {next} e =
           let p : suc passed ≡ passed + 1 = omega arith in

@@ -1,4 +1,6 @@
 -- What the reader answers, for any bytes, and that one answer alone meets it.
+-- In order: what is answered and what is written; the two promises; what a judgement says of the text; and the ways a reading ends, each of which
+-- keeps its promise: a refused line, a policy refused as a whole, a slice that is too short, and a file.
 use mathlib.Core.Path.{_≡_, refl, ap, sym, subst, _∙_}
 use mathlib.Core.Bool.{Bool, true, false, cond, false≢true}
 use mathlib.Core.List.{List, _++_}
@@ -46,10 +48,12 @@ abbrev pub filled : List ℕ → FromText (List ℕ) → List ℕ
 filled out (stops n line) = out
 filled out (reads f) = f ++ drop (length f) out
 
+-- What `read` promises: its answer, and what the slice holds afterwards.
 pub record ReadTextPromise (text before : List ℕ) (r : ReadText) (after : List ℕ) : Type 0 where
   pub says : r ≡ answered (fitted before (fileFromText text))
   pub writes : after ≡ filled before (fitted before (fileFromText text))
 
+-- One answer and one content of the slice alone keep this promise.
 pub read-one : {text before after other : List ℕ} {r s : ReadText} → ReadTextPromise text before r after → ReadTextPromise text before s other → (r ≡ s) × (after ≡ other)
 read-one w v = (w .says ∙ sym (v .says), w .writes ∙ sym (v .writes))
 
@@ -58,12 +62,14 @@ abbrev pub isRead : FromText (List ℕ) → Bool
 isRead (stops n line) = false
 isRead (reads f) = true
 
+-- What `judge` promises: as `read`, and whether the text is a policy's, with room for its file or without.
 pub record JudgePromise (text before : List ℕ) (r : Judged) (after : List ℕ) : Type 0 where
   pub read : ReadTextPromise text before (r .read) after
   pub good : r .good ≡ isRead (fileFromText text)
 
 -- What a judgement says of the text.
 module _ {text before after : List ℕ} {r : Judged} (w : JudgePromise text before r after) where
+  -- A text that is not good gives no file, and the answer has its refusal and its line.
   pub judged-not : r .good ≡ false → fileFromText text ≡ stops (r .read .refusal) (r .read .line)
   judged-not e = go (fileFromText text) refl
     where
@@ -73,6 +79,7 @@ module _ {text before after : List ℕ} {r : Judged} (w : JudgePromise text befo
           k ∙ (λ i. stops (s i .refusal) (s i .line))
       go (reads f) k = absurd (false≢true (sym e ∙ w .good ∙ ap isRead k))
 
+  -- A text that is good gives a file.
   pub judged-good : r .good ≡ true → (f : List ℕ) × (fileFromText text ≡ reads f)
   judged-good e = go (fileFromText text) refl
     where
@@ -87,6 +94,7 @@ module _ (text before : List ℕ) where
   stopped : {n line : ℕ} → fileFromText text ≡ stops n line → JudgePromise text before (record { read = record { refusal = n; line = line; length = 0 }; good = false }) before
   stopped e = record { read = promised (ap (fitted before) e) refl refl; good = sym (ap isRead e) }
 
+  -- Where a line is refused, the answer is its refusal and its number, and nothing is written.
   pub read-stopped : {n line : ℕ} → readLines 1 empty (linesOf text) ≡ stops n line → JudgePromise text before (record { read = record { refusal = n; line = line; length = 0 }; good = false }) before
   unfolding fileFromText policyFromText
   read-stopped e = stopped (ap (λ (x : FromText Draft). filed (saidBy 1 x)) e)
@@ -117,7 +125,7 @@ module _ (text before : List ℕ) where
         let e = getD-take (t .clocks) (t .ceilings) k 0 (omega arith) in
         (λ i. states-taken k (omega arith) i * suc (e i))
 
-    -- 2 or 9.
+    -- The file's own refusal: 2, 9, or 0 for none.
     abbrev pub ownRefusal : ℕ
     ownRefusal = unless (leb 1 (t .places)) 2 orElse unless (leb (statesOf (t .ceilings) (t .clocks) (t .places)) 65536) 9
 
@@ -143,6 +151,7 @@ module _ (text before : List ℕ) where
         let body : length (p .rules) * ruleSize (length (p .ceilings)) ≡ count * (7 + 4 * t .clocks) = (λ j. many j * ruleSize (c j)) in
         omega (arith, nearly-length p (good-nearly 1 d good), inputs-long f, outputs-long f, c, named, body, f .order)
 
+    -- Where all lines are read and the policy is refused as a whole, the answer has line 0, and nothing is written.
     pub read-own : {n : ℕ} → n ≡ ownRefusal → (n ≡ 0 → ⊥) → JudgePromise text before (record { read = record { refusal = n; line = 0; length = 0 }; good = false }) before
     read-own {n} e z = stopped (go n z (file-is ∙ ap (λ (m : ℕ). passed m (bytesOf p)) (own-is ∙ sym e)))
       where
@@ -157,6 +166,7 @@ module _ (text before : List ℕ) where
       with-room : {b : Bool} → leb (length (bytesOf p)) (length before) ≡ b → fitted before (fileFromText text) ≡ cond b (reads (bytesOf p)) (stops 14 0)
       with-room h = ap (fitted before) file-read ∙ ap (λ (b : Bool). cond b (reads (bytesOf p)) (stops 14 0)) h
 
+      -- Where the file is longer than the slice, the text is good, the answer is 14, and nothing is written.
       pub read-short : length before < fileLength → JudgePromise text before (record { read = record { refusal = 14; line = 0; length = 0 }; good = true }) before
       read-short h = record { read = promised (with-room (lt-leb (length (bytesOf p)) (length before) (omega (arith, file-long)))) refl refl; good = sym (ap isRead file-read) }
 
@@ -167,6 +177,7 @@ module _ (text before : List ℕ) where
           let c = ap length (counts-are text starts ends left f rules count many) in
           omega (arith, file-long, length-append (countsBytes p) (rulesBytes rules), c)
 
+      -- Where there is room, and the counts and then the rules are written from 0 on, the answer is the file's length.
       pub read-whole : fileLength ≤ length before → {middle after : List ℕ} {from end : ℕ} → Wrote before 0 (countsOf left t count) from middle → Wrote middle from (rulesBytes rules) end after →
           JudgePromise text before (record { read = record { refusal = 0; line = 0; length = end }; good = true }) after
       unfolding bytesOf policyFrom

@@ -37,6 +37,7 @@ module _ (text starts ends left : List ℕ) {t : Table} (f : Fit t) (rules : Lis
   abbrev d : Draft
   d = draftOf text starts ends left t rules
 
+  -- What the code looks up a rule's words in is what the rules of the draft may name.
   pub scope-is :
       {tags′ : List ℕ} → tags′ ≡ take (t .signals) (t .tags) →
       scopeOf text tags′ starts ends (take (length starts - 8) (drop 8 starts)) (take (length ends - 8) (drop 8 ends)) (t .clocks)
@@ -59,6 +60,7 @@ module _ (text starts ends left : List ℕ) {t : Table} (f : Fit t) (rules : Lis
   unfolding addRule
   added p = ap (λ (r : Rule). draftOf text starts ends left (atPlace t (t .source)) (rules ++ (r ∷ []))) (sym (rule-is (begunOf (t .clocks) p)))
 
+  -- A rule before any `at` is refused by 30.
   pub rule-nowhere : (l : Line) (x : Draft) → 64 ≤ t .source → answer 30 x ≡ ruleLine d l (placeBelow 64 (t .source))
   unfolding ruleLine
   rule-nowhere l x h = sym (ap (ruleLine d l) (source-none (t .source) h))
@@ -80,6 +82,7 @@ module _ (text starts ends left : List ℕ) {t : Table} (f : Fit t) (rules : Lis
     refusing zero b x z = absurd (z refl)
     refusing (suc r) b x z = refl
 
+    -- A refusal of one of the words is that of the line.
     pub rule-refused : (x : Draft) → (s .refusal ≡ 0 → ⊥) → answer (s .refusal) x ≡ ruleLine d l (placeBelow 64 (t .source))
     rule-refused x z = refusing (s .refusal) (begunOf (t .clocks) (s .parsed)) x z ∙ sym line-is
 
@@ -89,6 +92,7 @@ module _ (text starts ends left : List ℕ) {t : Table} (f : Fit t) (rules : Lis
     tests true false r x = refl
     tests false q r x = refl
 
+    -- With all words taken: 30 for a rule cut short, 7 for bad bounds, 33 after 256 rules, and else the rule is added.
     pub rule-tested : {q count : ℕ} → s .refusal ≡ 0 → length rules ≡ count →
         q ≡ (unless (mayEnd (begunOf (t .clocks) (s .parsed)) (partOf (s .parsed .part) (s .parsed .clock))) 30
         orElse (unless (boundsGood (take (t .clocks) (t .ceilings)) (boundsOf (t .clocks) (s .parsed .low) (s .parsed .high))) 7 orElse unless (ltb count 256) 33)) →

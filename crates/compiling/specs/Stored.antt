@@ -26,14 +26,17 @@ one-rule : (x : Rule) → rulesBytes (x ∷ []) ≡ ruleBytes x
 unfolding rulesBytes
 one-rule x = append-nil (ruleBytes x)
 
+-- A number up to 1 that is not 0 is 1.
 pub is-one : (n : ℕ) → n ≤ 1 → (n ≡ 0 → ⊥) → n ≡ 1
 is-one zero h z = absurd (z refl)
 is-one (suc zero) h z = refl
 is-one (suc (suc n)) h z = absurd (omega arith)
 
+-- A line with a rule adds the bytes of that rule.
 pub taken-one : (r : Taken) → r .rule ≡ 1 → takenBytes r ≡ ruleBytes (ruleSaid (r .table) (r .parsed))
 taken-one r e = ap (λ (n : ℕ). rulesBytes (withRule n [] (ruleSaid (r .table) (r .parsed)))) e ∙ one-rule (ruleSaid (r .table) (r .parsed))
 
+-- A line without a rule writes nothing.
 pub taken-none : (r : Taken) (before : List ℕ) (at : ℕ) → r .rule ≡ 0 → Wrote before at (takenBytes r) at before
 unfolding rulesBytes
 taken-none r before at e =
@@ -62,11 +65,13 @@ pub record Keeping (text before : List ℕ) (draft : List Rule → Draft) (count
   pub wrote : Wrote before 0 (rulesBytes rules) used now
   pub few : used ≤ 23 * count
 
+-- Before the first line no byte is kept.
 pub keeping-start : (text before : List ℕ) (draft : List Rule → Draft) → draft [] ≡ empty → Keeping text before draft 0 0 0 0 before
 unfolding rulesBytes
 keeping-start text before draft e = record { rules = []; sofar = before-lines text draft e; wrote = wrote-none before 0; few = omega arith }
 
 module _ {text before : List ℕ} {draft : List Rule → Draft} {count passed at used : ℕ} {now : List ℕ} (s : Keeping text before draft count passed at used now) where
+  -- At the end of the text there is no refusal, and the bytes of all rules are kept.
   pub held-end : length text ≤ at → (r : Said) → r .refusal ≡ 0 → r .count ≡ count → r .used ≡ used → Held text before r draft now
   held-end h r z n u =
       record {
@@ -80,6 +85,7 @@ module _ {text before : List ℕ} {draft : List Rule → Draft} {count passed at
       }
 
   module _ {end : ℕ} (l : NextLine text at end) (h : at < length text) {r : Taken} {after : List Rule → Draft} (k : Took text draft end at count r after) where
+    -- A refused line ends it, with its refusal and its number, counted from 1.
     pub held-stops : (r .refusal ≡ 0 → ⊥) → (x : Said) → x .refusal ≡ r .refusal → x .line ≡ passed + 1 → {other : List Rule → Draft} {then : List ℕ} → Held text before x other then
     held-stops z x e y = record { stopped = λ w. lines-stop (s .sofar) l h k z ∙ (λ i. stops (sym e i) (sym y i)); whole = λ w. absurd (z (sym e ∙ w)) }
 
@@ -88,6 +94,7 @@ module _ {text before : List ℕ} {draft : List Rule → Draft} {count passed at
         let x = ruleSaid (r .table) (r .parsed) in
         ap rulesBytes (sym (with-rule (r .rule) (s .rules) x)) ∙ rules-append (s .rules) (withRule (r .rule) [] x)
 
+    -- A line that is not refused is read and its bytes are written: the bytes of all rules up to the next line are kept.
     pub keeping-on : r .refusal ≡ 0 → {to : ℕ} → drop (end + 1) text ≡ drop to text → {q : ℕ} {then : List ℕ} → Wrote now used (takenBytes r) q then → q ≤ used + 23 * r .rule →
         Keeping text before after (count + r .rule) (passed + 1) to q then
     keeping-on z e {q} {then} w m =

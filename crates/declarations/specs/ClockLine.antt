@@ -1,4 +1,6 @@
 -- A clock's line, by what was found of it.
+-- In order: one clock more in a draft; the refusals of a ceiling and for want of room; the line by its refusals, in their order; one clock more in
+-- the table.
 use mathlib.Core.Path.{_≡_, refl, ap, sym, _∙_}
 use mathlib.Core.Bool.{Bool, true, false}
 use mathlib.Core.List.{List, [], _∷_, _++_}
@@ -20,6 +22,7 @@ use Rattle.declarations.specs.Fresh.{nameRefusal, refuse, refusing, cloc
 use Rattle.declarations.specs.Table.{draftOf, Fit, Named}
 use Rattle.declarations.specs.declared.table.Table.{Table}
 
+-- One clock more, by its name and its ceiling.
 abbrev pub withClock : Draft → Word → ℕ → Draft
 withClock d w c =
     record {
@@ -35,21 +38,27 @@ withClock d w c =
       source = d .source;
     }
 
+-- Of a ceiling c after n clocks. 4: it is 0 or above 1,001. 33: there are four clocks already.
 abbrev pub clockRefusal : ℕ → ℕ → ℕ
 clockRefusal c n = unless (ceilingGood c) 4 orElse unless (ltb n 4) 33
 
+-- A ceiling of 0 is refused by 4.
 pub ceiling-none : (c n : ℕ) → c < 1 → 4 ≡ clockRefusal c n
 ceiling-none c n h = rw (lt-leb 1 c h)
 
+-- A ceiling above 1,001 is refused by 4.
 pub ceiling-large : (c n : ℕ) → 1 ≤ c → 1001 < c → 4 ≡ clockRefusal c n
 ceiling-large c n h l = rw (le-leb 1 c h, lt-leb c 1001 l)
 
+-- A ceiling from 1 to 1,001 is not refused where there are fewer than four clocks.
 pub clock-room : (c n : ℕ) → 1 ≤ c → c ≤ 1001 → n < 4 → 0 ≡ clockRefusal c n
 clock-room c n h l g = rw (le-leb 1 c h, le-leb c 1001 l, lt-ltb n 4 g)
 
+-- A ceiling from 1 to 1,001 is refused by 33 where there are four clocks already.
 pub clock-full : (c n : ℕ) → 1 ≤ c → c ≤ 1001 → 4 ≤ n → 33 ≡ clockRefusal c n
 clock-full c n h l g = rw (le-leb 1 c h, le-leb c 1001 l, le-ltb n 4 g)
 
+-- Behind `clock` stand two words, or the line is refused by 30.
 pub clock-form : (d : Draft) (n : ℕ) (v w : Word) (l : Line) → (n ≡ 2 → ⊥) → Shaped n v w l → refused 30 ≡ clockLine d l
 unfolding clockLine
 clock-form d zero v w l h e = rw e
@@ -79,6 +88,7 @@ module _ (d : Draft) (v w : Word) (l : Line) (two : l ≡ v ∷ w ∷ []) where
       (clock-new (isName v) (find 0 v (d .names)) (find 0 v (d .clocks)) _
       ∙ ap (refuse name) (numbered-then w _ ∙ ap (λ (go : ℕ → Answer Draft). numberOf w andThen go) (λ i c. last-of (ceilingGood c) (ltb (length (d .clocks)) 4) (gives (withClock d v c)) i)))
 
+  -- A clock after a location or an `at` is refused by 30.
   pub clock-late : 3 < d .stage → refused 30 ≡ clockLine d l
   clock-late h = sym (steps ∙ rw (lt-leb (d .stage) 3 h))
 
@@ -86,6 +96,7 @@ module _ (d : Draft) (v w : Word) (l : Line) (two : l ≡ v ∷ w ∷ []) where
     timely : clockLine d l ≡ refuse name (numberOf w andThen last)
     timely = steps ∙ rw (le-leb (d .stage) 3 h)
 
+    -- The refusal of the name, if it has one, is that of the line.
     pub clock-named : (r : ℕ) (x : Draft) → r ≡ name → (r ≡ 0 → ⊥) → answer r x ≡ clockLine d l
     clock-named r x e z = refusing r x (numberOf w andThen last) z ∙ ap (λ (n : ℕ). refuse n (numberOf w andThen last)) e ∙ sym timely
 
@@ -97,6 +108,7 @@ module _ (d : Draft) (v w : Word) (l : Line) (two : l ≡ v ∷ w ∷ []) where
       no-number zero x z = absurd (z refl)
       no-number (suc n) x z = refl
 
+      -- With a new name, the refusal of the second word as a number is that of the line.
       pub clock-number : (x : Draft) → (q ≡ 0 → ⊥) → answer q x ≡ clockLine d l
       clock-number x z = no-number q x z ∙ sym then
 
@@ -104,9 +116,11 @@ module _ (d : Draft) (v w : Word) (l : Line) (two : l ≡ v ∷ w ∷ []) where
         lasts : clockLine d l ≡ last c
         lasts = then ∙ ap (λ (n : ℕ). answer n c andThen last) zero-q
 
+        -- With a new name and a number, the refusal of the ceiling (4) or for want of room (33) is that of the line.
         pub clock-last : (r : ℕ) (x : Draft) → r ≡ clockRefusal c (length (d .clocks)) → (r ≡ 0 → ⊥) → answer r x ≡ clockLine d l
         clock-last r x e z = refusing r x (gives (withClock d v c)) z ∙ ap (λ (n : ℕ). refuse n (gives (withClock d v c))) e ∙ sym lasts
 
+        -- A clock that nothing refuses is added, with its ceiling.
         pub clock-given : 0 ≡ clockRefusal c (length (d .clocks)) → gives (withClock d v c) ≡ clockLine d l
         clock-given e = ap (λ (n : ℕ). refuse n (gives (withClock d v c))) e ∙ sym lasts
 
@@ -125,6 +139,7 @@ moreClock t c =
     }
 
 module _ {text starts ends : List ℕ} {t : Table} (f : Fit t) (p : Named text starts ends) (a b c : ℕ) (h : t .clocks < 4) where
+  -- Stored in the table and the slices, the new clock comes after the others, and all else stays.
   pub clock-more : (left : List ℕ) (rules : List Rule) →
       draftOf text (set starts (8 + t .clocks) a) (set ends (8 + t .clocks) b) left (moreClock t c) rules ≡ withClock (draftOf text starts ends left t rules) (part text a (b - a)) c
   clock-more left rules =
@@ -137,6 +152,7 @@ module _ {text starts ends : List ℕ} {t : Table} (f : Fit t) (p : Named text s
       let tops = take-more (t .ceilings) (t .clocks) c (omega (arith, f .ceilings-long)) in
       (λ i. record { inputs = d .inputs; outputs = d .outputs; names = names i; clocks = clocks i; ceilings = tops i; places = places i; left = d .left; rules = rules; stage = 3; source = d .source })
 
+-- A table of fewer than four clocks still fits with one more.
 pub fit-clock : {t : Table} → Fit t → (c : ℕ) → t .clocks < 4 → Fit (moreClock t c)
 fit-clock {t} f c h =
     record {
@@ -150,6 +166,7 @@ fit-clock {t} f c h =
       ceilings-long = length-set (t .ceilings) (t .clocks) c ∙ f .ceilings-long;
     }
 
+-- A clock that is not refused is one of the first four.
 pub room-of : (c n : ℕ) → clockRefusal c n ≡ 0 → n < 4
 room-of c n h = go (ceilingGood c) (ltb n 4) refl h
   where

@@ -1,4 +1,5 @@
 -- New names and what is kept of them.
+-- In order: whether a word may be a new name; the slices of the names, from k on; one name more in them.
 use mathlib.Core.Path.{_≡_, refl, ap, _∙_}
 use mathlib.Core.Bool.{Bool, true, false}
 use mathlib.Core.List.{List, [], _∷_, _++_}
@@ -29,15 +30,19 @@ nameRefusal true none none = 0
 abbrev pub nameFound : (text starts ends : List ℕ) → Table → Word → ℕ
 nameFound text starts ends t w = nameRefusal (isName w) (find 0 w (spans text starts ends 0 (t .signals))) (find 0 w (spans text starts ends 8 (t .clocks)))
 
+-- A word that cannot be a name is refused by 30.
 pub name-not : (t : Bool) (o p : Option ℕ) → t ≡ false → 30 ≡ nameRefusal t o p
 name-not t o p e = rw e
 
+-- A name that a signal has is refused by 31.
 pub name-signal : (t : Bool) (o p : Option ℕ) {n k : ℕ} → t ≡ true → o ≡ placeBelow n k → k < n → 31 ≡ nameRefusal t o p
 name-signal t o p {n = n} {k = k} e f h = rw (e, f, lt-ltb k n h)
 
+-- A name that a clock has, and no signal, is refused by 31.
 pub name-clock : (t : Bool) (o p : Option ℕ) {n k m j : ℕ} → t ≡ true → o ≡ placeBelow n k → n ≤ k → p ≡ placeBelow m j → j < m → 31 ≡ nameRefusal t o p
 name-clock t o p {n = n} {k = k} {m = m} {j = j} e f h g l = rw (e, f, le-ltb k n h, g, lt-ltb j m l)
 
+-- A name that neither a signal nor a clock has is not refused.
 pub name-fresh : (t : Bool) (o p : Option ℕ) {n k m j : ℕ} → t ≡ true → o ≡ placeBelow n k → n ≤ k → p ≡ placeBelow m j → m ≤ j → 0 ≡ nameRefusal t o p
 name-fresh t o p {n = n} {k = k} {m = m} {j = j} e f h g l = rw (e, f, le-ltb k n h, g, le-ltb j m l)
 
@@ -46,6 +51,7 @@ abbrev pub refuse : {A : Type 0} → ℕ → Answer A → Answer A
 refuse zero a = a
 refuse (suc n) a = refused (suc n)
 
+-- Where the refusal is not 0, it is the answer, whatever would follow.
 pub refusing : {A : Type 0} (n : ℕ) (x : A) (a : Answer A) → (n ≡ 0 → ⊥) → answer n x ≡ refuse n a
 refusing zero x a z = absurd (z refl)
 refusing (suc n) x a z = refl
@@ -58,6 +64,7 @@ clock-new true (some i) (some j) a = refl
 clock-new true none (some j) a = refl
 clock-new true none none a = refl
 
+-- A signal's new name, looked up among the signals and then among the clocks, is refused in the same way.
 pub signal-new : (t : Bool) (o p : Option ℕ) (a : Answer Draft) → must t 30 (free o (free p a)) ≡ refuse (nameRefusal t o p) a
 signal-new false o p a = refl
 signal-new true (some i) p a = refl
@@ -76,28 +83,32 @@ module _ (text s e : List ℕ) where
       let q : k + suc j ≡ suc (k + j) = omega arith in
       rw (getD-drop k s j 0, getD-drop k e j 0, dropped k (suc j) n, q)
 
+  -- Cut off before k, the slices have from 0 on the names that they had from k on.
   pub spans-behind : (k n : ℕ) → spans text (take (length s - k) (drop k s)) (take (length e - k) (drop k e)) 0 n ≡ spans text s e k n
   spans-behind k n =
       let q : k + 0 ≡ k = omega arith in
       (λ i. spans text (whole k s i) (whole k e i) 0 n) ∙ dropped k 0 n ∙ ap (λ (j : ℕ). spans text s e j n) q
 
+  -- Cut off before k, the slices still have only names within the text.
   pub within-behind : {m : ℕ} → Within text s e m → (k n : ℕ) → k + n ≤ m → Within text (take (length s - k) (drop k s)) (take (length e - k) (drop k e)) n
   within-behind w k n h j l =
       let at = w (k + j) (omega arith) in
       rw (whole k s, whole k e, getD-drop k s j 0, getD-drop k e j 0) at
 
+-- Cut off before k, a list of at least k + n numbers has at least n.
 pub behind-long : (k n : ℕ) (l : List ℕ) → k + n ≤ length l → n ≤ length (take (length l - k) (drop k l))
 behind-long k n l h = rw (whole k l, length-drop k l) (omega arith)
 
--- One name more.
+-- How many names there are, and what a store of one more leaves and adds.
 module _ (text : List ℕ) where
+  -- There are as many names as are asked for.
   pub spans-long : (s e : List ℕ) (k n : ℕ) → length (spans text s e k n) ≡ n
   unfolding spans
   spans-long s e k zero = refl
   spans-long s e k (suc n) = ap suc (spans-long s e (suc k) n)
 
   module _ (s e : List ℕ) (n a b : ℕ) where
-    -- Names that stand elsewhere.
+    -- A store changes no name that stands elsewhere.
     pub spans-other : (k m : ℕ) → ((i : ℕ) → k ≤ i → i < k + m → i ≡ n → ⊥) → spans text (set s n a) (set e n b) k m ≡ spans text s e k m
     unfolding spans
     spans-other k zero h = refl
@@ -110,6 +121,7 @@ module _ (text : List ℕ) where
   snoc s e k zero m h = let q : k ≡ m = omega arith in ap (λ (j : ℕ). part text (getD s j 0) (getD e j 0 - getD s j 0) ∷ []) q
   snoc s e k (suc n) m h = ap (λ (z : Line). part text (getD s k 0) (getD e k 0 - getD s k 0) ∷ z) (snoc s e (suc k) n m (omega arith))
 
+  -- A name stored directly after n others makes them n + 1, with this one as the last.
   pub spans-more : (s e : List ℕ) (k n m a b : ℕ) → k + n ≡ m → m < length s → m < length e → spans text (set s m a) (set e m b) k (n + 1) ≡ spans text s e k n ++ (part text a (b - a) ∷ [])
   spans-more s e k n m a b at h l =
       let q : n + 1 ≡ suc n = omega arith in
@@ -119,6 +131,7 @@ module _ (text : List ℕ) where
       ∙ snoc (set s m a) (set e m b) k n m at
       ∙ (λ i. spans-other s e m a b k n (λ j x y z. omega arith) i ++ (part text (ka i) (kb i - ka i) ∷ []))
 
+-- All names are still within the text when one more that is within it is stored.
 pub named-more : {text s e : List ℕ} → Named text s e → (n a b : ℕ) → n < 76 → a ≤ b → b ≤ length text → Named text (set s n a) (set e n b)
 named-more {text} {s} {e} w n a b h o m =
     record {
@@ -136,5 +149,6 @@ named-more {text} {s} {e} w n a b h o m =
         let old = w .within k l in
         rw (getD-set-other s n k a 0 z, getD-set-other e n k b 0 z) old
 
+-- A number stored at n makes the first n numbers n + 1, with this one as the last.
 pub take-more : (l : List ℕ) (n a : ℕ) → n < length l → take (n + 1) (set l n a) ≡ take n l ++ (a ∷ [])
 take-more l n a h = let q : n + 1 ≡ suc n = omega arith in ap (λ (j : ℕ). take j (set l n a)) q ∙ take-suc-set l n a h

@@ -1,4 +1,6 @@
 -- A location's line, by what was found of it.
+-- In order: one location more in a draft; the words `must be left`, and the byte they give; a new location by its refusals, in their order; one
+-- location more in the table; the three words found one by one; the line.
 use mathlib.Core.Path.{_≡_, refl, ap, sym, _∙_}
 use mathlib.Core.Bool.{Bool, true, false, cond, _&&_}
 use mathlib.Core.List.{List, [], _∷_, _++_}
@@ -20,6 +22,7 @@ use Rattle.declarations.specs.Fresh.{spans-other, spans-more, take-more}
 use Rattle.declarations.specs.Table.{draftOf, Fit, Named}
 use Rattle.declarations.specs.declared.table.Table.{Table}
 
+-- One location more, by its name and its byte.
 abbrev pub withPlace : Draft → Word → ℕ → Draft
 withPlace d w byte =
     record {
@@ -56,24 +59,29 @@ location-left d w a (b ∷ c ∷ []) = refl
 location-left d w a (b ∷ c ∷ v ∷ ws) = refl
 
 module _ (d : Draft) (w : Word) (byte : ℕ) where
+  -- A location after an `at` is refused by 30.
   pub place-late : 4 < d .stage → refused 30 ≡ newPlace d w byte
   unfolding newPlace
   place-late h = rw (lt-leb (d .stage) 4 h)
 
   module _ (h : d .stage ≤ 4) where
+    -- A word that cannot be a name is refused by 30.
     pub place-unnamed : isName w ≡ false → refused 30 ≡ newPlace d w byte
     unfolding newPlace
     place-unnamed e = rw (le-leb (d .stage) 4 h, e)
 
     module _ (named : isName w ≡ true) {n k : ℕ} (e : find 0 w (d .places) ≡ placeBelow n k) where
+      -- A name that a location has already is refused by 31.
       pub place-taken : k < n → refused 31 ≡ newPlace d w byte
       unfolding newPlace
       place-taken l = rw (le-leb (d .stage) 4 h, named, e, lt-ltb k n l)
 
+      -- A new name is refused by 33 where there are 64 locations already.
       pub place-full : n ≤ k → 64 ≤ length (d .places) → refused 33 ≡ newPlace d w byte
       unfolding newPlace
       place-full l m = rw (le-leb (d .stage) 4 h, named, e, le-ltb k n l, le-ltb (length (d .places)) 64 m)
 
+      -- A new name is added, with its byte, where there are fewer than 64 locations.
       pub place-given : n ≤ k → length (d .places) < 64 → gives (withPlace d w byte) ≡ newPlace d w byte
       unfolding newPlace
       place-given l m = rw (le-leb (d .stage) 4 h, named, e, le-ltb k n l, lt-ltb (length (d .places)) 64 m)
@@ -93,6 +101,7 @@ morePlace t =
     }
 
 module _ {text starts ends : List ℕ} {t : Table} (f : Fit t) (p : Named text starts ends) (a b c : ℕ) (h : t .places < 64) where
+  -- Stored in the table and the slices, the new location comes after the others, and all else stays.
   pub place-more : (left : List ℕ) → length left ≡ 64 → (rules : List Rule) →
       draftOf text (set starts (12 + t .places) a) (set ends (12 + t .places) b) (set left (t .places) c) (morePlace t) rules ≡ withPlace (draftOf text starts ends left t rules) (part text a (b - a)) c
   place-more left long rules =
@@ -106,6 +115,7 @@ module _ {text starts ends : List ℕ} {t : Table} (f : Fit t) (p : Named text s
       let bytes = take-more left (t .places) c (omega arith) in
       (λ i. record { inputs = d .inputs; outputs = d .outputs; names = names i; clocks = clocks i; ceilings = d .ceilings; places = places i; left = bytes i; rules = rules; stage = 4; source = d .source })
 
+-- A table of fewer than 64 locations still fits with one more.
 pub fit-place : {t : Table} → Fit t → t .places < 64 → Fit (morePlace t)
 fit-place f h =
     record {
@@ -121,18 +131,22 @@ fit-place f h =
 
 -- The three words, found one by one.
 module _ {text : List ℕ} {end at a b : ℕ} (n : NextIn text end at a b) where
+  -- No word at all is not `must be left`.
   pub left-none : b ≤ a → false ≡ mustBeLeft (wordsOf (part text at (end - at)))
   left-none h = rw (in-none n h)
 
   module _ {c d : ℕ} (h : a < b) (m : NextIn text end b c d) where
+    -- One word is not `must be left`.
     pub left-one : d ≤ c → false ≡ mustBeLeft (wordsOf (part text at (end - at)))
     left-one k = rw (in-word n h, in-none m k)
 
     module _ {e f : ℕ} (k : c < d) (o : NextIn text end d e f) where
+      -- Two words are not `must be left`.
       pub left-two : f ≤ e → false ≡ mustBeLeft (wordsOf (part text at (end - at)))
       left-two l = rw (in-word n h, in-word m k, in-none o l)
 
       module _ {g i : ℕ} (l : e < f) (p : NextIn text end f g i) where
+        -- Four words or more are not `must be left`.
         pub left-more : g < i → false ≡ mustBeLeft (wordsOf (part text at (end - at)))
         left-more q = rw (in-word n h, in-word m k, in-word o l, in-word p q)
 
@@ -147,6 +161,7 @@ module _ {text : List ℕ} {end at a b : ℕ} (n : NextIn text end at a b) where
             must-is : is "must" (part text a (b - a)) ≡ eqb r 9
             must-is = keyword-is (part text a (b - a)) r rr 9 (omega arith)
 
+            -- Three words that do not begin with `must` are not `must be left`.
             pub left-must : (r ≡ 9 → ⊥) → false ≡ mustBeLeft (wordsOf (part text at (end - at)))
             left-must z = sym (just ∙ rw (must-is, ne-eqb r 9 z))
 
@@ -154,13 +169,15 @@ module _ {text : List ℕ} {end at a b : ℕ} (n : NextIn text end at a b) where
               be-is : is "be" (part text c (d - c)) ≡ eqb s 10
               be-is = keyword-is (part text c (d - c)) s ss 10 (omega arith)
 
+              -- Three words of which the first is `must` and the second not `be` are not `must be left`.
               pub left-be : (s ≡ 10 → ⊥) → false ≡ mustBeLeft (wordsOf (part text at (end - at)))
               left-be z = sym (just ∙ rw (must-is, eq-eqb r 9 y, be-is, ne-eqb s 10 z))
 
+              -- Three words that begin with `must be` are `must be left` exactly if the third is `left`.
               pub left-left : (u : ℕ) → find 0 (part text e (f - e)) keywords ≡ placeBelow 14 u → s ≡ 10 → eqb u 11 ≡ mustBeLeft (wordsOf (part text at (end - at)))
               left-left u uu z = sym (just ∙ rw (must-is, eq-eqb r 9 y, be-is, eq-eqb s 10 z, keyword-is (part text e (f - e)) u uu 11 (omega arith)))
 
--- The byte.
+-- With words behind the name the byte is 1 for `must be left`, and 2 for any others.
 pub byte-is : (l : Line) {w : Word} {ws : Line} → l ≡ w ∷ ws → {t : Bool} → mustBeLeft l ≡ t → cond t 1 2 ≡ leftByte l
 byte-is [] e m = absurd (let z : _≡_ {A = ℕ} 0 1 = cc in omega arith)
 byte-is (v ∷ vs) e m = ap (λ (b : Bool). cond b 1 2) (sym m)
@@ -185,13 +202,16 @@ module _ (d : Draft) (w : Word) where
   without-byte (v ∷ vs) k e h = no-byte (mustBeLeft (v ∷ vs)) k e h ∙ sym (location-left d w v vs)
 
 module _ (dr : Draft) {text : List ℕ} {end at a b : ℕ} (n : NextIn text end at a b) where
+  -- `location` without a name is refused by 30.
   pub location-none : b ≤ a → refused 30 ≡ locationLine dr (wordsOf (part text at (end - at)))
   unfolding locationLine
   location-none h = rw (in-none n h)
 
   module _ (h : a < b) {k : ℕ} (e : k ≡ leftByte (wordsOf (part text b (end - b)))) where
+    -- A name with words behind it that are not `must be left` is refused by 30.
     pub location-no : 1 < k → refused 30 ≡ locationLine dr (wordsOf (part text at (end - at)))
     location-no l = without-byte dr (part text a (b - a)) (wordsOf (part text b (end - b))) k e l ∙ sym (ap (locationLine dr) (in-word n h))
 
+    -- A name alone is a new location with byte 0, and one with `must be left` behind it a new location with byte 1.
     pub location-given : k ≤ 1 → newPlace dr (part text a (b - a)) k ≡ locationLine dr (wordsOf (part text at (end - at)))
     location-given l = with-byte dr (part text a (b - a)) (wordsOf (part text b (end - b))) k e l ∙ sym (ap (locationLine dr) (in-word n h))

@@ -1,4 +1,6 @@
 -- A signal's line, by what was found of it.
+-- In order: the letter, the name and room as one answer; one signal more in the table, as an input or as an output; the line by its words; how many
+-- letters the table has; the lines of an input and of an output by their refusals.
 use mathlib.Core.Path.{_≡_, refl, ap, sym, _∙_}
 use mathlib.Core.Bool.{Bool, true, false}
 use mathlib.Core.List.{List, [], _∷_, _++_}
@@ -26,11 +28,13 @@ wanted zero r = 0
 wanted (suc zero) r = 0
 wanted (suc (suc n)) r = r
 
+-- Without a second word nothing is refused.
 pub wanted-none : (n r : ℕ) → n < 2 → 0 ≡ wanted n r
 wanted-none zero r h = refl
 wanted-none (suc zero) r h = refl
 wanted-none (suc (suc n)) r h = absurd (omega arith)
 
+-- With a second word its refusal counts.
 pub wanted-some : (n r : ℕ) → 2 ≤ n → r ≡ wanted n r
 wanted-some zero r h = absurd (omega arith)
 wanted-some (suc zero) r h = absurd (omega arith)
@@ -41,6 +45,7 @@ abbrev pub signalTag : (before : List ℕ) (count r : ℕ) → Word → Answer �
 signalTag before count r w = letter before w andThen λ t. refuse r (must (ltb count 4) 33 (gives t))
 
 module _ (before : List ℕ) (count : ℕ) (w : Word) (q c : ℕ) (e : answer q c ≡ letter before w) where
+  -- The refusal of the letter, if it has one, comes before all else.
   pub tag-not : (r : ℕ) → (q ≡ 0 → ⊥) → answer q c ≡ signalTag before count r w
   tag-not r z = go q z ∙ ap (λ (a : Answer ℕ). a andThen λ t. refuse r (must (ltb count 4) 33 (gives t))) e
     where
@@ -52,6 +57,7 @@ module _ (before : List ℕ) (count : ℕ) (w : Word) (q c : ℕ) (e : answer q 
     there : (r : ℕ) → signalTag before count r w ≡ refuse r (must (ltb count 4) 33 (gives c))
     there r = ap (λ (a : Answer ℕ). a andThen λ t. refuse r (must (ltb count 4) 33 (gives t))) (sym e ∙ ap (λ (n : ℕ). answer n c) z)
 
+    -- With a good letter, the refusal of the name is the answer.
     pub tag-named : (r x : ℕ) {s : ℕ} → r ≡ s → (r ≡ 0 → ⊥) → answer r x ≡ signalTag before count s w
     tag-named r x {s = s} f k = go r k ∙ ap (λ (n : ℕ). refuse n (must (ltb count 4) 33 (gives c))) f ∙ sym (there s)
       where
@@ -59,9 +65,11 @@ module _ (before : List ℕ) (count : ℕ) (w : Word) (q c : ℕ) (e : answer q 
         go zero y = absurd (y refl)
         go (suc n) y = refl
 
+    -- With a good letter and name, 33 is the answer where there are four of the kind already.
     pub tag-full : {s : ℕ} → 0 ≡ s → 4 ≤ count → refused 33 ≡ signalTag before count s w
     tag-full {s = s} f h = sym (there s ∙ rw (← f, le-ltb count 4 h))
 
+    -- With a good letter and name, the letter is given where there are fewer than four of the kind.
     pub tag-given : {s : ℕ} → 0 ≡ s → count < 4 → answer q c ≡ signalTag before count s w
     tag-given {s = s} f h = rw z (sym (there s ∙ rw (← f, lt-ltb count 4 h)))
 
@@ -111,6 +119,7 @@ module _ {text starts ends : List ℕ} {t : Table} (f : Fit t) (p : Named text s
 
   -- An input, before all outputs.
   module _ (h : t .inputs < 4) (s : t .stage ≤ 1) where
+    -- Stored in the table and the slices, the new input comes after the others, and all else stays.
     pub input-more : (left : List ℕ) (rules : List Rule) →
         draftOf text (set starts (t .signals) a) (set ends (t .signals) b) left (moreSignal t c (t .signals + 1) 1) rules ≡ withInput (draftOf text starts ends left t rules) c (part text a (b - a))
     input-more left rules =
@@ -122,11 +131,13 @@ module _ {text starts ends : List ℕ} {t : Table} (f : Fit t) (p : Named text s
         let outs : take (t .signals + 1 - (t .signals + 1)) (drop (t .signals + 1) (set (t .tags) (t .signals) c)) ≡ take (t .signals - t .inputs) (drop (t .inputs) (t .tags)) = rw (x, y) in
         signal-more left rules (omega (arith, same)) (t .signals + 1) ins outs
 
+    -- A table of fewer than four inputs and no output still fits with one input more.
     pub fit-input : Fit (moreSignal t c (t .signals + 1) 1)
     fit-input = let same = f .first s in fit-signal f c (t .signals + 1) 1 (omega (arith, same)) (omega arith) (omega arith) (λ k. refl)
 
   -- An output.
   module _ (h : t .signals < t .inputs + 4) where
+    -- Stored in the table and the slices, the new output comes after the others, and all else stays.
     pub output-more : (left : List ℕ) (rules : List Rule) →
         draftOf text (set starts (t .signals) a) (set ends (t .signals) b) left (moreSignal t c (t .inputs) 2) rules ≡ withOutput (draftOf text starts ends left t rules) c (part text a (b - a))
     output-more left rules =
@@ -142,6 +153,7 @@ module _ {text starts ends : List ℕ} {t : Table} (f : Fit t) (p : Named text s
         ∙ take-suc-set (drop (t .inputs) (t .tags)) m c (omega (arith, length-drop (t .inputs) (t .tags), f .tags-long)) in
         signal-more left rules (omega arith) (t .inputs) ins outs
 
+    -- A table of fewer than four outputs still fits with one more.
     pub fit-output : Fit (moreSignal t c (t .inputs) 2)
     fit-output =
         let order = f .order in
@@ -150,6 +162,7 @@ module _ {text starts ends : List ℕ} {t : Table} (f : Fit t) (p : Named text s
 
 -- The line by its words, for either kind of signal.
 module _ (d : Draft) (count : ℕ) (go : ℕ → Word → Draft) where
+  -- Behind `input` or `output` stand one word or two, or the line is refused by 30.
   pub signal-form : (n : ℕ) (v w : Word) (l : Line) → (1 ≤ n → n ≤ 2 → ⊥) → Shaped n v w l → refused 30 ≡ signalLine d count go l
   unfolding signalLine
   signal-form zero v w l h e = rw e
@@ -171,6 +184,7 @@ module _ (d : Draft) (count : ℕ) (go : ℕ → Word → Draft) where
   abbrev named : Word → ℕ
   named w = nameRefusal (isName w) (find 0 w (d .names)) (find 0 w (d .clocks))
 
+  -- A line of one word or two: the letter decides, then the name if there is one, then whether there is room.
   pub signal-line : (n : ℕ) (v w : Word) (l : Line) → 1 ≤ n → n ≤ 2 → Shaped n v w l → signalLine d count go l ≡ signalTag (tags d) count (wanted n (named w)) v andThen λ t. gives (go t w)
   unfolding signalLine
   signal-line zero v w l a b e = absurd (omega arith)
@@ -182,13 +196,16 @@ module _ (d : Draft) (count : ℕ) (go : ℕ → Word → Draft) where
 
 -- Of what the code has.
 module _ {t : Table} (f : Fit t) where
+  -- The table has one letter for each input.
   pub inputs-long : length (take (t .inputs) (t .tags)) ≡ t .inputs
   inputs-long = length-take-le (t .inputs) (t .tags) (omega (arith, f .tags-long, f .inputs))
 
+  -- The table has one letter for each output.
   pub outputs-long : length (take (t .signals - t .inputs) (drop (t .inputs) (t .tags))) ≡ t .signals - t .inputs
   outputs-long = length-take-le (t .signals - t .inputs) (drop (t .inputs) (t .tags)) (omega (arith, length-drop (t .inputs) (t .tags), f .tags-long, f .inputs, f .outputs, f .order))
 
 module _ (text starts ends left : List ℕ) {t : Table} (f : Fit t) (rules : List Rule) where
+  -- The letters of all signals, the inputs first, are the first ones in the table.
   pub tags-whole : tags (draftOf text starts ends left t rules) ≡ take (t .signals) (t .tags)
   tags-whole =
       let order = f .order in
@@ -199,18 +216,22 @@ module _ (text starts ends left : List ℕ) {t : Table} (f : Fit t) (rules : Lis
     abbrev d : Draft
     d = draftOf text starts ends left t rules
 
+    -- An input after an output, a clock, a location or an `at` is refused by 30.
     pub input-late : 1 < t .stage → refused 30 ≡ inputLine d l
     unfolding inputLine
     input-late h = rw (lt-leb (t .stage) 1 h)
 
+    -- An output after a clock, a location or an `at` is refused by 30.
     pub output-late : 2 < t .stage → refused 30 ≡ outputLine d l
     unfolding outputLine
     output-late h = rw (lt-leb (t .stage) 2 h)
 
+    -- `input` with no word or more than two behind it is refused by 30.
     pub input-form : t .stage ≤ 1 → (1 ≤ n → n ≤ 2 → ⊥) → refused 30 ≡ inputLine d l
     unfolding inputLine
     input-form h k = rw (le-leb (t .stage) 1 h) (signal-form d (length (d .inputs)) (withInput d) n v w l k s)
 
+    -- `output` with no word or more than two behind it is refused by 30.
     pub output-form : t .stage ≤ 2 → (1 ≤ n → n ≤ 2 → ⊥) → refused 30 ≡ outputLine d l
     unfolding outputLine
     output-form h k = rw (le-leb (t .stage) 2 h) (signal-form d (length (d .outputs)) (withOutput d) n v w l k s)
@@ -229,9 +250,11 @@ module _ (text starts ends left : List ℕ) {t : Table} (f : Fit t) (rules : Lis
             ∙ (λ i. signalTag (tags-whole i) (inputs-long f i) (wanted n (nameFound text starts ends t w)) v andThen λ u. gives (withInput d u w))
             ∙ ap (λ (z : Answer ℕ). z andThen λ u. gives (withInput d u w)) (sym e))
 
+        -- The refusal of an input's letter, of its name or for want of room is that of the line.
         pub input-not : (x : Draft) → (q ≡ 0 → ⊥) → answer q x ≡ inputLine d l
         input-not x z = carried q x (withInput d) z ∙ sym input-is
 
+        -- An input that nothing refuses is added, with its letter and its name.
         pub input-given : q ≡ 0 → gives (withInput d c w) ≡ inputLine d l
         input-given z = sym (input-is ∙ ap (λ (r : ℕ). answer r c andThen λ u. gives (withInput d u w)) z)
 
@@ -243,8 +266,10 @@ module _ (text starts ends left : List ℕ) {t : Table} (f : Fit t) (rules : Lis
             ∙ (λ i. signalTag (tags-whole i) (outputs-long f i) (wanted n (nameFound text starts ends t w)) v andThen λ u. gives (withOutput d u w))
             ∙ ap (λ (z : Answer ℕ). z andThen λ u. gives (withOutput d u w)) (sym e))
 
+        -- The refusal of an output's letter, of its name or for want of room is that of the line.
         pub output-not : (x : Draft) → (q ≡ 0 → ⊥) → answer q x ≡ outputLine d l
         output-not x z = carried q x (withOutput d) z ∙ sym output-is
 
+        -- An output that nothing refuses is added, with its letter and its name.
         pub output-given : q ≡ 0 → gives (withOutput d c w) ≡ outputLine d l
         output-given z = sym (output-is ∙ ap (λ (r : ℕ). answer r c andThen λ u. gives (withOutput d u w)) z)

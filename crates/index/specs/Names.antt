@@ -81,6 +81,7 @@ module _ (a : ℕ) where
       go true e ih = ap suc ih
       go false e ih = lower-high (ltb-false _ _ e) k
 
+-- Where sources never fall, a location has as many rules as come directly after those with a lower source.
 pub number-own : (a : ℕ) {b : ℕ} {rs : List Rule} → Rising b rs → number a rs ≡ below (a + 1) (drop (below a rs) rs)
 number-own a {rs = rs} k = omega (arith, lower-next a rs, below-next a rs, own-length a rs, lower-below a k, lower-below (a + 1) k)
 

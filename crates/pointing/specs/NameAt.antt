@@ -1,4 +1,6 @@
 -- Where a name stands in the text: what the entries answer, and the lines that declare counted.
+-- In order: which lines declare, and where the name in one stands; what the entries promise; a line by its first word; the words of a line by where
+-- they were found; the name by these words; the lines from a position on; the answers.
 use mathlib.Core.Path.{_≡_, refl, ap, sym, _∙_}
 use mathlib.Core.Bool.{Bool, true, false, cond, _||_}
 use mathlib.Core.List.{List, [], _∷_}
@@ -30,6 +32,7 @@ abbrev pub nameWord : ℕ → ℕ
 nameWord zero = 2
 nameWord (suc n) = 1
 
+-- The first word of a line; no byte if the line has none.
 abbrev pub firstWord : Line → Word
 firstWord [] = []
 firstWord (w ∷ ws) = w
@@ -48,6 +51,7 @@ standing place (suc n) = record { refusal = 0; line = 0; place = place; length =
 unfoldable pub nameIn : ℕ → ℕ → List ℕ → NameAt
 nameIn kind at l = standing (at + wordPlace (nameWord kind) l) (length (getD (wordsOf l) (nameWord kind) []))
 
+-- The answer a for 0, and for a larger number what `go` gives for one less.
 abbrev pub pick : ℕ → NameAt → (ℕ → NameAt) → NameAt
 pick zero a go = a
 pick (suc i) a go = go i
@@ -58,13 +62,16 @@ namesFrom kind at i [] = record { refusal = 35; line = 0; place = 0; length = 0 
 namesFrom kind at i (l ∷ ls) =
     cond (declares kind (wordsOf l)) (pick i (nameIn kind at l) (λ j. namesFrom kind (at + length l + 1) j ls)) (namesFrom kind (at + length l + 1) i ls)
 
+-- The answer for a text: its refusal with the line if it is refused, else where the name i of the kind stands.
 abbrev pub nameGiven : (kind : ℕ) → List ℕ → ℕ → FromText (List ℕ) → NameAt
 nameGiven kind text i (stops n line) = record { refusal = n; line = line; place = 0; length = 0 }
 nameGiven kind text i (reads f) = namesFrom kind 0 i (split text)
 
+-- What `name_of_signal` (kind 0), `name_of_clock` (1) and `name_of_location` (2) promise.
 abbrev pub NameAtPromise : (kind : ℕ) → List ℕ → ℕ → NameAt → Type 0
 NameAtPromise kind text i r = r ≡ nameGiven kind text i (fileFromText text)
 
+-- One answer alone keeps this promise.
 pub name-at-one : (kind : ℕ) (text : List ℕ) (i : ℕ) (r s : NameAt) → NameAtPromise kind text i r → NameAtPromise kind text i s → r ≡ s
 name-at-one kind text i r s a b = a ∙ sym b
 
@@ -78,6 +85,7 @@ wordBit zero r = eqb r 0 || eqb r 1
 wordBit (suc zero) r = eqb r 2
 wordBit (suc (suc n)) r = eqb r 3
 
+-- A signal is declared by the words 0 and 1 of the language: `input` and `output`.
 pub declares-signal : (kind k : ℕ) → kind ≡ 0 → wordBit kind k ≡ ltb k 2
 declares-signal kind k e = ap (λ (m : ℕ). wordBit m k) e ∙ go k
   where
@@ -86,15 +94,18 @@ declares-signal kind k e = ap (λ (m : ℕ). wordBit m k) e ∙ go k
     go (suc zero) = refl
     go (suc (suc n)) = rw (ne-eqb (suc (suc n)) 0 (λ z. omega arith), ne-eqb (suc (suc n)) 1 (λ z. omega arith), le-ltb (suc (suc n)) 2 (omega arith))
 
+-- A clock is declared by the word 2 of the language: `clock`.
 pub declares-clock : (kind k : ℕ) → kind ≡ 1 → wordBit kind k ≡ eqb k 2
 declares-clock kind k e = ap (λ (m : ℕ). wordBit m k) e
 
+-- A location is declared by the word 3 of the language: `location`.
 pub declares-place : (kind k : ℕ) → (kind ≡ 0 → ⊥) → (kind ≡ 1 → ⊥) → wordBit kind k ≡ eqb k 3
 declares-place zero k a b = absurd (a refl)
 declares-place (suc zero) k a b = absurd (b refl)
 declares-place (suc (suc n)) k a b = refl
 
 module _ {text : List ℕ} {end at a b : ℕ} (n : NextIn text end at a b) (kind : ℕ) where
+  -- A line without a word declares nothing.
   pub declares-none : b ≤ a → 0 ≡ declaresBit kind (wordsOf (part text at (end - at)))
   declares-none h = sym (ap (declaresBit kind) (in-none n h) ∙ go kind)
     where
@@ -103,6 +114,7 @@ module _ {text : List ℕ} {end at a b : ℕ} (n : NextIn text end at a b) (kind
       go (suc zero) = refl
       go (suc (suc k)) = refl
 
+  -- Whether a line declares is seen by the number of its first word.
   pub declares-by : a < b → (r : ℕ) → find 0 (part text a (b - a)) keywords ≡ placeBelow 14 r → {t : Bool} → wordBit kind r ≡ t → cond t 1 0 ≡ declaresBit kind (wordsOf (part text at (end - at)))
   declares-by h r e {t} y =
       let w = part text a (b - a) in
@@ -131,10 +143,12 @@ module _ {text : List ℕ} {end at a b : ℕ} (fits : end ≤ length text) (from
       let t : at + (b - at) ≡ b = omega (arith, n .after, n .order) in
       drop-take (b - at) (end - at) (drop at text) ∙ (λ i. take (s i) (drop (b - at) (drop at text))) ∙ ap (take (end - b)) (drop-drop (b - at) at text ∙ ap (λ (m : ℕ). drop m text) t)
 
+  -- The word 0 begins where the first word was found.
   pub place-first : at + wordPlace 0 (part text at (end - at)) ≡ a
   unfolding wordPlace
   place-first = sym (n .begins)
 
+  -- The word k + 1 begins where the word k of the line's rest behind the first word begins.
   pub place-next : a < b → (k : ℕ) → at + wordPlace (suc k) (part text at (end - at)) ≡ b + wordPlace k (part text b (end - b))
   unfolding wordPlace
   place-next h k =
@@ -143,21 +157,26 @@ module _ {text : List ℕ} {end at a b : ℕ} (fits : end ≤ length text) (from
       let m : at + (b - at + wordPlace k (part text b (end - b))) ≡ b + wordPlace k (part text b (end - b)) = omega arith in
       (λ i. at + (p i + wordPlace k (drop (p i) (part text at (end - at))))) ∙ ap (λ (l : List ℕ). at + (b - at + wordPlace k l)) rest-line ∙ m
 
+  -- The word k + 1 is the word k of the line's rest behind the first word.
   pub words-next : a < b → (k : ℕ) → getD (wordsOf (part text at (end - at))) (suc k) [] ≡ getD (wordsOf (part text b (end - b))) k []
   words-next h k = ap (λ (l : Line). getD l (suc k) []) (in-word n h)
 
+  -- The word 0 is as long as the first word that was found.
   pub word-first : a < b → length (getD (wordsOf (part text at (end - at))) 0 []) ≡ b - a
   word-first h = ap (λ (l : Line). length (getD l 0 [])) (in-word n h) ∙ word-long h
 
+  -- Where no word was found, the line has no word k.
   pub word-lacks : b ≤ a → (k : ℕ) → getD (wordsOf (part text at (end - at))) k [] ≡ []
   word-lacks h k = ap (λ (l : Line). getD l k []) (in-none n h)
 
 -- No name, or one that is there.
 module _ (kind at : ℕ) (l : List ℕ) where
+  -- A line that lacks the word for the name: the place and the length are 0.
   pub name-none : getD (wordsOf l) (nameWord kind) [] ≡ [] → record { refusal = 0; line = 0; place = 0; length = 0 } ≡ nameIn kind at l
   unfolding nameIn
   name-none e = sym (ap (λ (w : Word). standing (at + wordPlace (nameWord kind) l) (length w)) e)
 
+  -- A line that has the word for the name: where that begins, and how long it is.
   pub name-there : {place size : ℕ} → at + wordPlace (nameWord kind) l ≡ place → length (getD (wordsOf l) (nameWord kind) []) ≡ size → 0 < size → record { refusal = 0; line = 0; place = place; length = size } ≡ nameIn kind at l
   unfolding nameIn
   name-there {place} {size} p s h = go size h ∙ (λ i. standing (sym p i) (sym s i))
@@ -171,11 +190,13 @@ module _ {text : List ℕ} {end at a b c d : ℕ} (fits : end ≤ length text) (
   abbrev line : List ℕ
   line = part text at (end - at)
 
+  -- A line of one word has no name.
   pub second-none : (kind : ℕ) → d ≤ c → record { refusal = 0; line = 0; place = 0; length = 0 } ≡ nameIn kind at line
   second-none zero g = name-none zero at line (words-next fits from n h 1 ∙ word-lacks fits (n .within) m g 1)
   second-none (suc k) g = name-none (suc k) at line (words-next fits from n h 0 ∙ word-lacks fits (n .within) m g 0)
 
   module _ (g : c < d) where
+    -- The name of a clock or a location is the second word.
     pub second-there : (kind : ℕ) → (kind ≡ 0 → ⊥) → record { refusal = 0; line = 0; place = c; length = d - c } ≡ nameIn kind at line
     second-there zero z = absurd (z refl)
     second-there (suc k) z =
@@ -186,10 +207,12 @@ module _ {text : List ℕ} {end at a b c d : ℕ} (fits : end ≤ length text) (
       words-two : (k : ℕ) → getD (wordsOf line) (suc (suc k)) [] ≡ getD (wordsOf (part text d (end - d))) k []
       words-two k = words-next fits from n h (suc k) ∙ words-next fits (n .within) m g k
 
+      -- The line of a signal with only two words has no name.
       pub third-none : (kind : ℕ) → kind ≡ 0 → f ≤ e → record { refusal = 0; line = 0; place = 0; length = 0 } ≡ nameIn kind at line
       third-none zero z l = name-none zero at line (words-two 0 ∙ word-lacks fits (m .within) o l 0)
       third-none (suc k) z l = absurd (omega arith)
 
+      -- The name of a signal is the third word.
       pub third-there : (kind : ℕ) → kind ≡ 0 → e < f → record { refusal = 0; line = 0; place = e; length = f - e } ≡ nameIn kind at line
       third-there zero z l =
           name-there zero at line (place-next fits from n h 1 ∙ place-next fits (n .within) m g 0 ∙ place-first fits (m .within) o)
@@ -198,9 +221,11 @@ module _ {text : List ℕ} {end at a b c d : ℕ} (fits : end ≤ length text) (
 
 -- The lines from `at` on.
 module _ (kind : ℕ) (text : List ℕ) where
+  -- The name in the i-th declaring line from `at` on.
   unfoldable pub namesLeft : ℕ → ℕ → NameAt
   namesLeft at i = namesFrom kind at i (split (drop at text))
 
+  -- At the end of the text no line is left: 35.
   pub names-end : (at i : ℕ) → length text ≤ at → record { refusal = 35; line = 0; place = 0; length = 0 } ≡ namesLeft at i
   unfolding namesLeft namesFrom split
   names-end at i h = sym (ap (λ (l : List ℕ). namesFrom kind at i (split l)) (drop-of-length-le text h))
@@ -217,6 +242,7 @@ module _ (kind : ℕ) (text : List ℕ) where
         ap (namesFrom kind at i) (l .lines h)
         ∙ (λ v. cond (declares kind (wordsOf (part text at (end - at)))) (pick i (nameIn kind at (part text at (end - at))) (λ j. namesFrom kind (s v) j (split (drop (end + 1) text)))) (namesFrom kind (s v) i (split (drop (end + 1) text))))
 
+    -- The line declares and none is to be passed first: the name is the one in this line.
     pub name-here : {bit left : ℕ} → bit ≡ declaresBit kind (wordsOf (part text at (end - at))) → left < bit → nameIn kind at (part text at (end - at)) ≡ namesLeft at left
     name-here {bit} {left} b k = sym (here left ∙ go (declares kind (wordsOf (part text at (end - at)))) left b k)
       where
@@ -240,6 +266,7 @@ module _ (kind : ℕ) (text : List ℕ) where
             sym (names-end (end + 1) i past) ∙ names-end next i last
         go (suc n) e = let y : end < length text = omega arith in ap (λ (m : ℕ). namesFrom kind m i (split (drop m text))) (sym (a y))
 
+    -- Else the name is in the lines that follow, with one less to pass if this line declares.
     pub names-on : {bit left : ℕ} (next : ℕ) → (end < length text → next ≡ end + 1) → (length text ≤ end → next ≡ length text) → bit ≡ declaresBit kind (wordsOf (part text at (end - at))) → bit ≤ left → namesLeft at left ≡ namesLeft next (left - bit)
     names-on {bit} {left} next a b c k = here left ∙ go (declares kind (wordsOf (part text at (end - at)))) left c k ∙ same-rest next a b (left - bit)
       where
@@ -252,9 +279,11 @@ module _ (kind : ℕ) (text : List ℕ) where
 
 -- The answers.
 module _ (kind : ℕ) (text : List ℕ) (i : ℕ) where
+  -- For a text that is refused, the answer has its refusal and its line.
   pub name-stops : {n line : ℕ} → fileFromText text ≡ stops n line → NameAtPromise kind text i (record { refusal = n; line = line; place = 0; length = 0 })
   name-stops e = sym (ap (nameGiven kind text i) e)
 
+  -- For a text that is read, the answer is the name found in its lines from the first on.
   pub name-given : {f : List ℕ} → fileFromText text ≡ reads f → {r : NameAt} → r ≡ namesLeft kind text 0 i → NameAtPromise kind text i r
   unfolding namesLeft
   name-given e k = k ∙ sym (ap (nameGiven kind text i) e)

@@ -23,13 +23,16 @@ abbrev pub lineOfRule : List ℕ → ℕ → FromText (List ℕ) → FromText �
 lineOfRule text i (stops n line) = stops n line
 lineOfRule text i (reads f) = cond (ltb i (length (ruleNumbers text))) (reads (getD (ruleNumbers text) i 0)) (stops 35 0)
 
+-- The answer: a refusal with its line, or the line of the rule.
 abbrev pub ruleFound : FromText ℕ → RuleAt
 ruleFound (stops n line) = record { refusal = n; line = line }
 ruleFound (reads line) = record { refusal = 0; line = line }
 
+-- What `line_of_rule` promises.
 abbrev pub RuleAtPromise : List ℕ → ℕ → RuleAt → Type 0
 RuleAtPromise text i r = r ≡ ruleFound (lineOfRule text i (fileFromText text))
 
+-- One answer alone keeps this promise.
 pub rule-at-one : (text : List ℕ) (i : ℕ) (r s : RuleAt) → RuleAtPromise text i r → RuleAtPromise text i s → r ≡ s
 rule-at-one text i r s a b = a ∙ sym b
 
@@ -38,6 +41,7 @@ abbrev pub ruleBit : Line → ℕ
 ruleBit l = cond (isRule l) 1 0
 
 module _ {text : List ℕ} {end at a b : ℕ} (n : NextIn text end at a b) where
+  -- A line without a word is not a rule's.
   pub bit-blank : b ≤ a → 0 ≡ ruleBit (wordsOf (part text at (end - at)))
   unfolding isRule
   bit-blank h = sym (ap ruleBit (in-none n h))
@@ -50,6 +54,7 @@ module _ {text : List ℕ} {end at a b : ℕ} (n : NextIn text end at a b) where
         let k : (n : ℕ) → n < 14 → same w (getD keywords n []) ≡ eqb r n = keyword-is w r e in
         ap isRule (in-word n h) ∙ rw (k 0 (omega arith), k 1 (omega arith), k 2 (omega arith), k 3 (omega arith), k 4 (omega arith))
 
+    -- A line that begins with `input`, `output`, `clock`, `location` or `at` is not a rule's.
     pub bit-declared : r < 5 → 0 ≡ ruleBit (wordsOf (part text at (end - at)))
     bit-declared l = sym (ap (λ (t : Bool). cond t 1 0) (by-word ∙ go r l))
       where
@@ -61,6 +66,7 @@ module _ {text : List ℕ} {end at a b : ℕ} (n : NextIn text end at a b) where
         go (suc (suc (suc (suc zero)))) u = refl
         go (suc (suc (suc (suc (suc k))))) u = absurd (omega arith)
 
+    -- A line that begins with any other word is a rule's.
     pub bit-rule : 5 ≤ r → 1 ≡ ruleBit (wordsOf (part text at (end - at)))
     bit-rule l =
         let yes : not (eqb r 0 || (eqb r 1 || (eqb r 2 || (eqb r 3 || eqb r 4)))) ≡ true = rw (ne-eqb r 0 (λ z. omega arith), ne-eqb r 1 (λ z. omega arith), ne-eqb r 2 (λ z. omega arith), ne-eqb r 3 (λ z. omega arith), ne-eqb r 4 (λ z. omega arith)) in
@@ -68,9 +74,11 @@ module _ {text : List ℕ} {end at a b : ℕ} (n : NextIn text end at a b) where
 
 -- The rule lines from `at` on, after `passed` lines.
 module _ (text : List ℕ) where
+  -- The numbers of the rule lines from `at` on, where `passed` lines stand before.
   unfoldable pub rulesLeft : ℕ → ℕ → List ℕ
   rulesLeft passed at = rulesAmong (suc passed) (linesOf (drop at text))
 
+  -- At the end of the text no rule line is left.
   pub left-none : (passed at : ℕ) → length text ≤ at → rulesLeft passed at ≡ []
   unfolding rulesLeft rulesAmong linesOf split
   left-none passed at h = ap (λ (l : List ℕ). rulesAmong (suc passed) (linesOf l)) (drop-of-length-le text h)
@@ -80,7 +88,7 @@ module _ (text : List ℕ) where
     unfolding rulesLeft rulesAmong linesOf
     left-step = ap (λ (ls : List (List ℕ)). rulesAmong (suc passed) (eachWords ls)) (l .lines h) ∙ ap (λ (z : List ℕ). cond (isRule (wordsOf (part text at (end - at)))) (suc passed ∷ rulesAmong (suc (suc passed)) (linesOf z)) (rulesAmong (suc (suc passed)) (linesOf z))) e
 
-    -- It is this line, or another.
+    -- The rule that is asked for is the one of this line.
     pub left-here : {bit left : ℕ} → bit ≡ ruleBit (wordsOf (part text at (end - at))) → left < bit → getD (rulesLeft passed at) left 0 ≡ passed + 1
     left-here {bit} {left} b k = rw left-step (go (isRule (wordsOf (part text at (end - at)))) left (b) k)
       where
@@ -89,6 +97,7 @@ module _ (text : List ℕ) where
         go true (suc m) c u = absurd (omega arith)
         go false m c u = absurd (omega arith)
 
+    -- Another line: the rule is in those that follow, with one less to pass if this line is a rule's.
     pub left-on : {bit left : ℕ} → bit ≡ ruleBit (wordsOf (part text at (end - at))) → bit ≤ left → getD (rulesLeft passed at) left 0 ≡ getD (rulesLeft (passed + 1) next) (left - bit) 0
     left-on {bit} {left} b k =
         let s : suc passed ≡ passed + 1 = omega arith in
@@ -115,6 +124,7 @@ positive line (l ∷ ls) i h = go (isRule l) i (λ m. positive (suc line) ls m (
 
 -- The answers.
 module _ (text : List ℕ) (i : ℕ) where
+  -- For a text that is refused, the answer has its refusal and its line.
   pub rule-stops : {n line : ℕ} → fileFromText text ≡ stops n line → RuleAtPromise text i (record { refusal = n; line = line })
   rule-stops e = sym (ap (λ (x : FromText (List ℕ)). ruleFound (lineOfRule text i x)) e)
 
@@ -122,6 +132,7 @@ module _ (text : List ℕ) (i : ℕ) where
     found : (t : Bool) → ltb i (length (ruleNumbers text)) ≡ t → ruleFound (lineOfRule text i (fileFromText text)) ≡ ruleFound (cond t (reads (getD (ruleNumbers text) i 0)) (stops 35 0))
     found t h = ap (λ (x : FromText (List ℕ)). ruleFound (lineOfRule text i x)) e ∙ ap (λ (z : Bool). ruleFound (cond z (reads (getD (ruleNumbers text) i 0)) (stops 35 0))) h
 
+    -- For a text that is read, where the search gives 0, the answer is 35.
     pub rule-none : line ≡ 0 → RuleAtPromise text i (record { refusal = 35; line = 0 })
     rule-none z = go (length (ruleNumbers text) - i) refl
       where
@@ -129,6 +140,7 @@ module _ (text : List ℕ) (i : ℕ) where
         go zero y = sym (found false (le-ltb i (length (ruleNumbers text)) (omega arith)))
         go (suc n) y = absurd (omega (arith, positive 1 (linesOf text) i (omega arith) .0 (omega arith)))
 
+    -- For a text that is read, the line that the search gives is the answer, unless it is 0.
     pub rule-there : (line ≡ 0 → ⊥) → RuleAtPromise text i (record { refusal = 0; line = line })
     rule-there z = go (length (ruleNumbers text) - i) refl
       where

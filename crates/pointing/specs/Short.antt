@@ -116,6 +116,7 @@ module _ (kind : ℕ) where
       go true (gives next) (suc j) k h rest = rest j next h
       go false (gives next) j k h rest = rest j next h
 
+  -- Every answer for a name is of this shape: the name has at most 16 bytes, and the refusal is at most 35.
   pub given-shaped : (text : List ℕ) (i : ℕ) → Shaped (nameGiven kind text i (fileFromText text))
   unfolding linesOf
   given-shaped text i = go (fileFromText text) refl

@@ -84,6 +84,7 @@ pub next-rule : (clocks : ℕ) (f : List ℕ) (at n i : ℕ) → i < n →
 unfolding rulesFrom
 next-rule clocks f at n i h = let e : n - i ≡ suc (n - (i + 1)) = omega arith in rw e
 
+-- From the number n on there is no rule.
 pub no-rule : (clocks : ℕ) (f : List ℕ) (at n i : ℕ) → n ≤ i → rulesFrom clocks f at (n - i) ≡ []
 unfolding rulesFrom
 no-rule clocks f at n i h = let e : n - i ≡ 0 = omega arith in rw e

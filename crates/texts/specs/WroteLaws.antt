@@ -8,7 +8,7 @@ use lib.ListN.{length, take, drop, set, length-append, length-take}
 use lib.Seq.{sets-eq, paste-zero, take-at, drop-at, drop-drop}
 use Rattle.texts.specs.Wrote.{Wrote}
 
--- Nothing; one byte.
+-- Nothing is written.
 pub wrote-none : (before : List ℕ) (at : ℕ) → Wrote before at [] at before
 wrote-none before at = record { text = paste-zero before at []; next = sym (add-zero at) }
 
