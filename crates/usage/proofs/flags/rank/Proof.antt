@@ -26,7 +26,7 @@ loop-holds c = (omega arith, refl, omega arith)
 add-r : tie.Need-add-r Inv-loop μ-loop
 add-r c =
     let i = c .before .before in
-    omega (arith, i .before .loop .inv, i .loop-test .taken, i .before .before .before .pre .1, c .one .ensures, bit-le (eqb (getD (now (i .before .before .before .args .flags)) (i .before .loop .i) 0) 1))
+    omega (arith, bit-le (eqb (getD (now (i .before .before .before .args .flags)) (i .before .loop .i) 0) 1))
 
 loop-again : tie.Need-loop-again Inv-loop μ-loop
 loop-again c =
@@ -34,17 +34,17 @@ loop-again c =
     let l = i .before .loop in
     let a = i .before .before .before .args in
     let b = bit-le (eqb (getD (now (a .flags)) (l .i) 0) 1) in (
-      omega (arith, i .loop-test .taken),
-      sym (rank-next (flagsOf (now (a .flags))) (l .i) (omega (arith, flags-long (now (a .flags)), i .before .before .before .pre .0, i .loop-test .taken)) ∙ ap₂ _+_ (sym (l .inv .1)) (ap bit (flags-byte (now (a .flags)) (l .i)) ∙ sym (c .one .ensures))),
-      omega (arith, l .inv .2, c .one .ensures),
+      omega arith,
+      sym (rank-next (flagsOf (now (a .flags))) (l .i) (omega (arith, flags-long (now (a .flags)))) ∙ ap₂ _+_ (sym (l .inv .1)) (ap bit (flags-byte (now (a .flags)) (l .i)) ∙ sym (c .one .ensures))),
+      omega arith,
     )
 
 returns : tie.Need-returns Inv-loop μ-loop
 returns c =
     let l = c .before .loop in
     let a = c .before .before .before .args in
-    let e : l .i ≡ a .n = omega (arith, l .inv .0, c .loop-test .left) in
-    (l .inv .1 ∙ ap (rank (flagsOf (now (a .flags)))) e, omega (arith, l .inv .2))
+    let e : l .i ≡ a .n = omega arith in
+    (l .inv .1 ∙ ap (rank (flagsOf (now (a .flags)))) e, omega arith)
 
 pub rank-spec : {M : Type 1} → statement M
 rank-spec =

@@ -15,13 +15,13 @@ use Rattle.usage.proofs.flags.renumber.Tie as tie
 returns : tie.Need-returns
 returns c =
     let a = c .before .before .args in
-    (sym (ap (λ (b : Bool). cond b 255 (rank (flagsOf (now (a .entered))) (a .target))) (eq-eqb (a .target) 255 (c .if1 .taken))), omega (arith, c .if1 .taken))
+    (sym (ap (λ (b : Bool). cond b 255 (rank (flagsOf (now (a .entered))) (a .target))) (eq-eqb (a .target) 255 (c .if1 .taken))), omega arith)
 
 rank-requires : tie.Need-rank-requires
 rank-requires c κs =
     let s = c .before .before in
     let l : s .args .target < length (now (s .args .entered)) = ⊎-elim (λ h. h) (λ e. absurd (c .if1 .left e)) (s .pre .0) in
-    (omega arith, omega (arith, s .pre .1))
+    (omega arith, omega arith)
 
 returns-2 : tie.Need-returns-2
 returns-2 c =
