@@ -61,7 +61,7 @@ put-asks-requires c κs =
         subst (λ (z : List ℕ). byteAt z 2 ≤ byteAt z 1) r (rule-cares k i h .0),
         subst (λ (z : List ℕ). byteAt z 4 ≤ byteAt z 3) r (rule-cares k i h .1),
       ),
-      omega (arith, s .pre .1, ap length (asks-taken k i h)),
+      omega (arith, ap length (asks-taken k i h)),
     )
 
 returns : tie.Need-returns

@@ -17,13 +17,7 @@ put-about-requires c κs =
     let h = i .before .before .before in
     let s = h .before .before .before .before .before .before in
     let a = s .args in
-    omega (
-      arith,
-      s .pre,
-      h .put-bytes .ensures .next,
-      h .put-bytes .kept .0,
-      ap length (most-one (now (a .one)) (now (a .more)) (a .k) (i .if1 .taken)) ∙ three-length (ascii "after it at most ") (decimal (a .k)) (now (a .one)),
-    )
+    omega (arith, ap length (most-one (now (a .one)) (now (a .more)) (a .k) (i .if1 .taken)) ∙ three-length (ascii "after it at most ") (decimal (a .k)) (now (a .one)))
 
 returns : tie.Need-returns
 returns c =
@@ -31,7 +25,7 @@ returns c =
     let i = e .before .before .before in
     let h = i .before .before .before in
     let s = h .before .before .before .before .before .before in
-    rw (most-one (now (s .args .one)) (now (s .args .more)) (s .args .k) (i .if1 .taken)) (wrote-then (omega (arith, s .pre)) (h .put-bytes .ensures) (e .put-about .ensures))
+    rw (most-one (now (s .args .one)) (now (s .args .more)) (s .args .k) (i .if1 .taken)) (wrote-then (omega arith) (h .put-bytes .ensures) (e .put-about .ensures))
 
 put-about-requires-2 : tie.Need-put-about-requires-2
 put-about-requires-2 c κs =
@@ -39,13 +33,7 @@ put-about-requires-2 c κs =
     let h = i .before .before .before in
     let s = h .before .before .before .before .before .before in
     let a = s .args in
-    omega (
-      arith,
-      s .pre,
-      h .put-bytes .ensures .next,
-      h .put-bytes .kept .0,
-      ap length (most-more (now (a .one)) (now (a .more)) (a .k) (i .if1 .left)) ∙ three-length (ascii "after it at most ") (decimal (a .k)) (now (a .more)),
-    )
+    omega (arith, ap length (most-more (now (a .one)) (now (a .more)) (a .k) (i .if1 .left)) ∙ three-length (ascii "after it at most ") (decimal (a .k)) (now (a .more)))
 
 returns-2 : tie.Need-returns-2
 returns-2 c =
@@ -53,7 +41,7 @@ returns-2 c =
     let i = e .before .before .before in
     let h = i .before .before .before in
     let s = h .before .before .before .before .before .before in
-    rw (most-more (now (s .args .one)) (now (s .args .more)) (s .args .k) (i .if1 .left)) (wrote-then (omega (arith, s .pre)) (h .put-bytes .ensures) (e .put-about2 .ensures))
+    rw (most-more (now (s .args .one)) (now (s .args .more)) (s .args .k) (i .if1 .left)) (wrote-then (omega arith) (h .put-bytes .ensures) (e .put-about2 .ensures))
 
 pub put-most-spec : {M : Type 1} → statement M
 put-most-spec =

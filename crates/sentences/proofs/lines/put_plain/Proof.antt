@@ -8,7 +8,7 @@ use Rattle.sentences.proofs.lines.put_plain.Tie as tie
 returns : tie.Need-returns
 returns c =
     let h = c .before .before .before .before .before .before in
-    wrote-then (omega (arith, h .before .before .before .before .before .pre)) (h .put-bytes .ensures) (c .before .before .put-bytes2 .ensures)
+    wrote-then (omega arith) (h .put-bytes .ensures) (c .before .before .put-bytes2 .ensures)
 
 pub put-plain-spec : {M : Type 1} → statement M
 put-plain-spec = tie.close (tie.spec (λ c κs. search needs) (λ c κs. search needs) (λ c. search needs) returns)

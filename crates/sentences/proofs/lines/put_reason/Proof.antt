@@ -26,7 +26,7 @@ line s q = reasonLine (policyOf (s .args .layout .reading) (now (s .args .file))
 room : (s : tie.Start) {q : Reason} → s .args .reason ≡ q → s .args .at + length (line s q) ≤ length (now (s .args .text))
 room s e =
     subst (λ (z : Reason). s .args .at + length (line s z) ≤ length (now (s .args .text))) e
-    (omega (arith, s .pre .1, line-short (s .pre .0 .0) (now (s .args .broken)) (now (s .args .half)) (reasonSaid (s .args .reason)) (s .pre .0 .1) (s .pre .0 .2) (s .pre .1 .0)))
+    (omega (arith, line-short (s .pre .0 .0) (now (s .args .broken)) (now (s .args .half)) (reasonSaid (s .args .reason)) (s .pre .0 .1) (s .pre .0 .2) (s .pre .1 .0)))
 
 put-rule-requires : tie.Need-put-rule-requires
 put-rule-requires c κs =
@@ -36,11 +36,6 @@ put-rule-requires c κs =
       (s .pre .0 .0, subst (λ (z : Reason). Named (ruleCount (now (a .file))) (reasonSaid z)) (k .1) (s .pre .0 .1)),
       omega (arith, room s (k .1), length-append (now (a .broken)) (ruleWords (policyOf (a .layout .reading) (now (a .file))) (k .0 .0))),
     )
-
-put-plain-requires : tie.Need-put-plain-requires
-put-plain-requires c κs =
-    let s = c .before .before .before .before .before .before .before .before in
-    omega (arith, s .pre .1)
 
 put-most-requires : tie.Need-put-most-requires
 put-most-requires c κs =
@@ -76,6 +71,6 @@ pub put-reason-spec : {M : Type 1} → statement M
 put-reason-spec =
     tie.close
     (tie.spec
-    (λ c. search needs) (λ c. search needs) put-rule-requires (λ c. search needs) (λ c. search needs) put-plain-requires (λ c. search needs)
+    (λ c. search needs) (λ c. search needs) put-rule-requires (λ c. search needs) (λ c. search needs) (λ c κs. omega arith) (λ c. search needs)
     (λ c. search needs) (λ c. search needs) put-most-requires (λ c. search needs) put-rests-requires returns (λ c. search needs) returns-2
     (λ c. search needs) returns-3 (λ c. search needs) returns-4 (λ c. search needs) returns-5)

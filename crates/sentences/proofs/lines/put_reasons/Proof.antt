@@ -21,7 +21,7 @@ brokenInput = ascii "input: no output will do; with none on, "
 put-reason-requires : tie.Need-put-reason-requires
 put-reason-requires c κs =
     let s = c .before .before .before .before .before in
-    ((s .pre .0 .0, s .pre .1 .0 .0, s .pre .1 .0 .1), (omega arith, omega (arith, s .pre .0 .1)))
+    ((s .pre .0 .0, s .pre .1 .0 .0, s .pre .1 .0 .1), (omega arith, omega arith))
 
 -- The line of the input is short, and so is that of the output.
 input-short : (s : tie.Start) → length (inputLine (policyOf (s .args .layout .reading) (now (s .args .file))) (reasonSaid (s .args .told .input))) ≤ 192
@@ -34,7 +34,7 @@ put-reason-requires-2 : tie.Need-put-reason-requires-2
 put-reason-requires-2 c κs =
     let p = c .before .before .before .before .before in
     let s = p .before .before .before .before .before .before in
-    ((s .pre .0 .0, s .pre .1 .1 .0, s .pre .1 .1 .1), (omega arith, omega (arith, s .pre .0 .1, input-short s, p .put-reason .ensures .next, p .put-reason .kept .0)))
+    ((s .pre .0 .0, s .pre .1 .1 .0, s .pre .1 .1 .1), (omega arith, omega (arith, input-short s)))
 
 returns : tie.Need-returns
 unfolding reasonLines
@@ -42,8 +42,8 @@ returns c =
     let q = c .before .before in
     let p = q .before .before .before .before .before .before in
     let s = p .before .before .before .before .before .before in (
-      wrote-then (omega (arith, s .pre .0 .1)) (p .put-reason .ensures) (q .put-reason2 .ensures),
-      omega (arith, input-short s, output-short s, p .put-reason .ensures .next, q .put-reason2 .ensures .next),
+      wrote-then (omega arith) (p .put-reason .ensures) (q .put-reason2 .ensures),
+      omega (arith, input-short s, output-short s),
     )
 
 pub put-reasons-spec : {M : Type 1} → statement M

@@ -11,7 +11,7 @@ put-plain-requires : tie.Need-put-plain-requires
 put-plain-requires c κs =
     let i = c .before .before in
     let s = i .before .before .before in
-    omega (arith, s .pre, ap length (rests-none (s .args .k) (i .if1 .taken)))
+    omega (arith, ap length (rests-none (s .args .k) (i .if1 .taken)))
 
 returns : tie.Need-returns
 returns c =
@@ -24,7 +24,7 @@ put-most-requires : tie.Need-put-most-requires
 put-most-requires c κs =
     let i = c .before .before .before in
     let s = i .before .before .before in
-    omega (arith, s .pre, ap length (rests-some (s .args .k) (i .if1 .left)))
+    omega (arith, ap length (rests-some (s .args .k) (i .if1 .left)))
 
 returns-2 : tie.Need-returns-2
 returns-2 c =

@@ -10,15 +10,12 @@ use Rattle.sentences.specs.Text.{ruleWords, rule-length}
 use Rattle.sentences.proofs.lines.put_rule.Statement.{statement}
 use Rattle.sentences.proofs.lines.put_rule.Tie as tie
 
-put-bytes-requires : tie.Need-put-bytes-requires
-put-bytes-requires c κs = omega (arith, c .before .before .before .before .pre .1)
-
 put-about-requires : tie.Need-put-about-requires
 put-about-requires c κs =
     let h = c .before .before .before .before .before in
     let s = h .before .before .before .before .before in
     let a = s .args in
-    omega (arith, s .pre .1, rule-length (policyOf (a .layout .reading) (now (a .file))) (a .i), h .put-bytes .ensures .next, h .put-bytes .kept .0)
+    omega (arith, rule-length (policyOf (a .layout .reading) (now (a .file))) (a .i))
 
 put-asked-requires : tie.Need-put-asked-requires
 put-asked-requires c κs =
@@ -27,16 +24,7 @@ put-asked-requires c κs =
     let s = h .before .before .before .before .before in
     let a = s .args in (
       s .pre .0,
-      omega (
-        arith,
-        s .pre .1,
-        rule-length (policyOf (a .layout .reading) (now (a .file))) (a .i),
-        h .put-bytes .ensures .next,
-        h .put-bytes .kept .0,
-        n .put-about .ensures .next,
-        n .put-about .kept .0,
-        three-length (ascii "rule ") (decimal (a .i)) (ascii " forbids it: "),
-      ),
+      omega (arith, rule-length (policyOf (a .layout .reading) (now (a .file))) (a .i), three-length (ascii "rule ") (decimal (a .i)) (ascii " forbids it: ")),
     )
 
 put-bytes-requires-2 : tie.Need-put-bytes-requires-2
@@ -46,18 +34,7 @@ put-bytes-requires-2 c κs =
     let h = n .before .before .before .before .before .before in
     let s = h .before .before .before .before .before in
     let a = s .args in
-    omega (
-      arith,
-      s .pre .1,
-      rule-length (policyOf (a .layout .reading) (now (a .file))) (a .i),
-      h .put-bytes .ensures .next,
-      h .put-bytes .kept .0,
-      n .put-about .ensures .next,
-      n .put-about .kept .0,
-      q .put-asked .ensures .next,
-      q .put-asked .kept .0,
-      three-length (ascii "rule ") (decimal (a .i)) (ascii " forbids it: "),
-    )
+    omega (arith, rule-length (policyOf (a .layout .reading) (now (a .file))) (a .i), three-length (ascii "rule ") (decimal (a .i)) (ascii " forbids it: "))
 
 returns : tie.Need-returns
 unfolding ruleWords
@@ -66,14 +43,13 @@ returns c =
     let q = e .before .before .before .before .before in
     let n = q .before .before .before .before in
     let h = n .before .before .before .before .before .before in
-    let s = h .before .before .before .before .before in
-    let two = wrote-then (omega (arith, s .pre .1, h .put-bytes .ensures .next, h .put-bytes .kept .0)) (n .put-about .ensures) (q .put-asked .ensures) in
-    let three = wrote-then (omega (arith, s .pre .1, h .put-bytes .ensures .next, h .put-bytes .kept .0)) two (e .put-bytes2 .ensures) in
-    wrote-then (omega (arith, s .pre .1)) (h .put-bytes .ensures) three
+    let two = wrote-then (omega arith) (n .put-about .ensures) (q .put-asked .ensures) in
+    let three = wrote-then (omega arith) two (e .put-bytes2 .ensures) in
+    wrote-then (omega arith) (h .put-bytes .ensures) three
 
 pub put-rule-spec : {M : Type 1} → statement M
 put-rule-spec =
     tie.close
     (tie.spec
-    put-bytes-requires (λ c. search needs) (λ c. search needs) put-about-requires put-asked-requires (λ c. search needs) put-bytes-requires-2
+    (λ c κs. omega arith) (λ c. search needs) (λ c. search needs) put-about-requires put-asked-requires (λ c. search needs) put-bytes-requires-2
     (λ c. search needs) returns)
