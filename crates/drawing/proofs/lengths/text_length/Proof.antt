@@ -17,7 +17,7 @@ returns-2 : tie.Need-returns-2
 returns-2 c =
     let i = c .before .before in
     let s = i .before .before .before .before in
-    omega (arith, opening-long (now (s .args .inputs)) (now (s .args .outputs)), text-long (now (s .args .inputs)) (now (s .args .outputs)) (now (s .args .events)) (omega (arith, i .if1 .left)))
+    omega (arith, opening-long (now (s .args .inputs)) (now (s .args .outputs)), text-long (now (s .args .inputs)) (now (s .args .outputs)) (now (s .args .events)) (omega arith))
 
 pub text-length-spec : {M : Type 1} → statement M
 text-length-spec =

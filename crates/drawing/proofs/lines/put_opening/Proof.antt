@@ -15,14 +15,14 @@ put-vars-requires : tie.Need-put-vars-requires
 put-vars-requires c κs =
     let p = c .before .before .before in
     let a = p .before .before .before .before .before .before .args in
-    omega (arith, opening-length (now (a .inputs)) (now (a .outputs)), p .put-bytes)
+    omega (arith, opening-length (now (a .inputs)) (now (a .outputs)))
 
 put-vars-requires-2 : tie.Need-put-vars-requires-2
 put-vars-requires-2 c κs =
     let q = c .before .before .before in
     let p = q .before .before .before .before in
     let a = p .before .before .before .before .before .before .args in
-    omega (arith, opening-length (now (a .inputs)) (now (a .outputs)), p .put-bytes, q .put-vars)
+    omega (arith, opening-length (now (a .inputs)) (now (a .outputs)))
 
 put-bytes-requires-2 : tie.Need-put-bytes-requires-2
 put-bytes-requires-2 c κs =
@@ -30,7 +30,7 @@ put-bytes-requires-2 c κs =
     let q = o .before .before .before .before in
     let p = q .before .before .before .before in
     let a = p .before .before .before .before .before .before .args in
-    omega (arith, opening-length (now (a .inputs)) (now (a .outputs)), p .put-bytes, q .put-vars, o .put-vars2)
+    omega (arith, opening-length (now (a .inputs)) (now (a .outputs)))
 
 put-time-requires : tie.Need-put-time-requires
 put-time-requires c κs =
@@ -39,7 +39,7 @@ put-time-requires c κs =
     let q = o .before .before .before .before in
     let p = q .before .before .before .before in
     let a = p .before .before .before .before .before .before .args in
-    omega (arith, opening-length (now (a .inputs)) (now (a .outputs)), p .put-bytes, q .put-vars, o .put-vars2, e .put-bytes2)
+    omega (arith, opening-length (now (a .inputs)) (now (a .outputs)))
 
 returns : tie.Need-returns
 unfolding header

@@ -13,13 +13,13 @@ put-bytes-requires c κs = omega (arith, time-length (c .before .before .before 
 put-decimal-requires : tie.Need-put-decimal-requires
 put-decimal-requires c κs =
     let p = c .before .before .before in
-    omega (arith, time-length (p .before .before .before .before .args .time), p .put-bytes .ensures .next, p .put-bytes .kept .0)
+    omega (arith, time-length (p .before .before .before .before .args .time))
 
 put-bytes-requires-2 : tie.Need-put-bytes-requires-2
 put-bytes-requires-2 c κs =
     let d = c .before .before .before .before in
     let p = d .before .before .before .before in
-    omega (arith, time-length (p .before .before .before .before .args .time), p .put-bytes .ensures .next, p .put-bytes .kept .0, d .put-decimal .ensures .next, d .put-decimal .kept .0)
+    omega (arith, time-length (p .before .before .before .before .args .time))
 
 returns : tie.Need-returns
 unfolding timeLine

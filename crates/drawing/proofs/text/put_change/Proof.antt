@@ -22,7 +22,7 @@ put-event-requires c κs =
     let p = c .before .before .before in
     let i = p .before .before in
     let a = i .before .before .before .before .args in
-    omega (arith, change-long (now (a .inputs)) (now (a .outputs)) (a .time) (a .shown) (a .event) (i .if1 .left), p .put-time .ensures .next, p .put-time .kept .0)
+    omega (arith, change-long (now (a .inputs)) (now (a .outputs)) (a .time) (a .shown) (a .event) (i .if1 .left))
 
 returns-2 : tie.Need-returns-2
 returns-2 c =

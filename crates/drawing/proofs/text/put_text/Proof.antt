@@ -19,27 +19,24 @@ returns c =
 
 put-event-requires : tie.Need-put-event-requires
 put-event-requires c κs =
-    let i = c .before .before in
-    let p = i .before .before .before in
-    let s = p .before .before .before .before .before .before in
-    omega (arith, text-long (now (s .args .inputs)) (now (s .args .outputs)) (now (s .args .events)) (omega (arith, i .if1 .left)), event-same (now (s .args .inputs)) (now (s .args .outputs)) 255 (getD (now (s .args .events)) 0 0), p .put-opening .ensures .next, p .put-opening .kept .0)
+    let p = c .before .before .before .before .before in
+    let a = p .before .before .before .before .before .before .args in
+    omega (
+      arith,
+      text-long (now (a .inputs)) (now (a .outputs)) (now (a .events)) (omega arith),
+      event-same (now (a .inputs)) (now (a .outputs)) 255 (getD (now (a .events)) 0 0),
+    )
 
 put-later-requires : tie.Need-put-later-requires
 put-later-requires c κs =
-    let q = c .before .before .before in
-    let i = q .before .before .before in
-    let p = i .before .before .before in
-    let s = p .before .before .before .before .before .before in (
+    let p = c .before .before .before .before .before .before .before .before .before in
+    let a = p .before .before .before .before .before .before .args in (
       omega (
         arith,
-        text-long (now (s .args .inputs)) (now (s .args .outputs)) (now (s .args .events)) (omega (arith, i .if1 .left)),
-        event-same (now (s .args .inputs)) (now (s .args .outputs)) 255 (getD (now (s .args .events)) 0 0),
-        p .put-opening .ensures .next,
-        p .put-opening .kept .0,
-        q .put-event .ensures .next,
-        q .put-event .kept .0,
+        text-long (now (a .inputs)) (now (a .outputs)) (now (a .events)) (omega arith),
+        event-same (now (a .inputs)) (now (a .outputs)) 255 (getD (now (a .events)) 0 0),
       ),
-      omega (arith, i .if1 .left),
+      omega arith,
     )
 
 returns-2 : tie.Need-returns-2
@@ -49,7 +46,7 @@ returns-2 c =
     let p = i .before .before .before in
     let s = p .before .before .before .before .before .before in
     let l = text-least (now (s .args .inputs)) (now (s .args .outputs)) (now (s .args .events)) in
-    rw (text-parts (now (s .args .inputs)) (now (s .args .outputs)) (now (s .args .events)) (omega (arith, i .if1 .left)))
+    rw (text-parts (now (s .args .inputs)) (now (s .args .outputs)) (now (s .args .events)) (omega arith))
     (wrote-then (omega arith) (wrote-then (omega arith) (p .put-opening .ensures) (q .put-event .ensures)) (c .before .before .put-later .ensures))
 
 pub put-text-spec : {M : Type 1} → statement M
