@@ -10,7 +10,7 @@ use Rattle.leading.proofs.lead.held.Tie as tie
 bounds-hold-requires : tie.Need-bounds-hold-requires
 bounds-hold-requires c κs =
     let s = c .before .before in
-    omega (arith, laid-limits (s .pre .0), s .pre .2 .ends, s .pre .2 .short)
+    omega (arith, laid-limits (s .pre .0))
 
 returns : tie.Need-returns
 returns c =

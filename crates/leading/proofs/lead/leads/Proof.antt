@@ -8,7 +8,7 @@ next-of-requires : tie.Need-next-of-requires
 next-of-requires c κs = let s = c .before .before in (s .pre .0 .laid, s .pre .0 .inside, s .pre .1)
 
 is-marked-requires : tie.Need-is-marked-requires
-is-marked-requires c κs = λ q. let s = c .before .before .before in omega (arith, c .next-of .ensures .below q, s .pre .0 .enough)
+is-marked-requires c κs = λ q. omega (arith, c .next-of .ensures .below q)
 
 returns : tie.Need-returns
 returns c = c .is-marked .ensures ∙ sym (c .before .next-of .ensures .mark _)
