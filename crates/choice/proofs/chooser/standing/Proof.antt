@@ -19,7 +19,7 @@ mul-all : tie.Need-mul-all Inv-loop μ-loop
 mul-all c = omega (arith, filled-fits (c .before .loop .inv .1) (c .loop-test .taken))
 
 add-all : tie.Need-add-all Inv-loop μ-loop
-add-all c = omega (arith, filled-fits (c .before .before .loop .inv .1) (c .before .loop-test .taken), c .some .ensures .0)
+add-all c = omega (arith, filled-fits (c .before .before .loop .inv .1) (c .before .loop-test .taken))
 
 loop-again : tie.Need-loop-again Inv-loop μ-loop
 loop-again c = (omega arith, filled-more (c .before .before .loop .inv .1) (c .before .loop-test .taken) (c .before .before .loop .inv .0) (c .some .ensures))

@@ -43,7 +43,7 @@ loop-less : tie.Need-loop-less Inv-loop μ-loop
 loop-less c =
     let l = c .before .before .before .before .before .before in
     let u : l .loop .x < 16 = omega arith in
-    omega (arith, c .after .ensures, after-up _ _ (l .before .pre .1) u (l .loop .inv .0 .here))
+    omega (arith, after-up _ _ (l .before .pre .1) u (l .loop .inv .0 .here))
 
 loop-again : tie.Need-loop-again Inv-loop μ-loop
 loop-again c =
@@ -56,9 +56,9 @@ loop-again c =
     let v = l .loop .inv .1 in
     rw (c .after .ensures) (
       walked-more _ _ _ _ _ (rest-still (a .care) (a .value) (a .set) (now (a .left))) (s .pre .1) (s .pre .0) (i .loop-test .taken)
-          (omega (arith, w .changed .size, s .pre .3)) (rw (walked-now _ _ _ _ _ w, eq-eqb _ _ (w .here)) refl) w,
+          (omega arith) (rw (walked-now _ _ _ _ _ w, eq-eqb _ _ (w .here)) refl) w,
       walked-more _ _ _ _ _ (still (a .care) (a .value) (a .led) (now (a .left)) (now (a .found))) (s .pre .1) (s .pre .0) (i .loop-test .taken)
-          (omega (arith, v .changed .size, s .pre .4)) (rw (walked-now _ _ _ _ _ v, walked-now _ _ _ _ _ w, eq-eqb _ _ (w .here)) refl) v,
+          (omega arith) (rw (walked-now _ _ _ _ _ v, walked-now _ _ _ _ _ w, eq-eqb _ _ (w .here)) refl) v,
     )
 
 returns : tie.Need-returns Inv-loop μ-loop

@@ -26,7 +26,7 @@ loop-less : tie.Need-loop-less Inv-loop μ-loop
 loop-less c =
     let l = c .before .before .before .before in
     let u : l .loop .x < 16 = omega arith in
-    omega (arith, c .after .ensures, after-up _ _ (l .before .pre .1) u (l .loop .inv .here))
+    omega (arith, after-up _ _ (l .before .pre .1) u (l .loop .inv .here))
 
 loop-again : tie.Need-loop-again Inv-loop μ-loop
 loop-again c =

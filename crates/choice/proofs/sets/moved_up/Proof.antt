@@ -9,7 +9,7 @@ use Rattle.choice.proofs.sets.moved_up.Tie as tie
 
 -- The shift is by less than sixteen.
 low : (s : tie.Start) → bitAnd (s .args .value) (s .args .care) < 16
-low s = omega (arith, and-le-r (s .args .value) (s .args .care), s .pre .1)
+low s = omega (arith, and-le-r (s .args .value) (s .args .care))
 
 cast-result : tie.Need-cast-result
 cast-result c = record { fits = omega (arith, low (c .before)) }

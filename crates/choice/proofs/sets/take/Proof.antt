@@ -25,7 +25,7 @@ loop-less : tie.Need-loop-less Inv-loop μ-loop
 loop-less c =
     let l = c .before .before .before .before in
     let u : l .loop .x < 16 = omega arith in
-    omega (arith, c .after .ensures, after-up _ _ (l .before .pre .1) u (l .loop .inv .here))
+    omega (arith, after-up _ _ (l .before .pre .1) u (l .loop .inv .here))
 
 loop-again : tie.Need-loop-again Inv-loop μ-loop
 loop-again c =
@@ -35,7 +35,7 @@ loop-again c =
     let w = l .loop .inv in
     rw (c .after .ensures)
     (walked-more _ _ _ _ _ (rest-still (a .care) (a .value) (a .set) (now (a .left))) (l .before .pre .1) (l .before .pre .0) (c .before .before .before .loop-test .taken)
-    (omega (arith, w .changed .size, l .before .pre .3)) (rw (walked-now _ _ _ _ _ w, eq-eqb _ _ (w .here)) refl) w)
+    (omega arith) (rw (walked-now _ _ _ _ _ w, eq-eqb _ _ (w .here)) refl) w)
 
 returns : tie.Need-returns Inv-loop μ-loop
 returns c =

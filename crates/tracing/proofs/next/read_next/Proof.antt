@@ -40,8 +40,7 @@ returns-4 c =
     let t = o .before .before .before .before in
     let a = t .before .before .before .before .args in
     let g = not-false _ (o .before .before .if1 .left) in
-    let k = t .read-time .ensures .between g in
-    record { said = sym (next-none (now (a .inputs)) (now (a .outputs)) (now (a .text)) (a .at) (a .from) (a .before) (t .read-time .ensures) g (o .before .if2 .left) (omega (arith, k .within, o .if3 .left)) (e .read-event .ensures) (c .if4 .taken)); between = tt }
+    record { said = sym (next-none (now (a .inputs)) (now (a .outputs)) (now (a .text)) (a .at) (a .from) (a .before) (t .read-time .ensures) g (o .before .if2 .left) (omega arith) (e .read-event .ensures) (c .if4 .taken)); between = tt }
 
 returns-5 : tie.Need-returns-5
 returns-5 c =
@@ -50,8 +49,7 @@ returns-5 c =
     let t = o .before .before .before .before in
     let a = t .before .before .before .before .args in
     let g = not-false _ (o .before .before .if1 .left) in
-    let k = t .read-time .ensures .between g in
-    record { said = sym (next-other (now (a .inputs)) (now (a .outputs)) (now (a .text)) (a .at) (a .from) (a .before) (t .read-time .ensures) g (o .before .if2 .left) (omega (arith, k .within, o .if3 .left)) (e .read-event .ensures) (c .if5 .taken)); between = tt }
+    record { said = sym (next-other (now (a .inputs)) (now (a .outputs)) (now (a .text)) (a .at) (a .from) (a .before) (t .read-time .ensures) g (o .before .if2 .left) (omega arith) (e .read-event .ensures) (c .if5 .taken)); between = tt }
 
 returns-6 : tie.Need-returns-6
 returns-6 c =
@@ -63,8 +61,8 @@ returns-6 c =
     let k = t .read-time .ensures .between g in
     let m = e .read-event .ensures .between in
     record {
-      said = next-changes (now (a .inputs)) (now (a .outputs)) (now (a .text)) (a .at) (a .from) (a .before) (t .read-time .ensures) g (o .before .if2 .left) (omega (arith, k .within, o .if3 .left)) (e .read-event .ensures) (c .before .before .if4 .left) (c .if5 .left);
-      between = record { after = omega (arith, k .after, m .after); within = m .within };
+      said = next-changes (now (a .inputs)) (now (a .outputs)) (now (a .text)) (a .at) (a .from) (a .before) (t .read-time .ensures) g (o .before .if2 .left) (omega arith) (e .read-event .ensures) (c .before .before .if4 .left) (c .if5 .left);
+      between = record { after = omega (arith, k .after); within = m .within };
     }
 
 pub read-next-spec : {M : Type 1} → statement M

@@ -77,7 +77,7 @@ read-digits-returns t c =
     record {
       value = r .value ∙ ap (λ (n : NumberThere). n .value) (sym e);
       rest = r .rest ∙ ap (λ (n : NumberThere). n .rest) (sym e);
-      between = record { after = omega (arith, r .between .after); within = r .between .within };
+      between = record { after = omega arith; within = r .between .within };
     }
 
 read-digits-returns-2 : (t : ℕ) → read-digits-lts.Need-returns-2 (claims t) (read-digits-at t) read-digits.Post

@@ -8,10 +8,10 @@ use Rattle.tracing.proofs.read.line_at.Statement.{statement}
 use Rattle.tracing.proofs.read.line_at.Tie as tie
 
 returns : tie.Need-returns
-returns c = let a = c .before .before .before .args in sym (line-low (now (a .text)) (a .at) (a .tag) (omega (arith, c .before .byte-at .ensures)))
+returns c = let a = c .before .before .before .args in sym (line-low (now (a .text)) (a .at) (a .tag) (omega arith))
 
 returns-2 : tie.Need-returns-2
-returns-2 c = let a = c .before .before .before .before .args in sym (line-high (now (a .text)) (a .at) (a .tag) (omega (arith, c .before .before .byte-at .ensures)))
+returns-2 c = let a = c .before .before .before .before .args in sym (line-high (now (a .text)) (a .at) (a .tag) (omega arith))
 
 returns-3 : tie.Need-returns-3
 returns-3 c = let a = c .before .before .before .before .before .before .args in sym (line-other (now (a .text)) (a .at) (a .tag) (λ e. c .if3 .taken (c .before .byte-at2 .ensures ∙ e)))

@@ -23,8 +23,7 @@ returns c =
     let y = now (s .args .outputs) in
     let w = drop (s .args .at) (now (s .args .text)) in
     let g = s .pre .1 in
-    let v = e .read-event .ensures in
-    body-none x y g w [] [] (λ q. c .if1 .taken (omega (arith, v .shown, q, c .before .before .before .ones .ensures .0, c .before .before .ones2 .ensures .0)))
+    body-none x y g w [] [] (λ q. c .if1 .taken (omega (arith, q)))
 
 read-later-requires : tie.Need-read-later-requires
 read-later-requires c κs =
@@ -53,7 +52,7 @@ returns-2 c =
     let r = e .read-event .result in
     let z = now (s .args .events) in
     let after = l .last .1 .1 .1 .1 .1 .0 in
-    let q : readEvent x y w .shown ≡ everySignal x y = omega (arith, v .shown, i .if1 .left, i .before .before .before .ones .ensures .0, i .before .before .ones2 .ensures .0) in
+    let q : readEvent x y w .shown ≡ everySignal x y = omega (arith, i .before .before .ones2 .ensures .0) in
     let one = subst (λ (t : List ℕ). LaterFound x y (drop (r .next) (now (s .args .text))) (r .values) t (l .result) after) (p .ensures) (l .ensures) in
     let two = subst (λ (n : ℕ). LaterFound x y (drop (r .next) (now (s .args .text))) n (set z 0 n) (l .result) after) (v .values) one in
     body-on x y g w z after (l .result) q (subst (λ (t : List ℕ). LaterFound x y t (readEvent x y w .values) (set z 0 (readEvent x y w .values)) (l .result) after) (v .rest) two)

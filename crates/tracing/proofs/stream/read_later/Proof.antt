@@ -73,7 +73,7 @@ loop-less : tie.Need-loop-less Inv-loop μ-loop
 loop-less c =
     let t = c .before .before .before .before .before .before .before .before .before in
     let k = read (t .before .before) (t .step2 .given .1) .between in
-    omega (arith, k .after, k .within)
+    omega arith
 
 loop-again : tie.Need-loop-again Inv-loop μ-loop
 loop-again c =

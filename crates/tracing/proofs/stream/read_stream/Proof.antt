@@ -21,11 +21,10 @@ slice-aggregate-put-opening c = refl
 put-opening-requires : tie.Need-put-opening-requires
 put-opening-requires c κs =
     let s = c .before .before .before .before .before in
-    let g = s .pre in
-    omega (arith, opening-long (now (s .args .inputs)) (now (s .args .outputs)), g .fewIn, g .fewOut)
+    omega (arith, opening-long (now (s .args .inputs)) (now (s .args .outputs)))
 
 array-share-prefix-opening : tie.Need-array-share-prefix-opening
-array-share-prefix-opening c = let p = c .before .put-opening in omega (arith, wrote-within zero-le (p .ensures) (p .kept .0), p .kept .0)
+array-share-prefix-opening c = let p = c .before .put-opening in omega (arith, wrote-within zero-le (p .ensures) (p .kept .0))
 
 slice-aggregate-begins : tie.Need-slice-aggregate-begins
 slice-aggregate-begins c = sym (length-take-le _ _ (array-share-prefix-opening (c .before)))
@@ -54,7 +53,7 @@ returns-2 c =
     let g = s .pre in
     let w = wrote-front zero-le (p .put-opening .ensures) in
     let b = subst (λ (z : List ℕ). t ≡ z ++ drop (length z) t) w (c .before .before .begins .ensures .yes (not-false _ (c .before .if1 .left))) in
-    found-empty x y g t (now (s .args .events)) (opening-only t (opening x y) (length (opening x y)) b (omega (arith, c .if2 .taken, p .put-opening .ensures .next)))
+    found-empty x y g t (now (s .args .events)) (opening-only t (opening x y) (length (opening x y)) b (omega arith))
 
 read-body-requires : tie.Need-read-body-requires
 read-body-requires c κs =
@@ -66,7 +65,7 @@ read-body-requires c κs =
     let g = s .pre in
     let w = wrote-front zero-le (p .put-opening .ensures) in
     let b = subst (λ (z : List ℕ). t ≡ z ++ drop (length z) t) w (c .before .before .before .begins .ensures .yes (not-false _ (c .before .before .if1 .left))) in
-    (omega (arith, p .put-opening .ensures .next, ap length b, length-append (opening x y) (drop (length (opening x y)) t)), g)
+    (omega (arith, ap length b, length-append (opening x y) (drop (length (opening x y)) t)), g)
 
 returns-3 : tie.Need-returns-3
 returns-3 c =
@@ -79,11 +78,11 @@ returns-3 c =
     let w = wrote-front zero-le (p .put-opening .ensures) in
     let b = subst (λ (z : List ℕ). t ≡ z ++ drop (length z) t) w (c .before .before .before .before .before .before .begins .ensures .yes (not-false _ (c .before .before .before .before .before .if1 .left))) in
     let r = p .put-opening .result in
-    let n : length (opening x y) ≡ r = omega (arith, p .put-opening .ensures .next) in
+    let n : length (opening x y) ≡ r = omega arith in
     let f = c .before .before .read-body in
     found-body x y g t (drop r t) (now (s .args .events)) (f .last .1 .1 .1 .1 .0) (f .result)
     (subst (λ (k : ℕ). t ≡ opening x y ++ drop k t) n b)
-    (λ e. omega (arith, ap length e, length-drop r t, c .before .before .before .before .if2 .left, ap length b, length-append (opening x y) (drop (length (opening x y)) t), n))
+    (λ e. omega (arith, ap length e, length-drop r t, ap length b, length-append (opening x y) (drop (length (opening x y)) t), n))
     (f .ensures)
 
 pub read-stream-spec : {M : Type 1} → statement M
