@@ -20,15 +20,10 @@ passed : (c : tie.After-rules-below) →
 passed c =
     let a = c .before .before .args in
     let few : c .rules-below .result ≤ a .count =
-    omega (
-      arith,
-      c .rules-below .ensures,
-      below-le (a .location) (rulesFrom (a .clocks) (now (a .rules)) 0 (a .count)),
-      rules-length (a .clocks) (now (a .rules)) 0 (a .count),
-    )
+    omega (arith, below-le (a .location) (rulesFrom (a .clocks) (now (a .rules)) 0 (a .count)), rules-length (a .clocks) (now (a .rules)) 0 (a .count))
     in
-    let most : c .rules-below .result ≤ 256 = omega (arith, c .before .before .pre) in
-    let size : 7 + 4 * a .clocks ≤ 23 = omega (arith, c .before .before .pre) in
+    let most : c .rules-below .result ≤ 256 = omega arith in
+    let size : 7 + 4 * a .clocks ≤ 23 = omega arith in
     (few, mul-le-mul most size)
 
 mul-start-2 : tie.Need-mul-start-2
@@ -42,7 +37,7 @@ rules-below-requires-2 c κs =
     let a = c .before .before .args in
     let n = c .rules-below .result in
     let all : n + (a .count - n) ≡ a .count = omega (arith, passed c) in
-    omega (arith, passed c, c .before .before .pre, rw all at (add-mul n (a .count - n) (ruleSize (a .clocks))))
+    omega (arith, passed c, rw all at (add-mul n (a .count - n) (ruleSize (a .clocks))))
 
 returns : tie.Need-returns
 returns c =

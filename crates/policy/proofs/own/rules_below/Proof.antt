@@ -34,12 +34,7 @@ returns : tie.Need-returns Inv-loop μ-loop
 returns c =
     let l = c .before .before .before in
     let a = l .before .before .args in
-    omega (
-      arith,
-      l .loop .inv,
-      below-done (a .clocks) (now (a .rules)) (l .loop .next) (l .loop .i) (a .count) (c .before .before .loop-test .taken) (a .location)
-          (omega (arith, c .before .byte-within .ensures, c .if1 .taken)),
-    )
+    omega (arith, below-done (a .clocks) (now (a .rules)) (l .loop .next) (l .loop .i) (a .count) (c .before .before .loop-test .taken) (a .location) (omega (arith, c .before .byte-within .ensures, c .if1 .taken)))
 
 loop-again : tie.Need-loop-again Inv-loop μ-loop
 loop-again c =
@@ -47,7 +42,7 @@ loop-again c =
     let a = l .before .before .args in
     let m =
     below-more (a .clocks) (now (a .rules)) (l .loop .next) (l .loop .i) (a .count) (c .before .before .loop-test .taken) (a .location)
-    (omega (arith, c .before .byte-within .ensures, c .if1 .left))
+    (omega arith)
     in
     (omega arith, (omega arith, omega arith), m ∙ l .loop .inv .2)
 
@@ -56,7 +51,7 @@ unfolding below
 returns-2 c =
     let a = c .before .before .before .args in
     let l = c .before .loop in
-    omega (arith, l .inv, ap (below (a .location)) (no-rule (a .clocks) (now (a .rules)) (l .next) (a .count) (l .i) (omega arith)))
+    omega (arith, ap (below (a .location)) (no-rule (a .clocks) (now (a .rules)) (l .next) (a .count) (l .i) (omega arith)))
 
 pub rules-below-spec : {M : Type 1} → statement M
 rules-below-spec =

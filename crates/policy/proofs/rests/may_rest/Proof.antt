@@ -33,7 +33,7 @@ sub-byte-at-2 c = omega (arith, bytes-before (now (c .before .before .before .ar
 returns : tie.Need-returns
 returns c =
     let s = c .before .before .before .before in
-    ap (λ (b : ℕ). eqb b 0) (c .byte-at .ensures .0) ∙ sym (rests-by (now (s .args .file)) (s .args .layout .reading) (s .args .location) _ (omega (arith, s .pre)) (rw (s .pre .0, s .pre .1)))
+    ap (λ (b : ℕ). eqb b 0) (c .byte-at .ensures .0) ∙ sym (rests-by (now (s .args .file)) (s .args .layout .reading) (s .args .location) _ (omega arith) (rw (s .pre .0, s .pre .1)))
 
 pub may-rest-spec : {M : Type 1} → statement M
 may-rest-spec = tie.close (tie.spec sub-byte-at sub-byte-at-2 (λ c. search needs) (λ c κs. search needs) returns)

@@ -34,13 +34,13 @@ returns : tie.Need-returns Inv-loop μ-loop
 returns c =
     let l = c .before .before .loop in
     let a = c .before .before .before .before .before .args in
-    none (l .weight) _ _ (no-more (a .tag) (now (a .file)) (a .at) (l .i) (omega (arith, l .inv .3, c .if1 .taken))) (l .inv .2)
+    none (l .weight) _ _ (no-more (a .tag) (now (a .file)) (a .at) (l .i) (omega arith)) (l .inv .2)
 
 returns-2 : tie.Need-returns-2 Inv-loop μ-loop
 returns-2 c =
     let l = c .before .before .before .loop in
     let a = c .before .before .before .before .before .before .args in
-    none (l .weight) _ _ (file-ends (a .tag) (now (a .file)) (a .at) (l .i) (omega (arith, c .if2 .taken))) (l .inv .2)
+    none (l .weight) _ _ (file-ends (a .tag) (now (a .file)) (a .at) (l .i) (omega arith)) (l .inv .2)
 
 -- The tag at i, and those after it.
 here : (c : tie.After-shared-slice-known2 Inv-loop μ-loop) →
@@ -51,8 +51,8 @@ here : (c : tie.After-shared-slice-known2 Inv-loop μ-loop) →
 here c =
     let l = c .before .before .before .before .loop in
     let a = c .before .before .before .before .before .before .before .args in
-    weight-turn (a .tag) (now (a .file)) (a .at) (l .i) (omega (arith, c .before .before .before .loop-test .taken))
-    (omega (arith, l .inv .3, c .before .before .if1 .left)) (omega (arith, c .before .if2 .left))
+    weight-turn (a .tag) (now (a .file)) (a .at) (l .i) (omega arith)
+    (omega arith) (omega arith)
 
 returns-3 : tie.Need-returns-3 Inv-loop μ-loop
 returns-3 c =
@@ -62,9 +62,9 @@ returns-3 c =
 mul-weight : tie.Need-mul-weight Inv-loop μ-loop
 mul-weight c =
     let l = c .before .before .before .before .before .loop in
-    let h : l .i ≤ 3 = omega (arith, c .before .before .before .before .loop-test .taken) in
+    let h : l .i ≤ 3 = omega arith in
     let p = pow-le-pow-right {n = 2} (omega arith) h in
-    omega (arith, l .inv .1, p)
+    omega (arith, p)
 
 twice : (w i : ℕ) → w ≡ 2 ^ i → w * 2 ≡ 2 ^ (i + 1)
 twice w i e = let n : i + 1 ≡ suc i = omega arith in rw (n, pow-suc 2 i, e)
@@ -72,7 +72,7 @@ twice w i e = let n : i + 1 ≡ suc i = omega arith in rw (n, pow-suc 2 i, e)
 loop-again : tie.Need-loop-again Inv-loop μ-loop
 loop-again c =
     let l = c .before .before .before .before .before .loop in (
-      omega (arith, c .before .before .before .before .loop-test .taken),
+      omega arith,
       twice (l .weight) (l .i) (l .inv .1),
       mul-assoc (l .weight) 2 _ ∙ ap (λ (n : ℕ). l .weight * n) (sym (here (c .before) ∙ rw (ne-eqb _ _ (c .if3 .left)))) ∙ l .inv .2,
       l .inv .3,
@@ -83,7 +83,7 @@ returns-4 : tie.Need-returns-4 Inv-loop μ-loop
 returns-4 c =
     let l = c .before .loop in
     let a = c .before .before .before .before .args in
-    none (l .weight) _ _ (four-seen (a .tag) (now (a .file)) (a .at) (l .i) (omega (arith, c .loop-test .left))) (l .inv .2)
+    none (l .weight) _ _ (four-seen (a .tag) (now (a .file)) (a .at) (l .i) (omega arith)) (l .inv .2)
 
 pub weight-at-spec : {M : Type 1} → statement M
 weight-at-spec =
