@@ -1,6 +1,6 @@
 -- Bytes laid one part after the other, and what bytes that are copied say.
--- In order: parts laid one after the other; the midst of laying, turn by turn; the bytes of a copy, turn by turn; numbers, bounds and rules that are
--- copied; parts of a file.
+-- In order: parts laid one after the other; the midst of laying, turn by turn; the bytes of a copy, turn by turn; numbers and bounds that are copied;
+-- parts of a file.
 use mathlib.Core.Path.{_≡_, refl, ap, ap₂, sym, _∙_}
 use mathlib.Core.List.{List, [], _∷_, _++_, append-assoc, append-nil}
 use Prim.Native.Nat.{ℕ, zero, suc, _+_, _-_, _*_, _/_, _%_, _≤_, _<_}
@@ -8,7 +8,7 @@ use native.Mathlib.Numerals.{add-one}
 use native.Mathlib.Omega.{arith}
 use lib.ListN.{length, take, drop, set, length-append, length-drop, drop-of-length-le}
 use lib.Seq.{set-out, sets, length-sets, sets-eq, take-all, take-append-seam, drop-append-seam, drop-drop, drop-cons}
-use Rattle.policy.specs.File.{byteAt, pairAt, part, pairsFrom, boundsFrom, ruleSize, ruleFrom, rulesFrom, inputCount, outputsAt, outputCount, inputTags, outputTags}
+use Rattle.policy.specs.File.{byteAt, pairAt, part, pairsFrom, boundsFrom, inputCount, outputsAt, outputCount, inputTags, outputTags}
 use Rattle.policy.specs.Bytes.{pairBytes, pairsBytes, boundsBytes}
 use Rattle.policy.specs.Frame.{Framed}
 use Rattle.laying.specs.Lay.{LaidAt, bytesFrom}
