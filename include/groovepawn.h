@@ -50,8 +50,8 @@
  *
  * Stack. Each function says what it was seen to use, in the archive as it is compiled for x86-64 (tools/stack.c); these are readings and no promise.
  * It is less than 2.5 KiB for each but these, which are tools and no part of a station's loop: groovepawn_clean (67,530 bytes), groovepawn_why
- * (1,247,920), groovepawn_why_run (3,296), groovepawn_text_read (5,016), groovepawn_text_line_of_rule (4,824),
- * groovepawn_text_name_of_signal (4,904), groovepawn_text_name_of_clock (4,904), groovepawn_text_name_of_location (4,904). No heap and
+ * (1,247,920), groovepawn_why_run (3,280), groovepawn_text_read (7,904), groovepawn_text_line_of_rule (7,968),
+ * groovepawn_text_name_of_signal (8,064), groovepawn_text_name_of_clock (8,064), groovepawn_text_name_of_location (8,064). No heap and
  * no global data.
  */
 #ifndef GROOVEPAWN_H
@@ -202,7 +202,7 @@ uint64_t groovepawn_prepare(uint8_t reading, const uint8_t *file, size_t file_le
 /*
  * The input half of a tick: the input x' to act on. It is x where some output then leads to a state marked 1, else the input of this kind that
  * differs from x in the fewest bits; among equals, at the first signal in which two differ, the one that leaves that signal as read.
- * Refusals in this order: 22, 1 to 9, 10, 16, 15, 17. Stack: 1,376 bytes.
+ * Refusals in this order: 22, 1 to 9, 10, 16, 15, 17. Stack: 1,200 bytes.
  * Returns refusal | x' << 8. Nothing is written: the state moves with the output half.
  */
 GROOVEPAWN_LOOK_AT_ANSWER
@@ -212,7 +212,7 @@ uint32_t groovepawn_input(uint8_t reading, const uint8_t *file, size_t file_len,
 /*
  * The output half of a tick, given the x' of the input half and the controller's answer y: the output y' to put out, chosen
  * likewise among the outputs that with x' lead to a state marked 1.
- * Refusals in this order: 22, 1 to 9, 10, 16, 15, 17. Stack: 1,408 bytes.
+ * Refusals in this order: 22, 1 to 9, 10, 16, 15, 17. Stack: 1,456 bytes.
  * Returns refusal | y' << 8. The state becomes the next one; with a refusal it stays as given.
  */
 GROOVEPAWN_LOOK_AT_ANSWER
@@ -221,7 +221,7 @@ uint32_t groovepawn_output(uint8_t reading, const uint8_t *file, size_t file_len
 
 /*
  * Many ticks: for each event one is released.
- * Refusals in this order: 22, 1 to 9, 10, 14 (released is shorter than events), 16, 15, 17. Stack: 1,520 bytes.
+ * Refusals in this order: 22, 1 to 9, 10, 14 (released is shorter than events), 16, 15, 17. Stack: 1,184 bytes.
  * Returns refusal | count << 8: how many events were released. (The count is held modulo 2 to the 56th, which no slice reaches.)
  * The state becomes the one after the events released, and these stand in front in released, whose other bytes stay.
  * That is so with refusal 17 too: the run stops before the event that it cannot answer. With every other refusal the count is 0, and state and
@@ -279,7 +279,7 @@ uint32_t groovepawn_index(const uint8_t *file, size_t file_len, uint16_t *index,
  * The halves of a tick with an index, so that the rules of the location need not be looked for: the same answers as groovepawn_input and
  * groovepawn_output give for the same arguments. An index that is not that of the file is refused by 28 and never followed; that each call compares
  * it costs more than it saves: see docs/C-INTERFACE.md before you choose them.
- * Refusals in this order: 22, 1 to 9, 28, 10, 16, 15, 17. Stack: 1,104 and 1,168 bytes.
+ * Refusals in this order: 22, 1 to 9, 28, 10, 16, 15, 17. Stack: 928 and 1,216 bytes.
  * Return refusal | x' << 8 and refusal | y' << 8. The first writes nothing; with a refusal of the second the state stays as given.
  */
 GROOVEPAWN_LOOK_AT_ANSWER
@@ -299,7 +299,7 @@ uint32_t groovepawn_bays_new(uint16_t *states, size_t states_len);
 /*
  * The halves of a tick of one bay, counted from 0: what groovepawn_input and groovepawn_output do with the five numbers of that bay. The numbers of
  * the other bays are neither looked at nor changed. The policy, the marks and the reading stay the same while the list lives.
- * Refusals in this order: 22, 1 to 9, 10, 24 (the bay is not below the count, or what is lent is no list), 16, 15, 17. Stack: 1,392 and 1,456 bytes.
+ * Refusals in this order: 22, 1 to 9, 10, 24 (the bay is not below the count, or what is lent is no list), 16, 15, 17. Stack: 1,216 and 1,504 bytes.
  * Return refusal | x' << 8 and refusal | y' << 8. The first writes nothing; with a refusal of the second the list stays as given.
  */
 GROOVEPAWN_LOOK_AT_ANSWER
@@ -319,11 +319,11 @@ uint32_t groovepawn_meter_new(uint16_t *station, size_t station_len, uint32_t *t
 /*
  * The halves of a tick of a station with a meter. The pulses of the tick are this register less the last accepted one, modulo 65,536.
  * groovepawn_meter_input sets the input P in x exactly when pulses is not 0, clears it otherwise, and then is groovepawn_input.
- * Refusals in this order: 22, 1 to 9, 26, 10, 16 (also for a station of fewer than six numbers), 15, 17. Stack: 1,392 bytes.
+ * Refusals in this order: 22, 1 to 9, 26, 10, 16 (also for a station of fewer than six numbers), 15, 17. Stack: 1,216 bytes.
  * Returns refusal | x' << 8. Nothing is written.
  * groovepawn_meter_output takes the same register, that x' and the controller's answer y, and is groovepawn_output; then it adds the pulses to the
  * first total if the output D is on in the y' released, else to the second, and keeps the register.
- * Refusals in this order: 22, 1 to 9, 26, 10, 14 (fewer than six numbers, or fewer than two totals), 16, 15, 17, 27. Stack: 1,440 bytes.
+ * Refusals in this order: 22, 1 to 9, 26, 10, 14 (fewer than six numbers, or fewer than two totals), 16, 15, 17, 27. Stack: 1,488 bytes.
  * Returns refusal | y' << 8. With a refusal station and totals stay as given.
  */
 GROOVEPAWN_LOOK_AT_ANSWER
@@ -394,7 +394,7 @@ uint64_t groovepawn_why(uint8_t reading, const uint8_t *file, size_t file_len, c
  * They may hold anything, and what they hold afterwards is not said.
  * A tool, and no part of a station's loop: it prepares the policy anew and goes over all states.
  * Refusals in this order: 22, 1 to 9, 10, 23 (a work slice has fewer entries than there are states), 14 (reasons has fewer than there are events),
- * 16, 20, 15. 17 never comes. Stack: 3,296 bytes.
+ * 16, 20, 15. 17 never comes. Stack: 3,280 bytes.
  * Returns refusal | events << 8, the number of all events; with a refusal it is 0, and state and reasons stay as given. The work slices are not
  * written with 22, 1 to 10, 23, 14 and 16. Entries past the events stay.
  */
@@ -408,7 +408,7 @@ uint64_t groovepawn_why_run(uint8_t reading, const uint8_t *file, size_t file_le
 /*
  * The file of a policy that is written as text (docs/POLICY-TEXT.md). A text has no reading: its file is read under either.
  * Refusals: the first line that breaks a rule gives 4, 7 or one of 30 to 34; then, with line 0, in this order: 2 (no location), 9, 14 (the slice for
- * the file is too short). A tool, and no part of a station's loop. Stack: 5,016 bytes.
+ * the file is too short). A tool, and no part of a station's loop. Stack: 7,904 bytes.
  * Returns refusal | line << 8 | length << 40: the line of the refusal, counted from 1, or how many bytes of file the policy takes; the other bytes
  * stay. 5,974 bytes are always enough. With a refusal the length is 0, and file stays as given.
  */
@@ -428,7 +428,7 @@ uint64_t groovepawn_text_write(const uint8_t *file, size_t file_len, uint8_t *te
 /*
  * The line of a rule, counted from 0 as in the file, so that a reason of groovepawn_why or an entry of groovepawn_clean leads back to its line.
  * Refusals: as groovepawn_text_read, but for 14; then, with line 0, 35 (the text has no such rule). A tool, and no part of a station's loop.
- * Stack: 4,824 bytes.
+ * Stack: 7,968 bytes.
  * Returns refusal | line << 8: the line of the refusal or of the rule, counted from 1. Nothing is written.
  */
 GROOVEPAWN_LOOK_AT_ANSWER
@@ -436,7 +436,7 @@ uint64_t groovepawn_text_line_of_rule(const uint8_t *text, size_t text_len, uint
 
 /*
  * Where a text declares the name of a signal, the inputs first and then the outputs, counted from 0 as in the file.
- * Refusals: as groovepawn_text_line_of_rule, 35 where the text has no such signal. A tool, and no part of a station's loop. Stack: 4,904 bytes.
+ * Refusals: as groovepawn_text_line_of_rule, 35 where the text has no such signal. A tool, and no part of a station's loop. Stack: 8,064 bytes.
  * Returns refusal | place << 8 | length << 40: the line of the refusal, with the length 0; or the byte of the text at which the name begins, counted
  * from 0, and how many bytes it has, at most 16. A signal that has its letter alone has no name: both are then 0. Nothing is written.
  */
@@ -444,13 +444,13 @@ GROOVEPAWN_LOOK_AT_ANSWER
 uint64_t groovepawn_text_name_of_signal(const uint8_t *text, size_t text_len, uint32_t signal);
 
 /*
- * The same for a clock, which always has a name. Stack: 4,904 bytes.
+ * The same for a clock, which always has a name. Stack: 8,064 bytes.
  */
 GROOVEPAWN_LOOK_AT_ANSWER
 uint64_t groovepawn_text_name_of_clock(const uint8_t *text, size_t text_len, uint32_t clock);
 
 /*
- * The same for a location, which always has a name. Stack: 4,904 bytes.
+ * The same for a location, which always has a name. Stack: 8,064 bytes.
  */
 GROOVEPAWN_LOOK_AT_ANSWER
 uint64_t groovepawn_text_name_of_location(const uint8_t *text, size_t text_len, uint32_t location);
