@@ -26,14 +26,14 @@ pub ceilings-long : {t : Table} → Fit t → length (take (t .clocks) (t .ceili
 ceilings-long {t = t} f = length-take-le (t .clocks) (t .ceilings) (omega (arith, f .clocks, f .ceilings-long))
 
 -- These are the bytes before the rules of the policy that the lines have said.
-pub counts-are : (text starts ends left : List ℕ) {t : Table} (f : Fit t) (rules : List Rule) (count : ℕ) → length rules ≡ count →
-    countsBytes (policyFrom 1 (draftOf text starts ends left t rules)) ≡ countsOf left t count
+pub counts-are : (text starts lengths left : List ℕ) {t : Table} (f : Fit t) (rules : List Rule) (count : ℕ) → length rules ≡ count →
+    countsBytes (policyFrom 1 (draftOf text starts lengths left t rules)) ≡ countsOf left t count
 unfolding countsBytes policyFrom
-counts-are text starts ends left {t = t} f rules count e =
+counts-are text starts lengths left {t = t} f rules count e =
     let a = inputs-long f in
     let b = outputs-long f in
     let c = ceilings-long f in
-    let d = spans-long text starts ends 12 (t .places) in
+    let d = spans-long text starts lengths 12 (t .places) in
     (λ i.
     (a i ∷ take (t .inputs) (t .tags)) ++ ((b i ∷ take (t .signals - t .inputs) (drop (t .inputs) (t .tags)))
     ++ ((c i ∷ pairsBytes (take (t .clocks) (t .ceilings))) ++ ((d i ∷ take (t .places) left) ++ pairBytes (e i)))))

@@ -9,8 +9,8 @@ use Rattle.policy.specs.Rules.{Rule}
 use Rattle.policy.specs.File.{part}
 use Rattle.wording.specs.Words.{wordsOf, eachWords, split, linesOf}
 use Rattle.wording.specs.Reader.{Draft, empty, FromText, stops, reads, proceed, readLines}
+use Rattle.words.specs.Spans.{NamesIn}
 use Rattle.words.specs.Lex.{NextLine}
-use Rattle.declarations.specs.Table.{Named}
 use Rattle.compiling.specs.RuleLine.{ruleSaid}
 use Rattle.compiling.specs.Line.{Took, takenRules, withRule}
 use Rattle.compiling.specs.declared.line.Taken.{Taken}
@@ -25,12 +25,13 @@ pub before-lines : (text : List ℕ) (draft : List Rule → Draft) → draft [] 
 before-lines text draft e = record { many = refl; rest = ap (λ (d : Draft). readLines 1 d (linesOf text)) (sym e) }
 
 -- No name stands anywhere yet.
-pub unnamed : (text : List ℕ) → Named text (replicate 76 0) (replicate 76 0)
+pub unnamed : (text : List ℕ) → NamesIn 76 text (replicate 76 0) (replicate 76 0)
 unnamed text =
+    let long = length-replicate {A = ℕ} 76 0 in
     record {
-      starts-long = length-replicate {A = ℕ} 76 0;
-      ends-long = length-replicate {A = ℕ} 76 0;
-      within = λ k h. rw (getD-replicate {A = ℕ} 76 k 0 0 h) (omega arith, omega arith);
+      starts-long = omega (arith, long);
+      lengths-long = omega (arith, long);
+      within = λ k h. rw (getD-replicate {A = ℕ} 76 k 0 0 h) (omega arith);
     }
 
 -- The next line begins behind the line feed, or where the text ends.

@@ -99,9 +99,9 @@ module _ (text before : List ℕ) where
   unfolding fileFromText policyFromText
   read-stopped e = stopped (ap (λ (x : FromText Draft). filed (saidBy 1 x)) e)
 
-  module _ (starts ends left : List ℕ) {t : Table} (f : Fit t) {rules : List Rule} (lines : readLines 1 empty (linesOf text) ≡ reads (draftOf text starts ends left t rules)) {count : ℕ} (many : length rules ≡ count) where
+  module _ (starts lengths left : List ℕ) {t : Table} (f : Fit t) {rules : List Rule} (lines : readLines 1 empty (linesOf text) ≡ reads (draftOf text starts lengths left t rules)) {count : ℕ} (many : length rules ≡ count) where
     abbrev d : Draft
-    d = draftOf text starts ends left t rules
+    d = draftOf text starts lengths left t rules
 
     abbrev p : Policy
     p = policyFrom 1 d
@@ -110,7 +110,7 @@ module _ (text before : List ℕ) where
     good = all-good (linesOf text) d lines
 
     named : length (d .places) ≡ t .places
-    named = spans-long text starts ends 12 (t .places)
+    named = spans-long text starts lengths 12 (t .places)
 
     -- The ceilings are those that the check takes.
     pub ceilings-fit : (i : ℕ) → i < t .clocks → getD (t .ceilings) i 0 ≤ 1001
@@ -174,7 +174,7 @@ module _ (text before : List ℕ) where
       pub counts-room : fileLength ≤ length before → length (countsOf left t count) + length (rulesBytes rules) ≤ length before
       unfolding bytesOf policyFrom
       counts-room h =
-          let c = ap length (counts-are text starts ends left f rules count many) in
+          let c = ap length (counts-are text starts lengths left f rules count many) in
           omega (arith, file-long, length-append (countsBytes p) (rulesBytes rules), c)
 
       -- Where there is room, and the counts and then the rules are written from 0 on, the answer is the file's length.
@@ -182,7 +182,7 @@ module _ (text before : List ℕ) where
           JudgePromise text before (record { read = record { refusal = 0; line = 0; length = end }; good = true }) after
       unfolding bytesOf policyFrom
       read-whole h {after = after} {end = end} w v =
-          let c = counts-are text starts ends left f rules count many in
+          let c = counts-are text starts lengths left f rules count many in
           let both : Wrote before 0 (bytesOf p) end after = subst (λ (b : List ℕ). Wrote before 0 (b ++ rulesBytes rules) end after) (sym c) (wrote-then (omega arith) w v) in
           let y : 0 + length (bytesOf p) ≡ length (bytesOf p) = omega arith in
           let long = both .next ∙ y in

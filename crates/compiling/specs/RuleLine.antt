@@ -2,10 +2,10 @@
 use mathlib.Core.Path.{_≡_, refl, ap, sym, _∙_}
 use mathlib.Core.Bool.{Bool, true, false}
 use mathlib.Core.List.{List, [], _∷_, _++_}
-use Prim.Native.Nat.{ℕ, zero, suc, _-_, _≤_, _<_}
+use Prim.Native.Nat.{ℕ, zero, suc, _≤_, _<_}
 use native.Mathlib.Omega.{arith}
 use lib.Dec.{ltb}
-use lib.ListN.{length, take, drop}
+use lib.ListN.{length, take}
 use lib.Seq.{length-take-le}
 use borrow.Author.Tests.{ltb-true}
 use Rattle.streams.specs.Answer.{Answer, gives, answer, unless, _orElse_}
@@ -21,7 +21,7 @@ use Rattle.conditions.specs.declared.steps.Parsed.{Parsed}
 use Rattle.conditions.specs.declared.steps.Step.{Step}
 use Rattle.phrases.specs.Ended.{ruleBy, rule-by}
 use Rattle.declarations.specs.Table.{draftOf, atPlace, Fit, source-some, source-none}
-use Rattle.declarations.specs.Fresh.{spans-behind, spans-long}
+use Rattle.declarations.specs.Fresh.{spans-long}
 use Rattle.declarations.specs.SignalLine.{tags-whole, inputs-long}
 use Rattle.declarations.specs.declared.table.Table.{Table}
 
@@ -30,35 +30,30 @@ abbrev pub ruleSaid : Table → Parsed → Rule
 ruleSaid t p = ruleBy (t .inputs) (t .source) (begunOf (t .clocks) p)
 
 -- What the lines have said with it.
-abbrev pub ruled : (text starts ends left : List ℕ) → Table → List Rule → Parsed → Draft
-ruled text starts ends left t rules p = draftOf text starts ends left (atPlace t (t .source)) (rules ++ (ruleSaid t p ∷ []))
+abbrev pub ruled : (text starts lengths left : List ℕ) → Table → List Rule → Parsed → Draft
+ruled text starts lengths left t rules p = draftOf text starts lengths left (atPlace t (t .source)) (rules ++ (ruleSaid t p ∷ []))
 
-module _ (text starts ends left : List ℕ) {t : Table} (f : Fit t) (rules : List Rule) where
+module _ (text starts lengths left : List ℕ) {t : Table} (f : Fit t) (rules : List Rule) where
   abbrev d : Draft
-  d = draftOf text starts ends left t rules
+  d = draftOf text starts lengths left t rules
 
   -- What the code looks up a rule's words in is what the rules of the draft may name.
-  pub scope-is :
-      {tags′ : List ℕ} → tags′ ≡ take (t .signals) (t .tags) →
-      scopeOf text tags′ starts ends (take (length starts - 8) (drop 8 starts)) (take (length ends - 8) (drop 8 ends)) (t .clocks)
-      (spans text (take (length starts - 12) (drop 12 starts)) (take (length ends - 12) (drop 12 ends)) 0 (t .places)) ≡ scope d
+  pub scope-is : {tags′ : List ℕ} → tags′ ≡ take (t .signals) (t .tags) → scopeOf text tags′ starts lengths (t .clocks) (t .places) ≡ scope d
   scope-is e =
       let long : length (take (t .signals) (t .tags)) ≡ t .signals = length-take-le (t .signals) (t .tags) (omega (arith, f .tags-long, f .outputs, f .inputs)) in
       let size = ap length e ∙ long in
-      let clocks = spans-behind text starts ends 8 (t .clocks) in
-      let places = spans-behind text starts ends 12 (t .places) in
-      let letters = e ∙ sym (tags-whole text starts ends left f rules) in
-      (λ i. record { letters = letters i; names = spans text starts ends 0 (size i); clocks = clocks i; places = places i })
+      let letters = e ∙ sym (tags-whole text starts lengths left f rules) in
+      (λ i. record { letters = letters i; names = spans text starts lengths 0 (size i); clocks = d .clocks; places = d .places })
 
   clocks-long : length (d .clocks) ≡ t .clocks
-  clocks-long = spans-long text starts ends 8 (t .clocks)
+  clocks-long = spans-long text starts lengths 8 (t .clocks)
 
   rule-is : (b : Begun) → ruleBy (t .inputs) (t .source) b ≡ ruleOf d (t .source) b
   rule-is b = ap (λ (n : ℕ). ruleBy n (t .source) b) (sym (inputs-long f)) ∙ rule-by d (t .source) b
 
-  added : (p : Parsed) → addRule d (ruleOf d (t .source) (begunOf (t .clocks) p)) ≡ ruled text starts ends left t rules p
+  added : (p : Parsed) → addRule d (ruleOf d (t .source) (begunOf (t .clocks) p)) ≡ ruled text starts lengths left t rules p
   unfolding addRule
-  added p = ap (λ (r : Rule). draftOf text starts ends left (atPlace t (t .source)) (rules ++ (r ∷ []))) (sym (rule-is (begunOf (t .clocks) p)))
+  added p = ap (λ (r : Rule). draftOf text starts lengths left (atPlace t (t .source)) (rules ++ (r ∷ []))) (sym (rule-is (begunOf (t .clocks) p)))
 
   -- A rule before any `at` is refused by 30.
   pub rule-nowhere : (l : Line) (x : Draft) → 64 ≤ t .source → answer 30 x ≡ ruleLine d l (placeBelow 64 (t .source))
@@ -96,11 +91,11 @@ module _ (text starts ends left : List ℕ) {t : Table} (f : Fit t) (rules : Lis
     pub rule-tested : {q count : ℕ} → s .refusal ≡ 0 → length rules ≡ count →
         q ≡ (unless (mayEnd (begunOf (t .clocks) (s .parsed)) (partOf (s .parsed .part) (s .parsed .clock))) 30
         orElse (unless (boundsGood (take (t .clocks) (t .ceilings)) (boundsOf (t .clocks) (s .parsed .low) (s .parsed .high))) 7 orElse unless (ltb count 256) 33)) →
-        answer q (ruled text starts ends left t rules (s .parsed)) ≡ ruleLine d l (placeBelow 64 (t .source))
+        answer q (ruled text starts lengths left t rules (s .parsed)) ≡ ruleLine d l (placeBelow 64 (t .source))
     rule-tested {q} {count} z long e =
         let b = begunOf (t .clocks) (s .parsed) in
-        ap (λ (n : ℕ). answer n (ruled text starts ends left t rules (s .parsed))) (e ∙ ap (λ (n : ℕ). unless (mayEnd b (b .part)) 30 orElse (unless (boundsGood (d .ceilings) (b .bounds)) 7 orElse unless (ltb n 256) 33)) (sym long))
-        ∙ tests (mayEnd b (b .part)) (boundsGood (d .ceilings) (b .bounds)) (ltb (length rules) 256) (ruled text starts ends left t rules (s .parsed))
+        ap (λ (n : ℕ). answer n (ruled text starts lengths left t rules (s .parsed))) (e ∙ ap (λ (n : ℕ). unless (mayEnd b (b .part)) 30 orElse (unless (boundsGood (d .ceilings) (b .bounds)) 7 orElse unless (ltb n 256) 33)) (sym long))
+        ∙ tests (mayEnd b (b .part)) (boundsGood (d .ceilings) (b .bounds)) (ltb (length rules) 256) (ruled text starts lengths left t rules (s .parsed))
         ∙ ap (λ (x : Draft). must (mayEnd b (b .part)) 30 (must (boundsGood (d .ceilings) (b .bounds)) 7 (must (ltb (length rules) 256) 33 (gives x)))) (sym (added (s .parsed)))
         ∙ ap (λ (n : ℕ). answer n b andThen after) (sym z)
         ∙ sym line-is

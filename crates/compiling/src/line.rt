@@ -19,7 +19,8 @@ ghost use lib.ListN.{length};
 ghost use Rattle.policy.specs.File.{part};
 ghost use Rattle.policy.specs.Rules.{Rule};
 ghost use Rattle.wording.specs.Words.{wordsOf};
-ghost use Rattle.declarations.specs.Table.{draftOf, lineSaid, Fit, Named};
+ghost use Rattle.words.specs.Spans.{NamesIn};
+ghost use Rattle.declarations.specs.Table.{draftOf, lineSaid, Fit};
 ghost use Rattle.compiling.specs.Line.{behind, Took};
 
 // A refusal, or 0 and what the lines with one more have said. `rule` is 1 where the line is a rule, which `parsed` holds, else 0.
@@ -36,28 +37,28 @@ fn words_behind(
     end: usize,
     at: usize,
     starts: &mut [usize],
-    ends: &mut [usize],
+    lengths: &mut [u8],
     left: &mut [u8],
     table: Table,
     k: usize,
 ) -> Lined
-    requires { ⌜ (at ≤ end) × (end ≤ length (now text)) × (k < 5) × Fit table × Named (now text) (now starts) (now ends) × (length (now left) ≡ 64) ⌝ }
-    ensures { λ r. ⌜ ((rules : List Rule) → lineSaid (now (text .entry)) (now (starts .exit)) (now (ends .exit)) (now (left .exit)) rules r ≡ behind k (draftOf (now (text .entry)) (now (starts .entry)) (now (ends .entry)) (now (left .entry)) table rules) (wordsOf (part (now (text .entry)) at (end - at)))) × Fit (r .table) × Named (now (text .entry)) (now (starts .exit)) (now (ends .exit)) ⌝ }
+    requires { ⌜ (at ≤ end) × (end ≤ length (now text)) × (k < 5) × Fit table × NamesIn 76 (now text) (now starts) (now lengths) × (length (now left) ≡ 64) ⌝ }
+    ensures { λ r. ⌜ ((rules : List Rule) → lineSaid (now (text .entry)) (now (starts .exit)) (now (lengths .exit)) (now (left .exit)) rules r ≡ behind k (draftOf (now (text .entry)) (now (starts .entry)) (now (lengths .entry)) (now (left .entry)) table rules) (wordsOf (part (now (text .entry)) at (end - at)))) × Fit (r .table) × NamesIn 76 (now (text .entry)) (now (starts .exit)) (now (lengths .exit)) ⌝ }
 {
     if k == 3 {
-        return location_line(text, end, at, starts, ends, left, table);
+        return location_line(text, end, at, starts, lengths, left, table);
     }
     let few = few_words(text, end, at);
     if k == 0 {
-        return input_line(text, few, starts, ends, table);
+        return input_line(text, few, starts, lengths, table);
     }
     if k == 1 {
-        return output_line(text, few, starts, ends, table);
+        return output_line(text, few, starts, lengths, table);
     }
     if k == 2 {
-        return clock_line(text, few, starts, ends, table);
+        return clock_line(text, few, starts, lengths, table);
     }
-    at_line(text, few, starts, ends, table)
+    at_line(text, few, starts, lengths, table)
 }
 
 // The line from `at` to `end`, after `count` rules.
@@ -66,13 +67,13 @@ pub(crate) fn read_line(
     end: usize,
     at: usize,
     starts: &mut [usize],
-    ends: &mut [usize],
+    lengths: &mut [u8],
     left: &mut [u8],
     table: Table,
     count: usize,
 ) -> Taken
-    requires { ⌜ (at ≤ end) × (end ≤ length (now text)) × Fit table × Named (now text) (now starts) (now ends) × (length (now left) ≡ 64) ⌝ }
-    ensures { λ r. ⌜ Took (now (text .entry)) (draftOf (now (text .entry)) (now (starts .entry)) (now (ends .entry)) (now (left .entry)) table) end at count r (draftOf (now (text .entry)) (now (starts .exit)) (now (ends .exit)) (now (left .exit)) (r .table)) × Named (now (text .entry)) (now (starts .exit)) (now (ends .exit)) ⌝ }
+    requires { ⌜ (at ≤ end) × (end ≤ length (now text)) × Fit table × NamesIn 76 (now text) (now starts) (now lengths) × (length (now left) ≡ 64) ⌝ }
+    ensures { λ r. ⌜ Took (now (text .entry)) (draftOf (now (text .entry)) (now (starts .entry)) (now (lengths .entry)) (now (left .entry)) table) end at count r (draftOf (now (text .entry)) (now (starts .exit)) (now (lengths .exit)) (now (left .exit)) (r .table)) × NamesIn 76 (now (text .entry)) (now (starts .exit)) (now (lengths .exit)) ⌝ }
 {
     let first = word_in(text, end, at);
     let a = first.start;
@@ -88,7 +89,7 @@ pub(crate) fn read_line(
     }
     let k = keyword(&text[a..b]);
     if k < 5 {
-        let lined = words_behind(text, end, b, starts, ends, left, table, k);
+        let lined = words_behind(text, end, b, starts, lengths, left, table, k);
         let declared = lined.table;
         return Taken {
             refusal: lined.refusal,
@@ -97,7 +98,7 @@ pub(crate) fn read_line(
             table: declared,
         };
     }
-    let step = rule_line(text, end, at, starts, ends, table, count);
+    let step = rule_line(text, end, at, starts, lengths, table, count);
     let parsed = step.parsed;
     let mut t = table;
     t.stage = 5;

@@ -8,7 +8,8 @@ ghost use mathlib.Core.List.{List, []};
 ghost use Prim.Native.Nat.{ℕ, _+_, _≤_, _<_};
 ghost use lib.ListN.{length};
 ghost use Rattle.wording.specs.Reader.{empty};
-ghost use Rattle.declarations.specs.Table.{draftOf, Fit, Named};
+ghost use Rattle.words.specs.Spans.{NamesIn};
+ghost use Rattle.declarations.specs.Table.{draftOf, Fit};
 ghost use Rattle.compiling.specs.Stored.{Held};
 
 // A refusal and its line; or 0, and what all lines have said, with how many rules, which take the first `used` bytes that are kept.
@@ -22,7 +23,7 @@ pub(crate) struct Said {
 
 // Before the first line.
 fn unread() -> Table
-    ensures { λ r. ⌜ ((text starts ends left : List ℕ) → draftOf text starts ends left r [] ≡ empty) × Fit r ⌝ }
+    ensures { λ r. ⌜ ((text starts lengths left : List ℕ) → draftOf text starts lengths left r [] ≡ empty) × Fit r ⌝ }
 {
     Table {
         tags: [0; 8],
@@ -49,11 +50,11 @@ pub(crate) fn read_lines(
     text: &[u8],
     kept: &mut [u8],
     starts: &mut [usize],
-    ends: &mut [usize],
+    lengths: &mut [u8],
     left: &mut [u8],
 ) -> Said
-    requires { ⌜ (length (now kept) ≡ 5888) × Named (now text) (now starts) (now ends) × (length (now left) ≡ 64) ⌝ }
-    ensures { λ r. ⌜ Held (now (text .entry)) (now (kept .entry)) r (draftOf (now (text .entry)) (now (starts .exit)) (now (ends .exit)) (now (left .exit)) (r .table)) (now (kept .exit)) × Fit (r .table) × (r .count ≤ 256) ⌝ }
+    requires { ⌜ (length (now kept) ≡ 5888) × NamesIn 76 (now text) (now starts) (now lengths) × (length (now left) ≡ 64) ⌝ }
+    ensures { λ r. ⌜ Held (now (text .entry)) (now (kept .entry)) r (draftOf (now (text .entry)) (now (starts .exit)) (now (lengths .exit)) (now (left .exit)) (r .table)) (now (kept .exit)) × Fit (r .table) × (r .count ≤ 256) ⌝ }
 {
     let mut table = unread();
     let mut count = 0;
@@ -62,7 +63,7 @@ pub(crate) fn read_lines(
     let mut at = 0;
     while at < text.len() {
         let end = line_end(text, at);
-        let taken = read_line(text, end, at, starts, ends, left, table, count);
+        let taken = read_line(text, end, at, starts, lengths, left, table, count);
         if taken.refusal != 0 {
             return Said {
                 refusal: taken.refusal,

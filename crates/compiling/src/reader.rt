@@ -1,9 +1,9 @@
 // The reader: the lines of the text, the file's own check, the room, and then the file.
 use crate::counts::put_counts;
 use crate::lines::read_lines;
-use declarations::table::NAMES;
 use policy::states_of;
 use texts::put_bytes;
+use words::names::NAMES;
 ghost use mathlib.Core.Path.{_≡_};
 ghost use Prim.Native.Nat.{ℕ, _+_, _*_, _≤_, _<_};
 ghost use lib.Dec.{leb};
@@ -56,9 +56,9 @@ pub fn judge(text: &[u8], out: &mut [u8]) -> Judged
 {
     let mut kept = [0u8; ALL_RULES];
     let mut starts = [0usize; NAMES];
-    let mut ends = [0usize; NAMES];
+    let mut lengths = [0u8; NAMES];
     let mut left = [0u8; 64];
-    let said = read_lines(text, &mut kept, &mut starts, &mut ends, &mut left);
+    let said = read_lines(text, &mut kept, &mut starts, &mut lengths, &mut left);
     if said.refusal != 0 {
         return Judged {
             read: ReadText {

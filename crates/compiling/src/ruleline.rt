@@ -1,7 +1,5 @@
 // The line of a rule.
 use conditions::steps::Step;
-use declarations::table::CLOCK_NAMES;
-use declarations::table::LOCATION_NAMES;
 use declarations::table::Table;
 use phrases::ended::rule_refusal;
 use phrases::told::rule_words;
@@ -16,9 +14,9 @@ ghost use Rattle.policy.specs.Rules.{Rule};
 ghost use Rattle.wording.specs.Words.{wordsOf};
 ghost use Rattle.wording.specs.Names.{through};
 ghost use Rattle.wording.specs.Reader.{scope, bare, ruleWord, ruleLine};
-ghost use Rattle.words.specs.Spans.{placeBelow};
+ghost use Rattle.words.specs.Spans.{NamesIn, placeBelow};
 ghost use Rattle.conditions.specs.Steps.{stepSaid, Masked};
-ghost use Rattle.declarations.specs.Table.{draftOf, Fit, Named};
+ghost use Rattle.declarations.specs.Table.{draftOf, Fit};
 ghost use Rattle.compiling.specs.RuleLine.{ruled};
 
 // All words of the line from `at` to `end`, by the names that are declared.
@@ -27,11 +25,11 @@ fn words_by(
     end: usize,
     at: usize,
     starts: &[usize],
-    ends: &[usize],
+    lengths: &[u8],
     table: Table,
 ) -> Step
-    requires { ⌜ (at ≤ end) × (end ≤ length (now text)) × Fit table × Named (now text) (now starts) (now ends) ⌝ }
-    ensures { λ r. ⌜ ((left : List ℕ) (rules : List Rule) → stepSaid (table .clocks) r ≡ through (ruleWord (scope (draftOf (now (text .entry)) (now (starts .entry)) (now (ends .entry)) left table rules))) (bare (table .clocks)) (wordsOf (part (now (text .entry)) at (end - at)))) × Masked (r .parsed) ⌝ }
+    requires { ⌜ (at ≤ end) × (end ≤ length (now text)) × Fit table × NamesIn 76 (now text) (now starts) (now lengths) ⌝ }
+    ensures { λ r. ⌜ ((left : List ℕ) (rules : List Rule) → stepSaid (table .clocks) r ≡ through (ruleWord (scope (draftOf (now (text .entry)) (now (starts .entry)) (now (lengths .entry)) left table rules))) (bare (table .clocks)) (wordsOf (part (now (text .entry)) at (end - at)))) × Masked (r .parsed) ⌝ }
 {
     let tags = table.tags;
     let signals = table.signals;
@@ -39,12 +37,8 @@ fn words_by(
         text,
         &tags[..signals],
         starts,
-        ends,
-        &starts[CLOCK_NAMES..],
-        &ends[CLOCK_NAMES..],
+        lengths,
         table.clocks,
-        &starts[LOCATION_NAMES..],
-        &ends[LOCATION_NAMES..],
         table.places,
         &text[at..end],
     )
@@ -56,12 +50,12 @@ pub(crate) fn rule_line(
     end: usize,
     at: usize,
     starts: &[usize],
-    ends: &[usize],
+    lengths: &[u8],
     table: Table,
     count: usize,
 ) -> Step
-    requires { ⌜ (at ≤ end) × (end ≤ length (now text)) × Fit table × Named (now text) (now starts) (now ends) ⌝ }
-    ensures { λ r. ⌜ ((left : List ℕ) (rules : List Rule) → length rules ≡ count → answer (r .refusal) (ruled (now (text .entry)) (now (starts .entry)) (now (ends .entry)) left table rules (r .parsed)) ≡ ruleLine (draftOf (now (text .entry)) (now (starts .entry)) (now (ends .entry)) left table rules) (wordsOf (part (now (text .entry)) at (end - at))) (placeBelow 64 (table .source))) × Masked (r .parsed) × (r .refusal ≡ 0 → (table .source < 64) × (count < 256)) ⌝ }
+    requires { ⌜ (at ≤ end) × (end ≤ length (now text)) × Fit table × NamesIn 76 (now text) (now starts) (now lengths) ⌝ }
+    ensures { λ r. ⌜ ((left : List ℕ) (rules : List Rule) → length rules ≡ count → answer (r .refusal) (ruled (now (text .entry)) (now (starts .entry)) (now (lengths .entry)) left table rules (r .parsed)) ≡ ruleLine (draftOf (now (text .entry)) (now (starts .entry)) (now (lengths .entry)) left table rules) (wordsOf (part (now (text .entry)) at (end - at))) (placeBelow 64 (table .source))) × Masked (r .parsed) × (r .refusal ≡ 0 → (table .source < 64) × (count < 256)) ⌝ }
 {
     if 64 <= table.source {
         return Step {
@@ -69,7 +63,7 @@ pub(crate) fn rule_line(
             parsed: unsaid(),
         };
     }
-    let step = words_by(text, end, at, starts, ends, table);
+    let step = words_by(text, end, at, starts, lengths, table);
     if step.refusal != 0 {
         return step;
     }

@@ -13,10 +13,10 @@ use Rattle.wording.specs.Names.{find, known}
 use Rattle.words.specs.Spans.{spans, placeBelow}
 use Rattle.wording.specs.Reader.{Scope, Begun, sign, turn, onSignal, signalBy, signal, signalOr, condition}
 
--- The scope of a rule, by what the code has: tags, spans of the text for the names, the clocks and the locations.
-abbrev pub scopeOf : (text tags starts ends clockStarts clockEnds : List ℕ) (clocks : ℕ) → List Word → Scope
-scopeOf text tags starts ends clockStarts clockEnds clocks places =
-    record { letters = tags; names = spans text starts ends 0 (length tags); clocks = spans text clockStarts clockEnds 0 clocks; places = places }
+-- The scope of a rule, by what the code has: tags, and spans of the text for the names of signals, clocks and locations.
+abbrev pub scopeOf : (text tags starts lengths : List ℕ) (clocks places : ℕ) → Scope
+scopeOf text tags starts lengths clocks places =
+    record { letters = tags; names = spans text starts lengths 0 (length tags); clocks = spans text starts lengths 8 clocks; places = spans text starts lengths 12 places }
 
 module _ {A : Type 0} {o : Option ℕ} {n i : ℕ} (e : o ≡ placeBelow n i) (go : ℕ → Answer A) where
   -- A place below n was found: the answer goes on from it.

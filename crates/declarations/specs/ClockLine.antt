@@ -17,9 +17,10 @@ use Rattle.wording.specs.Words.{Word, Line}
 use Rattle.wording.specs.Names.{find, isName, must, _andThen_}
 use Rattle.words.specs.Counted.{numberOf, numbered-then}
 use Rattle.wording.specs.Reader.{Draft, clockLine}
+use Rattle.words.specs.Spans.{NamesIn}
 use Rattle.words.specs.Firsts.{Shaped}
 use Rattle.declarations.specs.Fresh.{nameRefusal, refuse, refusing, clock-new, spans-other, spans-more, take-more}
-use Rattle.declarations.specs.Table.{draftOf, Fit, Named}
+use Rattle.declarations.specs.Table.{draftOf, Fit}
 use Rattle.declarations.specs.declared.table.Table.{Table}
 
 -- One clock more, by its name and its ceiling.
@@ -138,17 +139,17 @@ moreClock t c =
       source = t .source;
     }
 
-module _ {text starts ends : List ℕ} {t : Table} (f : Fit t) (p : Named text starts ends) (a b c : ℕ) (h : t .clocks < 4) where
+module _ {text starts lengths : List ℕ} {t : Table} (f : Fit t) (p : NamesIn 76 text starts lengths) (a b c : ℕ) (h : t .clocks < 4) where
   -- Stored in the table and the slices, the new clock comes after the others, and all else stays.
   pub clock-more : (left : List ℕ) (rules : List Rule) →
-      draftOf text (set starts (8 + t .clocks) a) (set ends (8 + t .clocks) b) left (moreClock t c) rules ≡ withClock (draftOf text starts ends left t rules) (part text a (b - a)) c
+      draftOf text (set starts (8 + t .clocks) a) (set lengths (8 + t .clocks) b) left (moreClock t c) rules ≡ withClock (draftOf text starts lengths left t rules) (part text a b) c
   clock-more left rules =
-      let d = draftOf text starts ends left t rules in
+      let d = draftOf text starts lengths left t rules in
       let few = f .inputs in
       let more = f .outputs in
-      let names = spans-other text starts ends (8 + t .clocks) a b 0 (t .signals) (λ i x y z. omega arith) in
-      let clocks = spans-more text starts ends 8 (t .clocks) (8 + t .clocks) a b refl (omega (arith, p .starts-long)) (omega (arith, p .ends-long)) in
-      let places = spans-other text starts ends (8 + t .clocks) a b 12 (t .places) (λ i x y z. omega arith) in
+      let names = spans-other text starts lengths (8 + t .clocks) a b 0 (t .signals) (λ i x y z. omega arith) in
+      let clocks = spans-more text starts lengths 8 (t .clocks) (8 + t .clocks) a b refl (omega (arith, p .starts-long)) (omega (arith, p .lengths-long)) in
+      let places = spans-other text starts lengths (8 + t .clocks) a b 12 (t .places) (λ i x y z. omega arith) in
       let tops = take-more (t .ceilings) (t .clocks) c (omega (arith, f .ceilings-long)) in
       (λ i. record { inputs = d .inputs; outputs = d .outputs; names = names i; clocks = clocks i; ceilings = tops i; places = places i; left = d .left; rules = rules; stage = 3; source = d .source })
 

@@ -1,22 +1,21 @@
 -- New names and what is kept of them.
--- In order: whether a word may be a new name; the slices of the names, from k on; one name more in them.
+-- In order: whether a word may be a new name; one name more in the slices of the names.
 use mathlib.Core.Path.{_≡_, refl, ap, _∙_}
 use mathlib.Core.Bool.{Bool, true, false}
 use mathlib.Core.List.{List, [], _∷_, _++_}
 use mathlib.Core.Option.{Option, none, some}
-use Prim.Native.Nat.{ℕ, zero, suc, _+_, _-_, _≤_, _<_}
+use Prim.Native.Nat.{ℕ, zero, suc, _+_, _≤_, _<_}
 use native.Mathlib.Omega.{arith}
 use lib.Dec.{eqb}
-use lib.ListN.{length, getD, take, drop, set, length-set, length-drop}
-use lib.Seq.{getD-set-same, getD-set-other, getD-drop, take-all, take-suc-set}
+use lib.ListN.{length, getD, take, set, length-set}
+use lib.Seq.{getD-set-same, getD-set-other, take-suc-set}
 use borrow.Author.Tests.{lt-ltb, le-ltb, eqb-true, eqb-false}
 use Rattle.streams.specs.Answer.{Answer, refused, answer}
 use Rattle.policy.specs.File.{part}
 use Rattle.wording.specs.Words.{Word, Line}
 use Rattle.wording.specs.Names.{must, free, find, isName}
-use Rattle.words.specs.Spans.{spans, Within, placeBelow}
+use Rattle.words.specs.Spans.{spans, NamesIn, placeBelow}
 use Rattle.wording.specs.Reader.{Draft}
-use Rattle.declarations.specs.Table.{Named}
 use Rattle.declarations.specs.declared.table.Table.{Table}
 
 -- 30: no name. 31: it is taken.
@@ -27,8 +26,8 @@ nameRefusal true none (some i) = 31
 nameRefusal true none none = 0
 
 -- As a new name of a signal or of a clock.
-abbrev pub nameFound : (text starts ends : List ℕ) → Table → Word → ℕ
-nameFound text starts ends t w = nameRefusal (isName w) (find 0 w (spans text starts ends 0 (t .signals))) (find 0 w (spans text starts ends 8 (t .clocks)))
+abbrev pub nameFound : (text starts lengths : List ℕ) → Table → Word → ℕ
+nameFound text starts lengths t w = nameRefusal (isName w) (find 0 w (spans text starts lengths 0 (t .signals))) (find 0 w (spans text starts lengths 8 (t .clocks)))
 
 -- A word that cannot be a name is refused by 30.
 pub name-not : (t : Bool) (o p : Option ℕ) → t ≡ false → 30 ≡ nameRefusal t o p
@@ -71,83 +70,54 @@ signal-new true (some i) p a = refl
 signal-new true none (some j) a = refl
 signal-new true none none a = refl
 
--- The places from k on.
-whole : (k : ℕ) (l : List ℕ) → take (length l - k) (drop k l) ≡ drop k l
-whole k l = take-all (length l - k) (drop k l) (omega (arith, length-drop k l))
-
-module _ (text s e : List ℕ) where
-  dropped : (k j n : ℕ) → spans text (drop k s) (drop k e) j n ≡ spans text s e (k + j) n
-  unfolding spans
-  dropped k j zero = refl
-  dropped k j (suc n) =
-      let q : k + suc j ≡ suc (k + j) = omega arith in
-      rw (getD-drop k s j 0, getD-drop k e j 0, dropped k (suc j) n, q)
-
-  -- Cut off before k, the slices have from 0 on the names that they had from k on.
-  pub spans-behind : (k n : ℕ) → spans text (take (length s - k) (drop k s)) (take (length e - k) (drop k e)) 0 n ≡ spans text s e k n
-  spans-behind k n =
-      let q : k + 0 ≡ k = omega arith in
-      (λ i. spans text (whole k s i) (whole k e i) 0 n) ∙ dropped k 0 n ∙ ap (λ (j : ℕ). spans text s e j n) q
-
-  -- Cut off before k, the slices still have only names within the text.
-  pub within-behind : {m : ℕ} → Within text s e m → (k n : ℕ) → k + n ≤ m → Within text (take (length s - k) (drop k s)) (take (length e - k) (drop k e)) n
-  within-behind w k n h j l =
-      let at = w (k + j) (omega arith) in
-      rw (whole k s, whole k e, getD-drop k s j 0, getD-drop k e j 0) at
-
--- Cut off before k, a list of at least k + n numbers has at least n.
-pub behind-long : (k n : ℕ) (l : List ℕ) → k + n ≤ length l → n ≤ length (take (length l - k) (drop k l))
-behind-long k n l h = rw (whole k l, length-drop k l) (omega arith)
-
 -- How many names there are, and what a store of one more leaves and adds.
 module _ (text : List ℕ) where
   -- There are as many names as are asked for.
-  pub spans-long : (s e : List ℕ) (k n : ℕ) → length (spans text s e k n) ≡ n
+  pub spans-long : (s l : List ℕ) (k n : ℕ) → length (spans text s l k n) ≡ n
   unfolding spans
-  spans-long s e k zero = refl
-  spans-long s e k (suc n) = ap suc (spans-long s e (suc k) n)
+  spans-long s l k zero = refl
+  spans-long s l k (suc n) = ap suc (spans-long s l (suc k) n)
 
-  module _ (s e : List ℕ) (n a b : ℕ) where
+  module _ (s l : List ℕ) (n a b : ℕ) where
     -- A store changes no name that stands elsewhere.
-    pub spans-other : (k m : ℕ) → ((i : ℕ) → k ≤ i → i < k + m → i ≡ n → ⊥) → spans text (set s n a) (set e n b) k m ≡ spans text s e k m
+    pub spans-other : (k m : ℕ) → ((i : ℕ) → k ≤ i → i < k + m → i ≡ n → ⊥) → spans text (set s n a) (set l n b) k m ≡ spans text s l k m
     unfolding spans
     spans-other k zero h = refl
     spans-other k (suc m) h =
         let z : k ≡ n → ⊥ = h k (omega arith) (omega arith) in
-        rw (getD-set-other s n k a 0 z, getD-set-other e n k b 0 z, spans-other (suc k) m (λ i x y. h i (omega arith) (omega arith)))
+        rw (getD-set-other s n k a 0 z, getD-set-other l n k b 0 z, spans-other (suc k) m (λ i x y. h i (omega arith) (omega arith)))
 
-  snoc : (s e : List ℕ) (k n m : ℕ) → k + n ≡ m → spans text s e k (suc n) ≡ spans text s e k n ++ (part text (getD s m 0) (getD e m 0 - getD s m 0) ∷ [])
+  snoc : (s l : List ℕ) (k n m : ℕ) → k + n ≡ m → spans text s l k (suc n) ≡ spans text s l k n ++ (part text (getD s m 0) (getD l m 0) ∷ [])
   unfolding spans
-  snoc s e k zero m h = let q : k ≡ m = omega arith in ap (λ (j : ℕ). part text (getD s j 0) (getD e j 0 - getD s j 0) ∷ []) q
-  snoc s e k (suc n) m h = ap (λ (z : Line). part text (getD s k 0) (getD e k 0 - getD s k 0) ∷ z) (snoc s e (suc k) n m (omega arith))
+  snoc s l k zero m h = let q : k ≡ m = omega arith in ap (λ (j : ℕ). part text (getD s j 0) (getD l j 0) ∷ []) q
+  snoc s l k (suc n) m h = ap (λ (z : Line). part text (getD s k 0) (getD l k 0) ∷ z) (snoc s l (suc k) n m (omega arith))
 
   -- A name stored directly after n others makes them n + 1, with this one as the last.
-  pub spans-more : (s e : List ℕ) (k n m a b : ℕ) → k + n ≡ m → m < length s → m < length e → spans text (set s m a) (set e m b) k (n + 1) ≡ spans text s e k n ++ (part text a (b - a) ∷ [])
-  spans-more s e k n m a b at h l =
+  pub spans-more : (s l : List ℕ) (k n m a b : ℕ) → k + n ≡ m → m < length s → m < length l → spans text (set s m a) (set l m b) k (n + 1) ≡ spans text s l k n ++ (part text a b ∷ [])
+  spans-more s l k n m a b at h g =
       let q : n + 1 ≡ suc n = omega arith in
       let ka = getD-set-same s m a 0 h in
-      let kb = getD-set-same e m b 0 l in
-      ap (spans text (set s m a) (set e m b) k) q
-      ∙ snoc (set s m a) (set e m b) k n m at
-      ∙ (λ i. spans-other s e m a b k n (λ j x y z. omega arith) i ++ (part text (ka i) (kb i - ka i) ∷ []))
+      let kb = getD-set-same l m b 0 g in
+      ap (spans text (set s m a) (set l m b) k) q
+      ∙ snoc (set s m a) (set l m b) k n m at
+      ∙ (λ i. spans-other s l m a b k n (λ j x y z. omega arith) i ++ (part text (ka i) (kb i) ∷ []))
 
 -- All names are still within the text when one more that is within it is stored.
-pub named-more : {text s e : List ℕ} → Named text s e → (n a b : ℕ) → n < 76 → a ≤ b → b ≤ length text → Named text (set s n a) (set e n b)
-named-more {text} {s} {e} w n a b h o m =
+pub names-more : {text s l : List ℕ} → NamesIn 76 text s l → (n a b : ℕ) → n < 76 → a + b ≤ length text → NamesIn 76 text (set s n a) (set l n b)
+names-more {text} {s} {l} p n a b h m =
     record {
-      starts-long = length-set s n a ∙ w .starts-long;
-      ends-long = length-set e n b ∙ w .ends-long;
-      within = λ k l. go k l (eqb k n) refl;
+      starts-long = rw (length-set s n a) (p .starts-long);
+      lengths-long = rw (length-set l n b) (p .lengths-long);
+      within = λ k j. go k j (eqb k n) refl;
     }
   where
-    go : (k : ℕ) → k < 76 → (t : Bool) → eqb k n ≡ t → (getD (set s n a) k 0 ≤ getD (set e n b) k 0) × (getD (set e n b) k 0 ≤ length text)
-    go k l true t =
+    go : (k : ℕ) → k < 76 → (t : Bool) → eqb k n ≡ t → getD (set s n a) k 0 + getD (set l n b) k 0 ≤ length text
+    go k j true t =
         let q : k ≡ n = eqb-true k n t in
-        rw (q, getD-set-same s n a 0 (omega (arith, w .starts-long)), getD-set-same e n b 0 (omega (arith, w .ends-long))) (o, m)
-    go k l false t =
+        rw (q, getD-set-same s n a 0 (omega (arith, p .starts-long)), getD-set-same l n b 0 (omega (arith, p .lengths-long))) m
+    go k j false t =
         let z = eqb-false k n t in
-        let old = w .within k l in
-        rw (getD-set-other s n k a 0 z, getD-set-other e n k b 0 z) old
+        rw (getD-set-other s n k a 0 z, getD-set-other l n k b 0 z) (p .within k j)
 
 -- A number stored at n makes the first n numbers n + 1, with this one as the last.
 pub take-more : (l : List ℕ) (n a : ℕ) → n < length l → take (n + 1) (set l n a) ≡ take n l ++ (a ∷ [])

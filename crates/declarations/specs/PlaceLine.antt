@@ -14,12 +14,12 @@ use Rattle.policy.specs.Rules.{Rule}
 use Rattle.policy.specs.File.{part}
 use Rattle.wording.specs.Words.{Word, Line, wordsOf}
 use Rattle.wording.specs.Names.{find, is, isName, must}
-use Rattle.words.specs.Spans.{placeBelow}
+use Rattle.words.specs.Spans.{NamesIn, placeBelow}
 use Rattle.wording.specs.Reader.{Draft, newPlace, locationLine}
 use Rattle.words.specs.Keywords.{keywords, keyword-is}
 use Rattle.words.specs.Firsts.{NextIn, in-none, in-word}
 use Rattle.declarations.specs.Fresh.{spans-other, spans-more, take-more}
-use Rattle.declarations.specs.Table.{draftOf, Fit, Named}
+use Rattle.declarations.specs.Table.{draftOf, Fit}
 use Rattle.declarations.specs.declared.table.Table.{Table}
 
 -- One location more, by its name and its byte.
@@ -100,18 +100,18 @@ morePlace t =
       source = t .source;
     }
 
-module _ {text starts ends : List ℕ} {t : Table} (f : Fit t) (p : Named text starts ends) (a b c : ℕ) (h : t .places < 64) where
+module _ {text starts lengths : List ℕ} {t : Table} (f : Fit t) (p : NamesIn 76 text starts lengths) (a b c : ℕ) (h : t .places < 64) where
   -- Stored in the table and the slices, the new location comes after the others, and all else stays.
   pub place-more : (left : List ℕ) → length left ≡ 64 → (rules : List Rule) →
-      draftOf text (set starts (12 + t .places) a) (set ends (12 + t .places) b) (set left (t .places) c) (morePlace t) rules ≡ withPlace (draftOf text starts ends left t rules) (part text a (b - a)) c
+      draftOf text (set starts (12 + t .places) a) (set lengths (12 + t .places) b) (set left (t .places) c) (morePlace t) rules ≡ withPlace (draftOf text starts lengths left t rules) (part text a b) c
   place-more left long rules =
-      let d = draftOf text starts ends left t rules in
+      let d = draftOf text starts lengths left t rules in
       let few = f .inputs in
       let more = f .outputs in
       let four = f .clocks in
-      let names = spans-other text starts ends (12 + t .places) a b 0 (t .signals) (λ i x y z. omega arith) in
-      let clocks = spans-other text starts ends (12 + t .places) a b 8 (t .clocks) (λ i x y z. omega arith) in
-      let places = spans-more text starts ends 12 (t .places) (12 + t .places) a b refl (omega (arith, p .starts-long)) (omega (arith, p .ends-long)) in
+      let names = spans-other text starts lengths (12 + t .places) a b 0 (t .signals) (λ i x y z. omega arith) in
+      let clocks = spans-other text starts lengths (12 + t .places) a b 8 (t .clocks) (λ i x y z. omega arith) in
+      let places = spans-more text starts lengths 12 (t .places) (12 + t .places) a b refl (omega (arith, p .starts-long)) (omega (arith, p .lengths-long)) in
       let bytes = take-more left (t .places) c (omega arith) in
       (λ i. record { inputs = d .inputs; outputs = d .outputs; names = names i; clocks = clocks i; ceilings = d .ceilings; places = places i; left = bytes i; rules = rules; stage = 4; source = d .source })
 

@@ -15,11 +15,11 @@ use Rattle.policy.specs.Rules.{Rule}
 use Rattle.policy.specs.File.{part}
 use Rattle.wording.specs.Words.{Word, Line}
 use Rattle.wording.specs.Names.{find, isName, must, _andThen_}
-use Rattle.words.specs.Spans.{spans}
+use Rattle.words.specs.Spans.{spans, NamesIn}
 use Rattle.wording.specs.Reader.{Draft, tags, letter, withInput, withOutput, signalLine, inputLine, outputLine}
 use Rattle.words.specs.Firsts.{Shaped}
 use Rattle.declarations.specs.Fresh.{nameRefusal, nameFound, refuse, signal-new, spans-other, spans-more, take-more}
-use Rattle.declarations.specs.Table.{draftOf, Fit, Named}
+use Rattle.declarations.specs.Table.{draftOf, Fit}
 use Rattle.declarations.specs.declared.table.Table.{Table}
 
 -- A refusal of the second word, if there is one.
@@ -100,28 +100,28 @@ fit-signal {t} f c inputs stage i o r k =
       ceilings-long = f .ceilings-long;
     }
 
-module _ {text starts ends : List ℕ} {t : Table} (f : Fit t) (p : Named text starts ends) (a b c : ℕ) where
+module _ {text starts lengths : List ℕ} {t : Table} (f : Fit t) (p : NamesIn 76 text starts lengths) (a b c : ℕ) where
   -- The other names stay.
   module _ (left : List ℕ) (rules : List Rule) (h : t .signals < 8) where
     abbrev signalled : Line → (inputs outputs : List ℕ) → ℕ → Draft
     signalled names inputs outputs stage =
-        let d = draftOf text starts ends left t rules in
+        let d = draftOf text starts lengths left t rules in
         record { inputs = inputs; outputs = outputs; names = names; clocks = d .clocks; ceilings = d .ceilings; places = d .places; left = d .left; rules = rules; stage = stage; source = d .source }
 
     signal-more : (inputs : ℕ) {stage : ℕ} {ins outs : List ℕ} → take inputs (set (t .tags) (t .signals) c) ≡ ins → take (t .signals + 1 - inputs) (drop inputs (set (t .tags) (t .signals) c)) ≡ outs →
-        draftOf text (set starts (t .signals) a) (set ends (t .signals) b) left (moreSignal t c inputs stage) rules ≡ signalled (spans text starts ends 0 (t .signals) ++ (part text a (b - a) ∷ [])) ins outs stage
+        draftOf text (set starts (t .signals) a) (set lengths (t .signals) b) left (moreSignal t c inputs stage) rules ≡ signalled (spans text starts lengths 0 (t .signals) ++ (part text a b ∷ [])) ins outs stage
     signal-more inputs {stage} ins outs =
-        let d = draftOf text starts ends left t rules in
-        let names = spans-more text starts ends 0 (t .signals) (t .signals) a b (omega arith) (omega (arith, p .starts-long)) (omega (arith, p .ends-long)) in
-        let clocks = spans-other text starts ends (t .signals) a b 8 (t .clocks) (λ i x y z. omega arith) in
-        let places = spans-other text starts ends (t .signals) a b 12 (t .places) (λ i x y z. omega arith) in
+        let d = draftOf text starts lengths left t rules in
+        let names = spans-more text starts lengths 0 (t .signals) (t .signals) a b (omega arith) (omega (arith, p .starts-long)) (omega (arith, p .lengths-long)) in
+        let clocks = spans-other text starts lengths (t .signals) a b 8 (t .clocks) (λ i x y z. omega arith) in
+        let places = spans-other text starts lengths (t .signals) a b 12 (t .places) (λ i x y z. omega arith) in
         (λ i. record { inputs = ins i; outputs = outs i; names = names i; clocks = clocks i; ceilings = d .ceilings; places = places i; left = d .left; rules = rules; stage = stage; source = d .source })
 
   -- An input, before all outputs.
   module _ (h : t .inputs < 4) (s : t .stage ≤ 1) where
     -- Stored in the table and the slices, the new input comes after the others, and all else stays.
     pub input-more : (left : List ℕ) (rules : List Rule) →
-        draftOf text (set starts (t .signals) a) (set ends (t .signals) b) left (moreSignal t c (t .signals + 1) 1) rules ≡ withInput (draftOf text starts ends left t rules) c (part text a (b - a))
+        draftOf text (set starts (t .signals) a) (set lengths (t .signals) b) left (moreSignal t c (t .signals + 1) 1) rules ≡ withInput (draftOf text starts lengths left t rules) c (part text a b)
     input-more left rules =
         let same = f .first s in
         let ins : take (t .signals + 1) (set (t .tags) (t .signals) c) ≡ take (t .inputs) (t .tags) ++ (c ∷ []) =
@@ -139,7 +139,7 @@ module _ {text starts ends : List ℕ} {t : Table} (f : Fit t) (p : Named text s
   module _ (h : t .signals < t .inputs + 4) where
     -- Stored in the table and the slices, the new output comes after the others, and all else stays.
     pub output-more : (left : List ℕ) (rules : List Rule) →
-        draftOf text (set starts (t .signals) a) (set ends (t .signals) b) left (moreSignal t c (t .inputs) 2) rules ≡ withOutput (draftOf text starts ends left t rules) c (part text a (b - a))
+        draftOf text (set starts (t .signals) a) (set lengths (t .signals) b) left (moreSignal t c (t .inputs) 2) rules ≡ withOutput (draftOf text starts lengths left t rules) c (part text a b)
     output-more left rules =
         let order = f .order in
         let few = f .inputs in
@@ -204,9 +204,9 @@ module _ {t : Table} (f : Fit t) where
   pub outputs-long : length (take (t .signals - t .inputs) (drop (t .inputs) (t .tags))) ≡ t .signals - t .inputs
   outputs-long = length-take-le (t .signals - t .inputs) (drop (t .inputs) (t .tags)) (omega (arith, length-drop (t .inputs) (t .tags), f .tags-long, f .inputs, f .outputs, f .order))
 
-module _ (text starts ends left : List ℕ) {t : Table} (f : Fit t) (rules : List Rule) where
+module _ (text starts lengths left : List ℕ) {t : Table} (f : Fit t) (rules : List Rule) where
   -- The letters of all signals, the inputs first, are the first ones in the table.
-  pub tags-whole : tags (draftOf text starts ends left t rules) ≡ take (t .signals) (t .tags)
+  pub tags-whole : tags (draftOf text starts lengths left t rules) ≡ take (t .signals) (t .tags)
   tags-whole =
       let order = f .order in
       let e : t .signals ≡ t .inputs + (t .signals - t .inputs) = omega arith in
@@ -214,7 +214,7 @@ module _ (text starts ends left : List ℕ) {t : Table} (f : Fit t) (rules : Lis
 
   module _ (n : ℕ) (v w : Word) (l : Line) (s : Shaped n v w l) where
     abbrev d : Draft
-    d = draftOf text starts ends left t rules
+    d = draftOf text starts lengths left t rules
 
     -- An input after an output, a clock, a location or an `at` is refused by 30.
     pub input-late : 1 < t .stage → refused 30 ≡ inputLine d l
@@ -242,12 +242,12 @@ module _ (text starts ends left : List ℕ) {t : Table} (f : Fit t) (rules : Lis
       carried zero x go z = absurd (z refl)
       carried (suc r) x go z = refl
 
-      module _ (h : t .stage ≤ 1) (e : answer q c ≡ signalTag (take (t .signals) (t .tags)) (t .inputs) (wanted n (nameFound text starts ends t w)) v) where
+      module _ (h : t .stage ≤ 1) (e : answer q c ≡ signalTag (take (t .signals) (t .tags)) (t .inputs) (wanted n (nameFound text starts lengths t w)) v) where
         input-is : inputLine d l ≡ answer q c andThen λ u. gives (withInput d u w)
         unfolding inputLine
         input-is =
             rw (le-leb (t .stage) 1 h) (signal-line d (length (d .inputs)) (withInput d) n v w l a b s
-            ∙ (λ i. signalTag (tags-whole i) (inputs-long f i) (wanted n (nameFound text starts ends t w)) v andThen λ u. gives (withInput d u w))
+            ∙ (λ i. signalTag (tags-whole i) (inputs-long f i) (wanted n (nameFound text starts lengths t w)) v andThen λ u. gives (withInput d u w))
             ∙ ap (λ (z : Answer ℕ). z andThen λ u. gives (withInput d u w)) (sym e))
 
         -- The refusal of an input's letter, of its name or for want of room is that of the line.
@@ -258,12 +258,12 @@ module _ (text starts ends left : List ℕ) {t : Table} (f : Fit t) (rules : Lis
         pub input-given : q ≡ 0 → gives (withInput d c w) ≡ inputLine d l
         input-given z = sym (input-is ∙ ap (λ (r : ℕ). answer r c andThen λ u. gives (withInput d u w)) z)
 
-      module _ (h : t .stage ≤ 2) (e : answer q c ≡ signalTag (take (t .signals) (t .tags)) (t .signals - t .inputs) (wanted n (nameFound text starts ends t w)) v) where
+      module _ (h : t .stage ≤ 2) (e : answer q c ≡ signalTag (take (t .signals) (t .tags)) (t .signals - t .inputs) (wanted n (nameFound text starts lengths t w)) v) where
         output-is : outputLine d l ≡ answer q c andThen λ u. gives (withOutput d u w)
         unfolding outputLine
         output-is =
             rw (le-leb (t .stage) 2 h) (signal-line d (length (d .outputs)) (withOutput d) n v w l a b s
-            ∙ (λ i. signalTag (tags-whole i) (outputs-long f i) (wanted n (nameFound text starts ends t w)) v andThen λ u. gives (withOutput d u w))
+            ∙ (λ i. signalTag (tags-whole i) (outputs-long f i) (wanted n (nameFound text starts lengths t w)) v andThen λ u. gives (withOutput d u w))
             ∙ ap (λ (z : Answer ℕ). z andThen λ u. gives (withOutput d u w)) (sym e))
 
         -- The refusal of an output's letter, of its name or for want of room is that of the line.

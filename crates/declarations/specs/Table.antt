@@ -11,22 +11,22 @@ use Rattle.streams.specs.Answer.{Answer, refused, gives, answer}
 use Rattle.policy.specs.Rules.{Rule}
 use Rattle.wording.specs.Words.{Word, Line}
 use Rattle.wording.specs.Names.{find}
-use Rattle.words.specs.Spans.{spans, Within, placeBelow}
+use Rattle.words.specs.Spans.{spans, placeBelow}
 use Rattle.wording.specs.Reader.{Draft, risen, atLine}
 use Rattle.words.specs.Firsts.{Shaped}
 use Rattle.declarations.specs.declared.table.Table.{Table}
 use Rattle.declarations.specs.declared.table.Lined.{Lined}
 
--- The places of the names stand in `starts` and `ends`: the signals' from 0 on, the clocks' from 8 on, the locations' from 12 on.
-abbrev pub draftOf : (text starts ends left : List ℕ) → Table → List Rule → Draft
-draftOf text starts ends left t rules =
+-- The places of the names stand in `starts` and `lengths`: the signals' from 0 on, the clocks' from 8 on, the locations' from 12 on.
+abbrev pub draftOf : (text starts lengths left : List ℕ) → Table → List Rule → Draft
+draftOf text starts lengths left t rules =
     record {
       inputs = take (t .inputs) (t .tags);
       outputs = take (t .signals - t .inputs) (drop (t .inputs) (t .tags));
-      names = spans text starts ends 0 (t .signals);
-      clocks = spans text starts ends 8 (t .clocks);
+      names = spans text starts lengths 0 (t .signals);
+      clocks = spans text starts lengths 8 (t .clocks);
       ceilings = take (t .clocks) (t .ceilings);
-      places = spans text starts ends 12 (t .places);
+      places = spans text starts lengths 12 (t .places);
       left = take (t .places) left;
       rules = rules;
       stage = t .stage;
@@ -34,8 +34,8 @@ draftOf text starts ends left t rules =
     }
 
 -- What the code answers to a line: a refusal, or what the lines with this one have said.
-abbrev pub lineSaid : (text starts ends left : List ℕ) → List Rule → Lined → Answer Draft
-lineSaid text starts ends left rules r = answer (r .refusal) (draftOf text starts ends left (r .table) rules)
+abbrev pub lineSaid : (text starts lengths left : List ℕ) → List Rule → Lined → Answer Draft
+lineSaid text starts lengths left rules r = answer (r .refusal) (draftOf text starts lengths left (r .table) rules)
 
 -- The counts are in their limits, and no output stands before the last input.
 pub record Fit (t : Table) : Type 0 where
@@ -47,12 +47,6 @@ pub record Fit (t : Table) : Type 0 where
   pub first : t .stage ≤ 1 → t .signals ≡ t .inputs
   pub tags-long : length (t .tags) ≡ 8
   pub ceilings-long : length (t .ceilings) ≡ 4
-
--- There is room for the places of 76 names, and each is within the text.
-pub record Named (text starts ends : List ℕ) : Type 0 where
-  pub starts-long : length starts ≡ 76
-  pub ends-long : length ends ≡ 76
-  pub within : Within text starts ends 76
 
 -- Behind `at` stands one word, or the line is refused by 30.
 pub at-form : (d : Draft) (n : ℕ) (v w : Word) (l : Line) → (n ≡ 1 → ⊥) → Shaped n v w l → refused 30 ≡ atLine d l
@@ -116,11 +110,11 @@ atPlace t k =
     }
 
 -- With the location as its source, the table has what the lines with this `at` have said.
-pub at-given : (text starts ends left : List ℕ) (t : Table) (rules : List Rule) (v : Word) (l : Line) → l ≡ v ∷ [] → {k : ℕ} → find 0 v (spans text starts ends 12 (t .places)) ≡ placeBelow (t .places) k →
-    k < t .places → t .places ≤ 64 → risen (draftOf text starts ends left t rules) (placeBelow 64 (t .source)) k ≡ true →
-    gives (draftOf text starts ends left (atPlace t k) rules) ≡ atLine (draftOf text starts ends left t rules) l
-at-given text starts ends left t rules v l one {k = k} e h m f =
-    let d = draftOf text starts ends left t rules in
+pub at-given : (text starts lengths left : List ℕ) (t : Table) (rules : List Rule) (v : Word) (l : Line) → l ≡ v ∷ [] → {k : ℕ} → find 0 v (spans text starts lengths 12 (t .places)) ≡ placeBelow (t .places) k →
+    k < t .places → t .places ≤ 64 → risen (draftOf text starts lengths left t rules) (placeBelow 64 (t .source)) k ≡ true →
+    gives (draftOf text starts lengths left (atPlace t k) rules) ≡ atLine (draftOf text starts lengths left t rules) l
+at-given text starts lengths left t rules v l one {k = k} e h m f =
+    let d = draftOf text starts lengths left t rules in
     let s = source-some k (omega arith) in
     (λ i. gives (record { inputs = d .inputs; outputs = d .outputs; names = d .names; clocks = d .clocks; ceilings = d .ceilings; places = d .places; left = d .left; rules = rules; stage = 5; source = s i }))
     ∙ at-rises d v l one e h f

@@ -1,40 +1,41 @@
 // The words behind `clock`.
 use crate::fresh::name_refusal;
-use crate::table::CLOCK_NAMES;
 use crate::table::Lined;
 use crate::table::Table;
 use words::firsts::Few;
+use words::names::CLOCK_NAMES;
 use words::numbers::number_of;
 ghost use mathlib.Core.Path.{_≡_};
 ghost use mathlib.Core.List.{List};
-ghost use Prim.Native.Nat.{ℕ, _≤_, _<_, _-_};
+ghost use Prim.Native.Nat.{ℕ, _+_, _≤_, _<_, _-_};
 ghost use lib.ListN.{length};
 ghost use Rattle.policy.specs.File.{part};
 ghost use Rattle.policy.specs.Rules.{Rule};
 ghost use Rattle.wording.specs.Words.{Line};
 ghost use Rattle.wording.specs.Reader.{clockLine};
-ghost use Rattle.words.specs.Firsts.{Shaped};
-ghost use Rattle.declarations.specs.Table.{draftOf, lineSaid, Fit, Named};
+ghost use Rattle.words.specs.Spans.{NamesIn};
+ghost use Rattle.words.specs.Firsts.{Shaped, InText};
+ghost use Rattle.declarations.specs.Table.{draftOf, lineSaid, Fit};
 ghost use Rattle.declarations.specs.ClockLine.{withClock, clockRefusal};
 
-// A clock more, whose name stands from `a` to `b`.
+// A clock more, whose name has `size` bytes from `a` on.
 fn add_clock(
     text: &[u8],
     a: usize,
-    b: usize,
+    size: u8,
     ceiling: u16,
     starts: &mut [usize],
-    ends: &mut [usize],
+    lengths: &mut [u8],
     table: Table,
 ) -> Table
-    requires { ⌜ (a ≤ b) × (b ≤ length (now text)) × (table .clocks < 4) × (table .stage ≤ 3) × Fit table × Named (now text) (now starts) (now ends) ⌝ }
-    ensures { λ r. ⌜ ((left : List ℕ) (rules : List Rule) → draftOf (now (text .entry)) (now (starts .exit)) (now (ends .exit)) left r rules ≡ withClock (draftOf (now (text .entry)) (now (starts .entry)) (now (ends .entry)) left table rules) (part (now (text .entry)) a (b - a)) ceiling) × Fit r × Named (now (text .entry)) (now (starts .exit)) (now (ends .exit)) ⌝ }
+    requires { ⌜ (a + size ≤ length (now text)) × (table .clocks < 4) × (table .stage ≤ 3) × Fit table × NamesIn 76 (now text) (now starts) (now lengths) ⌝ }
+    ensures { λ r. ⌜ ((left : List ℕ) (rules : List Rule) → draftOf (now (text .entry)) (now (starts .exit)) (now (lengths .exit)) left r rules ≡ withClock (draftOf (now (text .entry)) (now (starts .entry)) (now (lengths .entry)) left table rules) (part (now (text .entry)) a size) ceiling) × Fit r × NamesIn 76 (now (text .entry)) (now (starts .exit)) (now (lengths .exit)) ⌝ }
 {
     let mut t = table;
     let n = t.clocks;
     let k = CLOCK_NAMES + n;
     starts[k] = a;
-    ends[k] = b;
+    lengths[k] = size;
     t.ceilings[n] = ceiling;
     t.clocks = n + 1;
     t.stage = 3;
@@ -58,11 +59,11 @@ pub fn clock_line(
     text: &[u8],
     few: Few,
     starts: &mut [usize],
-    ends: &mut [usize],
+    lengths: &mut [u8],
     table: Table,
 ) -> Lined
-    requires { ⌜ (few .start ≤ few .end) × (few .end ≤ length (now text)) × (few .from ≤ few .to) × (few .to ≤ length (now text)) × Fit table × Named (now text) (now starts) (now ends) ⌝ }
-    ensures { λ r. ⌜ ((left : List ℕ) (rules : List Rule) (l : Line) → Shaped (few .count) (part (now (text .entry)) (few .start) (few .end - few .start)) (part (now (text .entry)) (few .from) (few .to - few .from)) l → lineSaid (now (text .entry)) (now (starts .exit)) (now (ends .exit)) left rules r ≡ clockLine (draftOf (now (text .entry)) (now (starts .entry)) (now (ends .entry)) left table rules) l) × Fit (r .table) × Named (now (text .entry)) (now (starts .exit)) (now (ends .exit)) ⌝ }
+    requires { ⌜ InText (now text) few × Fit table × NamesIn 76 (now text) (now starts) (now lengths) ⌝ }
+    ensures { λ r. ⌜ ((left : List ℕ) (rules : List Rule) (l : Line) → Shaped (few .count) (part (now (text .entry)) (few .start) (few .end - few .start)) (part (now (text .entry)) (few .from) (few .to - few .from)) l → lineSaid (now (text .entry)) (now (starts .exit)) (now (lengths .exit)) left rules r ≡ clockLine (draftOf (now (text .entry)) (now (starts .entry)) (now (lengths .entry)) left table rules) l) × Fit (r .table) × NamesIn 76 (now (text .entry)) (now (starts .exit)) (now (lengths .exit)) ⌝ }
 {
     if few.count != 2 {
         return Lined { refusal: 30, table };
@@ -72,7 +73,7 @@ pub fn clock_line(
     }
     let a = few.start;
     let b = few.end;
-    let fresh = name_refusal(text, a, b, starts, ends, table);
+    let fresh = name_refusal(text, a, b, starts, lengths, table);
     if fresh != 0 {
         return Lined {
             refusal: fresh,
@@ -95,8 +96,9 @@ pub fn clock_line(
             table,
         };
     }
+    let size = (b - a) as u8;
     Lined {
         refusal: 0,
-        table: add_clock(text, a, b, number.value, starts, ends, table),
+        table: add_clock(text, a, size, number.value, starts, lengths, table),
     }
 }

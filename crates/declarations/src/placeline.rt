@@ -1,43 +1,44 @@
 // The words behind `location`.
-use crate::fresh::find_from;
-use crate::table::LOCATION_NAMES;
 use crate::table::Lined;
 use crate::table::Table;
 use words::firsts::word_in;
 use words::keywords::is_name;
 use words::keywords::keyword;
+use words::names::LOCATION_NAMES;
+use words::names::find_name;
 ghost use mathlib.Core.Path.{_≡_};
 ghost use mathlib.Core.List.{List};
-ghost use Prim.Native.Nat.{ℕ, _≤_, _<_, _-_};
+ghost use Prim.Native.Nat.{ℕ, _+_, _≤_, _<_, _-_};
 ghost use lib.ListN.{length};
 ghost use Rattle.streams.specs.Answer.{gives};
 ghost use Rattle.policy.specs.File.{part};
 ghost use Rattle.policy.specs.Rules.{Rule};
 ghost use Rattle.wording.specs.Words.{wordsOf};
+ghost use Rattle.words.specs.Spans.{NamesIn};
 ghost use Rattle.wording.specs.Reader.{newPlace, locationLine};
-ghost use Rattle.declarations.specs.Table.{draftOf, lineSaid, Fit, Named};
+ghost use Rattle.declarations.specs.Table.{draftOf, lineSaid, Fit};
 ghost use Rattle.declarations.specs.Fresh.{refuse};
 ghost use Rattle.declarations.specs.PlaceLine.{withPlace, mustBeLeft, leftByte};
 
-// A location more, whose name stands from `a` to `b`.
+// A location more, whose name has `size` bytes from `a` on.
 fn add_place(
     text: &[u8],
     a: usize,
-    b: usize,
+    size: u8,
     byte: u8,
     starts: &mut [usize],
-    ends: &mut [usize],
+    lengths: &mut [u8],
     left: &mut [u8],
     table: Table,
 ) -> Table
-    requires { ⌜ (a ≤ b) × (b ≤ length (now text)) × (table .places < 64) × Fit table × Named (now text) (now starts) (now ends) × (length (now left) ≡ 64) ⌝ }
-    ensures { λ r. ⌜ ((rules : List Rule) → draftOf (now (text .entry)) (now (starts .exit)) (now (ends .exit)) (now (left .exit)) r rules ≡ withPlace (draftOf (now (text .entry)) (now (starts .entry)) (now (ends .entry)) (now (left .entry)) table rules) (part (now (text .entry)) a (b - a)) byte) × Fit r × Named (now (text .entry)) (now (starts .exit)) (now (ends .exit)) ⌝ }
+    requires { ⌜ (a + size ≤ length (now text)) × (table .places < 64) × Fit table × NamesIn 76 (now text) (now starts) (now lengths) × (length (now left) ≡ 64) ⌝ }
+    ensures { λ r. ⌜ ((rules : List Rule) → draftOf (now (text .entry)) (now (starts .exit)) (now (lengths .exit)) (now (left .exit)) r rules ≡ withPlace (draftOf (now (text .entry)) (now (starts .entry)) (now (lengths .entry)) (now (left .entry)) table rules) (part (now (text .entry)) a size) byte) × Fit r × NamesIn 76 (now (text .entry)) (now (starts .exit)) (now (lengths .exit)) ⌝ }
 {
     let mut t = table;
     let n = t.places;
     let k = LOCATION_NAMES + n;
     starts[k] = a;
-    ends[k] = b;
+    lengths[k] = size;
     left[n] = byte;
     t.places = n + 1;
     t.stage = 4;
@@ -50,11 +51,11 @@ fn place_refusal(
     a: usize,
     b: usize,
     starts: &[usize],
-    ends: &[usize],
+    lengths: &[u8],
     table: Table,
 ) -> u8
-    requires { ⌜ (a ≤ b) × (b ≤ length (now text)) × Fit table × Named (now text) (now starts) (now ends) ⌝ }
-    ensures { λ r. ⌜ ((left : List ℕ) (rules : List Rule) (byte : ℕ) → newPlace (draftOf (now (text .entry)) (now (starts .entry)) (now (ends .entry)) left table rules) (part (now (text .entry)) a (b - a)) byte ≡ refuse r (gives (withPlace (draftOf (now (text .entry)) (now (starts .entry)) (now (ends .entry)) left table rules) (part (now (text .entry)) a (b - a)) byte))) × (r ≡ 0 → table .places < 64) ⌝ }
+    requires { ⌜ (a ≤ b) × (b ≤ length (now text)) × Fit table × NamesIn 76 (now text) (now starts) (now lengths) ⌝ }
+    ensures { λ r. ⌜ ((left : List ℕ) (rules : List Rule) (byte : ℕ) → newPlace (draftOf (now (text .entry)) (now (starts .entry)) (now (lengths .entry)) left table rules) (part (now (text .entry)) a (b - a)) byte ≡ refuse r (gives (withPlace (draftOf (now (text .entry)) (now (starts .entry)) (now (lengths .entry)) left table rules) (part (now (text .entry)) a (b - a)) byte))) × (r ≡ 0 → (table .places < 64) × (b - a ≤ 16)) ⌝ }
 {
     if 4 < table.stage {
         return 30;
@@ -63,7 +64,7 @@ fn place_refusal(
         return 30;
     }
     let places = table.places;
-    if find_from(text, starts, ends, LOCATION_NAMES, places, &text[a..b]) < places {
+    if find_name(text, starts, lengths, LOCATION_NAMES, places, &text[a..b]) < places {
         return 31;
     }
     if 64 <= places {
@@ -79,20 +80,21 @@ fn place(
     b: usize,
     byte: u8,
     starts: &mut [usize],
-    ends: &mut [usize],
+    lengths: &mut [u8],
     left: &mut [u8],
     table: Table,
 ) -> Lined
-    requires { ⌜ (a ≤ b) × (b ≤ length (now text)) × Fit table × Named (now text) (now starts) (now ends) × (length (now left) ≡ 64) ⌝ }
-    ensures { λ r. ⌜ ((rules : List Rule) → lineSaid (now (text .entry)) (now (starts .exit)) (now (ends .exit)) (now (left .exit)) rules r ≡ newPlace (draftOf (now (text .entry)) (now (starts .entry)) (now (ends .entry)) (now (left .entry)) table rules) (part (now (text .entry)) a (b - a)) byte) × Fit (r .table) × Named (now (text .entry)) (now (starts .exit)) (now (ends .exit)) ⌝ }
+    requires { ⌜ (a ≤ b) × (b ≤ length (now text)) × Fit table × NamesIn 76 (now text) (now starts) (now lengths) × (length (now left) ≡ 64) ⌝ }
+    ensures { λ r. ⌜ ((rules : List Rule) → lineSaid (now (text .entry)) (now (starts .exit)) (now (lengths .exit)) (now (left .exit)) rules r ≡ newPlace (draftOf (now (text .entry)) (now (starts .entry)) (now (lengths .entry)) (now (left .entry)) table rules) (part (now (text .entry)) a (b - a)) byte) × Fit (r .table) × NamesIn 76 (now (text .entry)) (now (starts .exit)) (now (lengths .exit)) ⌝ }
 {
-    let refusal = place_refusal(text, a, b, starts, ends, table);
+    let refusal = place_refusal(text, a, b, starts, lengths, table);
     if refusal != 0 {
         return Lined { refusal, table };
     }
+    let size = (b - a) as u8;
     Lined {
         refusal: 0,
-        table: add_place(text, a, b, byte, starts, ends, left, table),
+        table: add_place(text, a, size, byte, starts, lengths, left, table),
     }
 }
 
@@ -157,12 +159,12 @@ pub fn location_line(
     end: usize,
     at: usize,
     starts: &mut [usize],
-    ends: &mut [usize],
+    lengths: &mut [u8],
     left: &mut [u8],
     table: Table,
 ) -> Lined
-    requires { ⌜ (at ≤ end) × (end ≤ length (now text)) × Fit table × Named (now text) (now starts) (now ends) × (length (now left) ≡ 64) ⌝ }
-    ensures { λ r. ⌜ ((rules : List Rule) → lineSaid (now (text .entry)) (now (starts .exit)) (now (ends .exit)) (now (left .exit)) rules r ≡ locationLine (draftOf (now (text .entry)) (now (starts .entry)) (now (ends .entry)) (now (left .entry)) table rules) (wordsOf (part (now (text .entry)) at (end - at)))) × Fit (r .table) × Named (now (text .entry)) (now (starts .exit)) (now (ends .exit)) ⌝ }
+    requires { ⌜ (at ≤ end) × (end ≤ length (now text)) × Fit table × NamesIn 76 (now text) (now starts) (now lengths) × (length (now left) ≡ 64) ⌝ }
+    ensures { λ r. ⌜ ((rules : List Rule) → lineSaid (now (text .entry)) (now (starts .exit)) (now (lengths .exit)) (now (left .exit)) rules r ≡ locationLine (draftOf (now (text .entry)) (now (starts .entry)) (now (lengths .entry)) (now (left .entry)) table rules) (wordsOf (part (now (text .entry)) at (end - at)))) × Fit (r .table) × NamesIn 76 (now (text .entry)) (now (starts .exit)) (now (lengths .exit)) ⌝ }
 {
     let first = word_in(text, end, at);
     let a = first.start;
@@ -174,5 +176,5 @@ pub fn location_line(
     if 1 < byte {
         return Lined { refusal: 30, table };
     }
-    place(text, a, b, byte, starts, ends, left, table)
+    place(text, a, b, byte, starts, lengths, left, table)
 }

@@ -14,22 +14,23 @@ ghost use Rattle.policy.specs.File.{part};
 ghost use Rattle.policy.specs.Rules.{Rule};
 ghost use Rattle.wording.specs.Words.{Line};
 ghost use Rattle.wording.specs.Reader.{withInput, withOutput, inputLine, outputLine};
-ghost use Rattle.words.specs.Firsts.{Shaped};
-ghost use Rattle.declarations.specs.Table.{draftOf, lineSaid, Fit, Named};
+ghost use Rattle.words.specs.Spans.{NamesIn};
+ghost use Rattle.words.specs.Firsts.{Shaped, InText};
+ghost use Rattle.declarations.specs.Table.{draftOf, lineSaid, Fit};
 ghost use Rattle.declarations.specs.Fresh.{nameFound};
 ghost use Rattle.declarations.specs.SignalLine.{wanted, signalTag};
 
 // The refusal of the second word as a name, if there is one.
-fn second_refusal(text: &[u8], few: Few, starts: &[usize], ends: &[usize], table: Table) -> u8
-    requires { ⌜ (few .from ≤ few .to) × (few .to ≤ length (now text)) × Fit table × Named (now text) (now starts) (now ends) ⌝ }
-    ensures { λ r. ⌜ r ≡ wanted (few .count) (nameFound (now (text .entry)) (now (starts .entry)) (now (ends .entry)) table (part (now (text .entry)) (few .from) (few .to - few .from))) ⌝ }
+fn second_refusal(text: &[u8], few: Few, starts: &[usize], lengths: &[u8], table: Table) -> u8
+    requires { ⌜ InText (now text) few × Fit table × NamesIn 76 (now text) (now starts) (now lengths) ⌝ }
+    ensures { λ r. ⌜ (r ≡ wanted (few .count) (nameFound (now (text .entry)) (now (starts .entry)) (now (lengths .entry)) table (part (now (text .entry)) (few .from) (few .to - few .from)))) × (r ≡ 0 → few .to - few .from ≤ 16) ⌝ }
 {
     if few.count < 2 {
         return 0;
     }
     let from = few.from;
     let to = few.to;
-    name_refusal(text, from, to, starts, ends, table)
+    name_refusal(text, from, to, starts, lengths, table)
 }
 
 // The letter that is declared, where `count` signals of its kind are. The line has one word or two.
@@ -37,12 +38,12 @@ fn signal_tag(
     text: &[u8],
     few: Few,
     starts: &[usize],
-    ends: &[usize],
+    lengths: &[u8],
     table: Table,
     count: usize,
 ) -> Tag
-    requires { ⌜ (few .start ≤ few .end) × (few .end ≤ length (now text)) × (few .from ≤ few .to) × (few .to ≤ length (now text)) × Fit table × Named (now text) (now starts) (now ends) ⌝ }
-    ensures { λ r. ⌜ (answer (r .refusal) (r .value) ≡ signalTag (take (table .signals) (table .tags)) count (wanted (few .count) (nameFound (now (text .entry)) (now (starts .entry)) (now (ends .entry)) table (part (now (text .entry)) (few .from) (few .to - few .from)))) (part (now (text .entry)) (few .start) (few .end - few .start))) × (r .refusal ≡ 0 → count < 4) ⌝ }
+    requires { ⌜ InText (now text) few × Fit table × NamesIn 76 (now text) (now starts) (now lengths) ⌝ }
+    ensures { λ r. ⌜ (answer (r .refusal) (r .value) ≡ signalTag (take (table .signals) (table .tags)) count (wanted (few .count) (nameFound (now (text .entry)) (now (starts .entry)) (now (lengths .entry)) table (part (now (text .entry)) (few .from) (few .to - few .from)))) (part (now (text .entry)) (few .start) (few .end - few .start))) × (r .refusal ≡ 0 → (count < 4) × (few .to - few .from ≤ 16)) ⌝ }
 {
     let a = few.start;
     let b = few.end;
@@ -51,7 +52,7 @@ fn signal_tag(
     if tag.refusal != 0 {
         return tag;
     }
-    let refusal = second_refusal(text, few, starts, ends, table);
+    let refusal = second_refusal(text, few, starts, lengths, table);
     if refusal != 0 {
         return Tag { refusal, value: 0 };
     }
@@ -64,23 +65,23 @@ fn signal_tag(
     tag
 }
 
-// An input more, whose name stands from `a` to `b`.
+// An input more, whose name has `size` bytes from `a` on.
 fn add_input(
     text: &[u8],
     a: usize,
-    b: usize,
+    size: u8,
     tag: u8,
     starts: &mut [usize],
-    ends: &mut [usize],
+    lengths: &mut [u8],
     table: Table,
 ) -> Table
-    requires { ⌜ (a ≤ b) × (b ≤ length (now text)) × (table .inputs < 4) × (table .stage ≤ 1) × Fit table × Named (now text) (now starts) (now ends) ⌝ }
-    ensures { λ r. ⌜ ((left : List ℕ) (rules : List Rule) → draftOf (now (text .entry)) (now (starts .exit)) (now (ends .exit)) left r rules ≡ withInput (draftOf (now (text .entry)) (now (starts .entry)) (now (ends .entry)) left table rules) tag (part (now (text .entry)) a (b - a))) × Fit r × Named (now (text .entry)) (now (starts .exit)) (now (ends .exit)) ⌝ }
+    requires { ⌜ (a + size ≤ length (now text)) × (table .inputs < 4) × (table .stage ≤ 1) × Fit table × NamesIn 76 (now text) (now starts) (now lengths) ⌝ }
+    ensures { λ r. ⌜ ((left : List ℕ) (rules : List Rule) → draftOf (now (text .entry)) (now (starts .exit)) (now (lengths .exit)) left r rules ≡ withInput (draftOf (now (text .entry)) (now (starts .entry)) (now (lengths .entry)) left table rules) tag (part (now (text .entry)) a size)) × Fit r × NamesIn 76 (now (text .entry)) (now (starts .exit)) (now (lengths .exit)) ⌝ }
 {
     let mut t = table;
     let n = t.signals;
     starts[n] = a;
-    ends[n] = b;
+    lengths[n] = size;
     t.tags[n] = tag;
     t.inputs = n + 1;
     t.signals = n + 1;
@@ -92,19 +93,19 @@ fn add_input(
 fn add_output(
     text: &[u8],
     a: usize,
-    b: usize,
+    size: u8,
     tag: u8,
     starts: &mut [usize],
-    ends: &mut [usize],
+    lengths: &mut [u8],
     table: Table,
 ) -> Table
-    requires { ⌜ (a ≤ b) × (b ≤ length (now text)) × (table .signals < table .inputs + 4) × (table .stage ≤ 2) × Fit table × Named (now text) (now starts) (now ends) ⌝ }
-    ensures { λ r. ⌜ ((left : List ℕ) (rules : List Rule) → draftOf (now (text .entry)) (now (starts .exit)) (now (ends .exit)) left r rules ≡ withOutput (draftOf (now (text .entry)) (now (starts .entry)) (now (ends .entry)) left table rules) tag (part (now (text .entry)) a (b - a))) × Fit r × Named (now (text .entry)) (now (starts .exit)) (now (ends .exit)) ⌝ }
+    requires { ⌜ (a + size ≤ length (now text)) × (table .signals < table .inputs + 4) × (table .stage ≤ 2) × Fit table × NamesIn 76 (now text) (now starts) (now lengths) ⌝ }
+    ensures { λ r. ⌜ ((left : List ℕ) (rules : List Rule) → draftOf (now (text .entry)) (now (starts .exit)) (now (lengths .exit)) left r rules ≡ withOutput (draftOf (now (text .entry)) (now (starts .entry)) (now (lengths .entry)) left table rules) tag (part (now (text .entry)) a size)) × Fit r × NamesIn 76 (now (text .entry)) (now (starts .exit)) (now (lengths .exit)) ⌝ }
 {
     let mut t = table;
     let n = t.signals;
     starts[n] = a;
-    ends[n] = b;
+    lengths[n] = size;
     t.tags[n] = tag;
     t.signals = n + 1;
     t.stage = 2;
@@ -116,11 +117,11 @@ pub fn input_line(
     text: &[u8],
     few: Few,
     starts: &mut [usize],
-    ends: &mut [usize],
+    lengths: &mut [u8],
     table: Table,
 ) -> Lined
-    requires { ⌜ (few .start ≤ few .end) × (few .end ≤ length (now text)) × (few .from ≤ few .to) × (few .to ≤ length (now text)) × Fit table × Named (now text) (now starts) (now ends) ⌝ }
-    ensures { λ r. ⌜ ((left : List ℕ) (rules : List Rule) (l : Line) → Shaped (few .count) (part (now (text .entry)) (few .start) (few .end - few .start)) (part (now (text .entry)) (few .from) (few .to - few .from)) l → lineSaid (now (text .entry)) (now (starts .exit)) (now (ends .exit)) left rules r ≡ inputLine (draftOf (now (text .entry)) (now (starts .entry)) (now (ends .entry)) left table rules) l) × Fit (r .table) × Named (now (text .entry)) (now (starts .exit)) (now (ends .exit)) ⌝ }
+    requires { ⌜ InText (now text) few × Fit table × NamesIn 76 (now text) (now starts) (now lengths) ⌝ }
+    ensures { λ r. ⌜ ((left : List ℕ) (rules : List Rule) (l : Line) → Shaped (few .count) (part (now (text .entry)) (few .start) (few .end - few .start)) (part (now (text .entry)) (few .from) (few .to - few .from)) l → lineSaid (now (text .entry)) (now (starts .exit)) (now (lengths .exit)) left rules r ≡ inputLine (draftOf (now (text .entry)) (now (starts .entry)) (now (lengths .entry)) left table rules) l) × Fit (r .table) × NamesIn 76 (now (text .entry)) (now (starts .exit)) (now (lengths .exit)) ⌝ }
 {
     if 1 < table.stage {
         return Lined { refusal: 30, table };
@@ -132,7 +133,7 @@ pub fn input_line(
         return Lined { refusal: 30, table };
     }
     let count = table.inputs;
-    let tag = signal_tag(text, few, starts, ends, table, count);
+    let tag = signal_tag(text, few, starts, lengths, table, count);
     if tag.refusal != 0 {
         return Lined {
             refusal: tag.refusal,
@@ -141,9 +142,10 @@ pub fn input_line(
     }
     let from = few.from;
     let to = few.to;
+    let size = (to - from) as u8;
     Lined {
         refusal: 0,
-        table: add_input(text, from, to, tag.value, starts, ends, table),
+        table: add_input(text, from, size, tag.value, starts, lengths, table),
     }
 }
 
@@ -152,11 +154,11 @@ pub fn output_line(
     text: &[u8],
     few: Few,
     starts: &mut [usize],
-    ends: &mut [usize],
+    lengths: &mut [u8],
     table: Table,
 ) -> Lined
-    requires { ⌜ (few .start ≤ few .end) × (few .end ≤ length (now text)) × (few .from ≤ few .to) × (few .to ≤ length (now text)) × Fit table × Named (now text) (now starts) (now ends) ⌝ }
-    ensures { λ r. ⌜ ((left : List ℕ) (rules : List Rule) (l : Line) → Shaped (few .count) (part (now (text .entry)) (few .start) (few .end - few .start)) (part (now (text .entry)) (few .from) (few .to - few .from)) l → lineSaid (now (text .entry)) (now (starts .exit)) (now (ends .exit)) left rules r ≡ outputLine (draftOf (now (text .entry)) (now (starts .entry)) (now (ends .entry)) left table rules) l) × Fit (r .table) × Named (now (text .entry)) (now (starts .exit)) (now (ends .exit)) ⌝ }
+    requires { ⌜ InText (now text) few × Fit table × NamesIn 76 (now text) (now starts) (now lengths) ⌝ }
+    ensures { λ r. ⌜ ((left : List ℕ) (rules : List Rule) (l : Line) → Shaped (few .count) (part (now (text .entry)) (few .start) (few .end - few .start)) (part (now (text .entry)) (few .from) (few .to - few .from)) l → lineSaid (now (text .entry)) (now (starts .exit)) (now (lengths .exit)) left rules r ≡ outputLine (draftOf (now (text .entry)) (now (starts .entry)) (now (lengths .entry)) left table rules) l) × Fit (r .table) × NamesIn 76 (now (text .entry)) (now (starts .exit)) (now (lengths .exit)) ⌝ }
 {
     if 2 < table.stage {
         return Lined { refusal: 30, table };
@@ -168,7 +170,7 @@ pub fn output_line(
         return Lined { refusal: 30, table };
     }
     let count = table.signals - table.inputs;
-    let tag = signal_tag(text, few, starts, ends, table, count);
+    let tag = signal_tag(text, few, starts, lengths, table, count);
     if tag.refusal != 0 {
         return Lined {
             refusal: tag.refusal,
@@ -177,8 +179,9 @@ pub fn output_line(
     }
     let from = few.from;
     let to = few.to;
+    let size = (to - from) as u8;
     Lined {
         refusal: 0,
-        table: add_output(text, from, to, tag.value, starts, ends, table),
+        table: add_output(text, from, size, tag.value, starts, lengths, table),
     }
 }

@@ -1,6 +1,7 @@
 // What the lines so far have said, but for the rules.
-use crate::fresh::find_from;
 use words::firsts::Few;
+use words::names::LOCATION_NAMES;
+use words::names::find_name;
 ghost use mathlib.Core.Path.{_≡_};
 ghost use mathlib.Core.List.{List};
 ghost use Prim.Native.Nat.{ℕ, _≤_, _-_};
@@ -9,19 +10,12 @@ ghost use Rattle.policy.specs.File.{part};
 ghost use Rattle.policy.specs.Rules.{Rule};
 ghost use Rattle.wording.specs.Words.{Line};
 ghost use Rattle.wording.specs.Reader.{atLine};
-ghost use Rattle.words.specs.Firsts.{Shaped};
-ghost use Rattle.declarations.specs.Table.{draftOf, lineSaid, Fit, Named};
+ghost use Rattle.words.specs.Spans.{NamesIn};
+ghost use Rattle.words.specs.Firsts.{Shaped, InText};
+ghost use Rattle.declarations.specs.Table.{draftOf, lineSaid, Fit};
 
-// Where the places of the clocks' names begin, and those of the locations' names; and how many places there are.
-pub const CLOCK_NAMES: usize = 8;
-
-pub const LOCATION_NAMES: usize = 12;
-
-pub const NAMES: usize = 76;
-
-// Names stand in the text from their start to their end. These places are in two slices beside the table, `starts` and `ends`: the signals' from 0 on, the
-// inputs first, none where both are the same; then the clocks', then the locations'. A third slice, `left`, has a byte for each location. They would
-// be nearly all of the table, and it goes by value. A source of 64 is none.
+// Beside the table stand the places of the names, in `starts` and `lengths`, and a byte for each location in `left`: they would be nearly all of it, and
+// it goes by value. A source of 64 is none.
 pub struct Table {
     pub tags: [u8; 8],
     pub ceilings: [u16; 4],
@@ -40,9 +34,9 @@ pub struct Lined {
 }
 
 // The words behind `at`.
-pub fn at_line(text: &[u8], few: Few, starts: &[usize], ends: &[usize], table: Table) -> Lined
-    requires { ⌜ (few .start ≤ few .end) × (few .end ≤ length (now text)) × Fit table × Named (now text) (now starts) (now ends) ⌝ }
-    ensures { λ r. ⌜ ((left : List ℕ) (rules : List Rule) (l : Line) → Shaped (few .count) (part (now (text .entry)) (few .start) (few .end - few .start)) (part (now (text .entry)) (few .from) (few .to - few .from)) l → lineSaid (now (text .entry)) (now (starts .entry)) (now (ends .entry)) left rules r ≡ atLine (draftOf (now (text .entry)) (now (starts .entry)) (now (ends .entry)) left table rules) l) × Fit (r .table) ⌝ }
+pub fn at_line(text: &[u8], few: Few, starts: &[usize], lengths: &[u8], table: Table) -> Lined
+    requires { ⌜ InText (now text) few × Fit table × NamesIn 76 (now text) (now starts) (now lengths) ⌝ }
+    ensures { λ r. ⌜ ((left : List ℕ) (rules : List Rule) (l : Line) → Shaped (few .count) (part (now (text .entry)) (few .start) (few .end - few .start)) (part (now (text .entry)) (few .from) (few .to - few .from)) l → lineSaid (now (text .entry)) (now (starts .entry)) (now (lengths .entry)) left rules r ≡ atLine (draftOf (now (text .entry)) (now (starts .entry)) (now (lengths .entry)) left table rules) l) × Fit (r .table) ⌝ }
 {
     if few.count != 1 {
         return Lined { refusal: 30, table };
@@ -50,7 +44,7 @@ pub fn at_line(text: &[u8], few: Few, starts: &[usize], ends: &[usize], table: T
     let a = few.start;
     let b = few.end;
     let places = table.places;
-    let k = find_from(text, starts, ends, LOCATION_NAMES, places, &text[a..b]);
+    let k = find_name(text, starts, lengths, LOCATION_NAMES, places, &text[a..b]);
     if places <= k {
         return Lined { refusal: 31, table };
     }

@@ -6,13 +6,14 @@ use conditions::steps::on_at_least;
 use conditions::steps::on_at_most;
 use conditions::steps::on_reset;
 use words::keywords::keyword;
+use words::names::CLOCK_NAMES;
 use words::names::find_name;
 use words::numbers::number_of;
 ghost use mathlib.Core.Path.{_≡_};
 ghost use Prim.Native.Nat.{ℕ, _≤_, _<_};
 ghost use lib.ListN.{length};
 ghost use Rattle.wording.specs.Names.{find, known};
-ghost use Rattle.words.specs.Spans.{spans, Within};
+ghost use Rattle.words.specs.Spans.{spans, NamesIn};
 ghost use Rattle.wording.specs.Reader.{Scope, arrow, sign, atLeast, atMost, gone, onReset, wordAt};
 ghost use Rattle.conditions.specs.Steps.{begunOf, stepSaid, Masked};
 
@@ -109,16 +110,16 @@ pub fn on_gone(word: &[u8], parsed: Parsed) -> Step
 // A clock that is reset.
 pub fn on_clear(
     text: &[u8],
-    clock_starts: &[usize],
-    clock_ends: &[usize],
+    starts: &[usize],
+    lengths: &[u8],
     clocks: usize,
     word: &[u8],
     parsed: Parsed,
 ) -> Step
-    requires { ⌜ (clocks ≤ 4) × (clocks ≤ length (now «clock_starts»)) × (clocks ≤ length (now «clock_ends»)) × Within (now text) (now «clock_starts») (now «clock_ends») clocks × Masked parsed ⌝ }
-    ensures { λ r. ⌜ ((n : ℕ) → stepSaid n r ≡ known (find 0 (now (word .entry)) (spans (now (text .entry)) (now («clock_starts» .entry)) (now («clock_ends» .entry)) 0 clocks)) (onReset (begunOf n parsed))) × Masked (r .parsed) ⌝ }
+    requires { ⌜ (clocks ≤ 4) × NamesIn 76 (now text) (now starts) (now lengths) × Masked parsed ⌝ }
+    ensures { λ r. ⌜ ((n : ℕ) → stepSaid n r ≡ known (find 0 (now (word .entry)) (spans (now (text .entry)) (now (starts .entry)) (now (lengths .entry)) 8 clocks)) (onReset (begunOf n parsed))) × Masked (r .parsed) ⌝ }
 {
-    let k = find_name(text, clock_starts, clock_ends, clocks, word);
+    let k = find_name(text, starts, lengths, CLOCK_NAMES, clocks, word);
     if k < clocks {
         return on_reset(parsed, k);
     }

@@ -13,7 +13,7 @@ use conditions::steps::Step;
 ghost use mathlib.Core.Path.{_≡_};
 ghost use Prim.Native.Nat.{ℕ, _≤_};
 ghost use lib.ListN.{length};
-ghost use Rattle.words.specs.Spans.{spans, Within};
+ghost use Rattle.words.specs.Spans.{NamesIn};
 ghost use Rattle.wording.specs.Reader.{wordAt};
 ghost use Rattle.conditions.specs.Steps.{partOf, begunOf, stepSaid, Masked};
 ghost use Rattle.conditions.specs.Conditions.{scopeOf};
@@ -22,48 +22,22 @@ pub fn on_word(
     text: &[u8],
     tags: &[u8],
     starts: &[usize],
-    ends: &[usize],
-    clock_starts: &[usize],
-    clock_ends: &[usize],
+    lengths: &[u8],
     clocks: usize,
-    place_starts: &[usize],
-    place_ends: &[usize],
     places: usize,
     word: &[u8],
     parsed: Parsed,
 ) -> Step
-    requires { ⌜ (length (now tags) ≤ 8) × (length (now tags) ≤ length (now starts)) × (length (now tags) ≤ length (now ends)) × Within (now text) (now starts) (now ends) (length (now tags)) × Masked parsed ⌝ }
-    requires { ⌜ (clocks ≤ 4) × (clocks ≤ length (now «clock_starts»)) × (clocks ≤ length (now «clock_ends»)) × Within (now text) (now «clock_starts») (now «clock_ends») clocks ⌝ }
-    requires { ⌜ (places ≤ 64) × (places ≤ length (now «place_starts»)) × (places ≤ length (now «place_ends»)) × Within (now text) (now «place_starts») (now «place_ends») places ⌝ }
-    ensures { λ r. ⌜ ((n : ℕ) → stepSaid n r ≡ wordAt (scopeOf (now (text .entry)) (now (tags .entry)) (now (starts .entry)) (now (ends .entry)) (now («clock_starts» .entry)) (now («clock_ends» .entry)) clocks (spans (now (text .entry)) (now («place_starts» .entry)) (now («place_ends» .entry)) 0 places)) (begunOf n parsed) (partOf (parsed .part) (parsed .clock)) (now (word .entry))) × Masked (r .parsed) ⌝ }
+    requires { ⌜ (length (now tags) ≤ 8) × (clocks ≤ 4) × (places ≤ 64) × NamesIn 76 (now text) (now starts) (now lengths) × Masked parsed ⌝ }
+    ensures { λ r. ⌜ ((n : ℕ) → stepSaid n r ≡ wordAt (scopeOf (now (text .entry)) (now (tags .entry)) (now (starts .entry)) (now (lengths .entry)) clocks places) (begunOf n parsed) (partOf (parsed .part) (parsed .clock)) (now (word .entry))) × Masked (r .parsed) ⌝ }
 {
     let part = parsed.part;
     let k = parsed.clock;
     if part == 0 {
-        return on_opening(
-            text,
-            tags,
-            starts,
-            ends,
-            clock_starts,
-            clock_ends,
-            clocks,
-            word,
-            parsed,
-        );
+        return on_opening(text, tags, starts, lengths, clocks, word, parsed);
     }
     if part == 1 {
-        return on_more(
-            text,
-            tags,
-            starts,
-            ends,
-            clock_starts,
-            clock_ends,
-            clocks,
-            word,
-            parsed,
-        );
+        return on_more(text, tags, starts, lengths, clocks, word, parsed);
     }
     if part == 2 {
         return on_arrow(word, parsed);
@@ -78,10 +52,10 @@ pub fn on_word(
         return on_high(word, parsed, k);
     }
     if part == 6 {
-        return on_goes(text, place_starts, place_ends, places, word, parsed);
+        return on_goes(text, starts, lengths, places, word, parsed);
     }
     if part == 7 {
         return on_gone(word, parsed);
     }
-    on_clear(text, clock_starts, clock_ends, clocks, word, parsed)
+    on_clear(text, starts, lengths, clocks, word, parsed)
 }

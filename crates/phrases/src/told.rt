@@ -8,7 +8,7 @@ ghost use Prim.Native.Nat.{ℕ, _≤_, _<_};
 ghost use lib.ListN.{length};
 ghost use Rattle.wording.specs.Words.{wordsOf};
 ghost use Rattle.wording.specs.Names.{through};
-ghost use Rattle.words.specs.Spans.{spans, Within};
+ghost use Rattle.words.specs.Spans.{NamesIn};
 ghost use Rattle.wording.specs.Reader.{bare, ruleWord};
 ghost use Rattle.conditions.specs.Steps.{begunOf, stepSaid, Masked};
 ghost use Rattle.conditions.specs.Conditions.{scopeOf};
@@ -34,19 +34,13 @@ pub fn rule_words(
     text: &[u8],
     tags: &[u8],
     starts: &[usize],
-    ends: &[usize],
-    clock_starts: &[usize],
-    clock_ends: &[usize],
+    lengths: &[u8],
     clocks: usize,
-    place_starts: &[usize],
-    place_ends: &[usize],
     places: usize,
     line: &[u8],
 ) -> Step
-    requires { ⌜ (length (now tags) ≤ 8) × (length (now tags) ≤ length (now starts)) × (length (now tags) ≤ length (now ends)) × Within (now text) (now starts) (now ends) (length (now tags)) ⌝ }
-    requires { ⌜ (clocks ≤ 4) × (clocks ≤ length (now «clock_starts»)) × (clocks ≤ length (now «clock_ends»)) × Within (now text) (now «clock_starts») (now «clock_ends») clocks ⌝ }
-    requires { ⌜ (places ≤ 64) × (places ≤ length (now «place_starts»)) × (places ≤ length (now «place_ends»)) × Within (now text) (now «place_starts») (now «place_ends») places ⌝ }
-    ensures { λ r. ⌜ (stepSaid clocks r ≡ through (ruleWord (scopeOf (now (text .entry)) (now (tags .entry)) (now (starts .entry)) (now (ends .entry)) (now («clock_starts» .entry)) (now («clock_ends» .entry)) clocks (spans (now (text .entry)) (now («place_starts» .entry)) (now («place_ends» .entry)) 0 places))) (bare clocks) (wordsOf (now (line .entry)))) × Masked (r .parsed) ⌝ }
+    requires { ⌜ (length (now tags) ≤ 8) × (clocks ≤ 4) × (places ≤ 64) × NamesIn 76 (now text) (now starts) (now lengths) ⌝ }
+    ensures { λ r. ⌜ (stepSaid clocks r ≡ through (ruleWord (scopeOf (now (text .entry)) (now (tags .entry)) (now (starts .entry)) (now (lengths .entry)) clocks places)) (bare clocks) (wordsOf (now (line .entry)))) × Masked (r .parsed) ⌝ }
 {
     let mut parsed = unsaid();
     let mut at = 0;
@@ -61,12 +55,8 @@ pub fn rule_words(
             text,
             tags,
             starts,
-            ends,
-            clock_starts,
-            clock_ends,
+            lengths,
             clocks,
-            place_starts,
-            place_ends,
             places,
             &line[start..end],
             parsed,

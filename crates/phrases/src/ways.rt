@@ -4,13 +4,12 @@ use conditions::conditions::turned;
 use conditions::steps::Parsed;
 use conditions::steps::Step;
 use words::keywords::keyword;
+use words::names::LOCATION_NAMES;
 use words::names::find_name;
 ghost use mathlib.Core.Path.{_≡_};
-ghost use mathlib.Core.List.{List};
 ghost use Prim.Native.Nat.{ℕ, _≤_, _<_};
 ghost use lib.ListN.{length};
-ghost use Rattle.wording.specs.Words.{Word};
-ghost use Rattle.words.specs.Spans.{spans, Within};
+ghost use Rattle.words.specs.Spans.{spans, NamesIn};
 ghost use Rattle.wording.specs.Reader.{Scope, opening, more, goes, onTarget, wordAt};
 ghost use Rattle.conditions.specs.Steps.{begunOf, stepSaid, Masked};
 ghost use Rattle.conditions.specs.Conditions.{scopeOf};
@@ -33,17 +32,17 @@ fn on_target(parsed: Parsed, target: usize) -> Parsed
     }
 }
 
-// The word behind the arrow. The locations have their names from `starts` to `ends`.
+// The word behind the arrow.
 pub fn on_goes(
     text: &[u8],
     starts: &[usize],
-    ends: &[usize],
+    lengths: &[u8],
     places: usize,
     word: &[u8],
     parsed: Parsed,
 ) -> Step
-    requires { ⌜ (places ≤ 64) × (places ≤ length (now starts)) × (places ≤ length (now ends)) × Within (now text) (now starts) (now ends) places × Masked parsed ⌝ }
-    ensures { λ r. ⌜ ((n : ℕ) (d : Scope) → d .places ≡ spans (now (text .entry)) (now (starts .entry)) (now (ends .entry)) 0 places → stepSaid n r ≡ wordAt d (begunOf n parsed) goes (now (word .entry))) × Masked (r .parsed) ⌝ }
+    requires { ⌜ (places ≤ 64) × NamesIn 76 (now text) (now starts) (now lengths) × Masked parsed ⌝ }
+    ensures { λ r. ⌜ ((n : ℕ) (d : Scope) → d .places ≡ spans (now (text .entry)) (now (starts .entry)) (now (lengths .entry)) 12 places → stepSaid n r ≡ wordAt d (begunOf n parsed) goes (now (word .entry))) × Masked (r .parsed) ⌝ }
 {
     if keyword(word) == 7 {
         return Step {
@@ -51,7 +50,7 @@ pub fn on_goes(
             parsed: on_target(parsed, 255),
         };
     }
-    let k = find_name(text, starts, ends, places, word);
+    let k = find_name(text, starts, lengths, LOCATION_NAMES, places, word);
     if k < places {
         return Step {
             refusal: 0,
@@ -69,16 +68,13 @@ pub fn on_opening(
     text: &[u8],
     tags: &[u8],
     starts: &[usize],
-    ends: &[usize],
-    clock_starts: &[usize],
-    clock_ends: &[usize],
+    lengths: &[u8],
     clocks: usize,
     word: &[u8],
     parsed: Parsed,
 ) -> Step
-    requires { ⌜ (length (now tags) ≤ 8) × (length (now tags) ≤ length (now starts)) × (length (now tags) ≤ length (now ends)) × Within (now text) (now starts) (now ends) (length (now tags)) × Masked parsed ⌝ }
-    requires { ⌜ (clocks ≤ 4) × (clocks ≤ length (now «clock_starts»)) × (clocks ≤ length (now «clock_ends»)) × Within (now text) (now «clock_starts») (now «clock_ends») clocks ⌝ }
-    ensures { λ r. ⌜ ((n : ℕ) (places : List Word) → stepSaid n r ≡ wordAt (scopeOf (now (text .entry)) (now (tags .entry)) (now (starts .entry)) (now (ends .entry)) (now («clock_starts» .entry)) (now («clock_ends» .entry)) clocks places) (begunOf n parsed) opening (now (word .entry))) × Masked (r .parsed) ⌝ }
+    requires { ⌜ (length (now tags) ≤ 8) × (clocks ≤ 4) × NamesIn 76 (now text) (now starts) (now lengths) × Masked parsed ⌝ }
+    ensures { λ r. ⌜ ((n places : ℕ) → stepSaid n r ≡ wordAt (scopeOf (now (text .entry)) (now (tags .entry)) (now (starts .entry)) (now (lengths .entry)) clocks places) (begunOf n parsed) opening (now (word .entry))) × Masked (r .parsed) ⌝ }
 {
     if keyword(word) == 5 {
         return Step {
@@ -86,17 +82,7 @@ pub fn on_opening(
             parsed: turned(parsed, 2, 0),
         };
     }
-    on_condition(
-        text,
-        tags,
-        starts,
-        ends,
-        clock_starts,
-        clock_ends,
-        clocks,
-        word,
-        parsed,
-    )
+    on_condition(text, tags, starts, lengths, clocks, word, parsed)
 }
 
 // A word after a condition: the arrow, or another condition.
@@ -104,16 +90,13 @@ pub fn on_more(
     text: &[u8],
     tags: &[u8],
     starts: &[usize],
-    ends: &[usize],
-    clock_starts: &[usize],
-    clock_ends: &[usize],
+    lengths: &[u8],
     clocks: usize,
     word: &[u8],
     parsed: Parsed,
 ) -> Step
-    requires { ⌜ (length (now tags) ≤ 8) × (length (now tags) ≤ length (now starts)) × (length (now tags) ≤ length (now ends)) × Within (now text) (now starts) (now ends) (length (now tags)) × Masked parsed ⌝ }
-    requires { ⌜ (clocks ≤ 4) × (clocks ≤ length (now «clock_starts»)) × (clocks ≤ length (now «clock_ends»)) × Within (now text) (now «clock_starts») (now «clock_ends») clocks ⌝ }
-    ensures { λ r. ⌜ ((n : ℕ) (places : List Word) → stepSaid n r ≡ wordAt (scopeOf (now (text .entry)) (now (tags .entry)) (now (starts .entry)) (now (ends .entry)) (now («clock_starts» .entry)) (now («clock_ends» .entry)) clocks places) (begunOf n parsed) more (now (word .entry))) × Masked (r .parsed) ⌝ }
+    requires { ⌜ (length (now tags) ≤ 8) × (clocks ≤ 4) × NamesIn 76 (now text) (now starts) (now lengths) × Masked parsed ⌝ }
+    ensures { λ r. ⌜ ((n places : ℕ) → stepSaid n r ≡ wordAt (scopeOf (now (text .entry)) (now (tags .entry)) (now (starts .entry)) (now (lengths .entry)) clocks places) (begunOf n parsed) more (now (word .entry))) × Masked (r .parsed) ⌝ }
 {
     if keyword(word) == 6 {
         return Step {
@@ -121,15 +104,5 @@ pub fn on_more(
             parsed: turned(parsed, 6, 0),
         };
     }
-    on_condition(
-        text,
-        tags,
-        starts,
-        ends,
-        clock_starts,
-        clock_ends,
-        clocks,
-        word,
-        parsed,
-    )
+    on_condition(text, tags, starts, lengths, clocks, word, parsed)
 }

@@ -62,34 +62,43 @@ Shaped (suc zero) v w l = (l ≡ v ∷ []) × (w ≡ [])
 Shaped (suc (suc zero)) v w l = l ≡ v ∷ w ∷ []
 Shaped (suc (suc (suc n))) v w l = (u : Word) × (us : Line) × (l ≡ v ∷ w ∷ u ∷ us)
 
+-- Both words of f stand within the text, and where there are fewer than two, the second has no byte.
+pub record InText (text : List ℕ) (f : Few) : Type 0 where
+  pub first : f .start ≤ f .end
+  pub first-in : f .end ≤ length text
+  pub second : f .from ≤ f .to
+  pub second-in : f .to ≤ length text
+  pub none : f .count < 2 → f .to ≤ f .from
+
 -- What f says of the line from `at` to `end`: how many words, 3 for more than two, and where the first two stand.
 pub record Firsts (text : List ℕ) (end at : ℕ) (f : Few) : Type 0 where
   pub line : Shaped (f .count) (part text (f .start) (f .end - f .start)) (part text (f .from) (f .to - f .from)) (wordsOf (part text at (end - at)))
-  pub order : f .start ≤ f .end
-  pub next : f .from ≤ f .to
-  pub after : f .end ≤ f .to
-  pub within : f .to ≤ end
+  pub stands : InText text f
 
 -- A part of no byte.
 no-word : (text : List ℕ) (a b : ℕ) → b ≤ a → part text a (b - a) ≡ []
 no-word text a b h = let e : b - a ≡ 0 = omega arith in ap (λ (n : ℕ). take n (drop a text)) e
 
 -- The four answers.
-module _ {text : List ℕ} {end at start stop : ℕ} (n : NextIn text end at start stop) where
+module _ {text : List ℕ} {end at start stop : ℕ} (inside : end ≤ length text) (n : NextIn text end at start stop) where
   -- The line has no word.
   pub few-none : stop ≤ start → Firsts text end at (record { count = 0; start = start; end = stop; from = stop; to = stop })
-  few-none h = record { line = in-none n h; order = n .order; next = omega arith; after = omega arith; within = n .within }
+  few-none h =
+      record {
+        line = in-none n h;
+        stands = record { first = n .order; first-in = omega (arith, n .within); second = omega arith; second-in = omega (arith, n .within); none = λ k. omega arith };
+      }
 
   module _ {start′ stop′ : ℕ} (h : start < stop) (m : NextIn text end stop start′ stop′) where
+    placed : {count : ℕ} → (count < 2 → stop′ ≤ start′) → InText text (record { count = count; start = start; end = stop; from = start′; to = stop′ })
+    placed e = record { first = n .order; first-in = omega (arith, n .within); second = m .order; second-in = omega (arith, m .within); none = e }
+
     -- The line has one word.
     pub few-one : stop′ ≤ start′ → Firsts text end at (record { count = 1; start = start; end = stop; from = start′; to = stop′ })
     few-one l =
         record {
           line = (in-word n h ∙ ap (λ (z : Line). part text start (stop - start) ∷ z) (in-none m l), no-word text start′ stop′ l);
-          order = n .order;
-          next = m .order;
-          after = omega (arith, m .after, m .order);
-          within = m .within;
+          stands = placed (λ k. l);
         }
 
     module _ {from′ to′ : ℕ} (l : start′ < stop′) (k : NextIn text end stop′ from′ to′) where
@@ -98,10 +107,7 @@ module _ {text : List ℕ} {end at start stop : ℕ} (n : NextIn text end at sta
       few-two g =
           record {
             line = in-word n h ∙ ap (λ (z : Line). part text start (stop - start) ∷ z) (in-word m l ∙ ap (λ (z : Line). part text start′ (stop′ - start′) ∷ z) (in-none k g));
-            order = n .order;
-            next = m .order;
-            after = omega (arith, m .after, m .order);
-            within = m .within;
+            stands = placed (λ q. absurd (omega arith));
           }
 
       -- The line has more than two words.
@@ -113,8 +119,5 @@ module _ {text : List ℕ} {end at start stop : ℕ} (n : NextIn text end at sta
               wordsOf (part text to′ (end - to′)),
               in-word n h ∙ ap (λ (z : Line). part text start (stop - start) ∷ z) (in-word m l ∙ ap (λ (z : Line). part text start′ (stop′ - start′) ∷ z) (in-word k g)),
             );
-            order = n .order;
-            next = m .order;
-            after = omega (arith, m .after, m .order);
-            within = m .within;
+            stands = placed (λ q. absurd (omega arith));
           }

@@ -9,14 +9,15 @@ use Prim.Native.Nat.{ℕ, zero, suc, _+_, _-_, _≤_, _<_}
 use native.Mathlib.Numerals.{add-one}
 use native.Mathlib.Omega.{arith}
 use lib.Dec.{leb, ltb, eqb}
-use lib.ListN.{length, getD, drop, drop-of-length-le}
-use lib.Seq.{drop-cons}
+use lib.ListN.{length, getD, drop, length-drop, drop-of-length-le}
+use lib.Seq.{drop-cons, length-take-le}
 use borrow.Author.Tests.{leb-true, le-leb, lt-leb, ltb-true, ltb-false, eq-eqb, ne-eqb}
+use Rattle.policy.specs.File.{part}
 use Rattle.texts.specs.Text.{ascii}
 use Rattle.wording.specs.Words.{Word}
 use Rattle.wording.specs.Names.{same, find, isPlain, isLower, isDigit, every, isName}
 use Rattle.wording.specs.NamesBack.{same-self, same-true}
-use Rattle.words.specs.Spans.{spans, Within, placeBelow}
+use Rattle.words.specs.Spans.{spans, NamesIn, placeBelow}
 
 -- The words of the language; the number of each is its place, counted from 0.
 abbrev pub keywords : List Word
@@ -24,7 +25,7 @@ keywords =
     ascii "input" ∷ ascii "output" ∷ ascii "clock" ∷ ascii "location" ∷ ascii "at" ∷ ascii "any" ∷ ascii "->" ∷ ascii "violation" ∷ ascii "reset"
     ∷ ascii "must" ∷ ascii "be" ∷ ascii "left" ∷ ascii ">=" ∷ ascii "<=" ∷ []
 
--- The code's table: the words one after another, where each begins and where it ends.
+-- The code's table: the words one after another, where each begins and how long it is.
 abbrev pub allWords : List ℕ
 allWords = ascii "inputoutputclocklocationatany->violationresetmustbeleft>=<="
 
@@ -32,36 +33,32 @@ allWords = ascii "inputoutputclocklocationatany->violationresetmustbeleft>=<="
 abbrev pub wordStarts : List ℕ
 wordStarts = 0 ∷ 5 ∷ 11 ∷ 16 ∷ 24 ∷ 26 ∷ 29 ∷ 31 ∷ 40 ∷ 45 ∷ 49 ∷ 51 ∷ 55 ∷ 57 ∷ []
 
--- Where each word ends in `allWords`.
-abbrev pub wordEnds : List ℕ
-wordEnds = 5 ∷ 11 ∷ 16 ∷ 24 ∷ 26 ∷ 29 ∷ 31 ∷ 40 ∷ 45 ∷ 49 ∷ 51 ∷ 55 ∷ 57 ∷ 59 ∷ []
+-- How many bytes each word has.
+abbrev pub wordLengths : List ℕ
+wordLengths = 5 ∷ 6 ∷ 5 ∷ 8 ∷ 2 ∷ 3 ∷ 2 ∷ 9 ∷ 5 ∷ 4 ∷ 2 ∷ 4 ∷ 2 ∷ 2 ∷ []
 
 -- Cut out of the table, they are the words of the language.
-pub table-words : spans allWords wordStarts wordEnds 0 14 ≡ keywords
+pub table-words : spans allWords wordStarts wordLengths 0 14 ≡ keywords
 unfolding spans
 table-words = refl
 
 -- One test over the table.
-unfoldable withinAll : (long : ℕ) (starts ends : List ℕ) → Bool
-withinAll long [] ends = true
+unfoldable withinAll : (long : ℕ) (starts lengths : List ℕ) → Bool
+withinAll long [] lengths = true
 withinAll long (a ∷ starts) [] = false
-withinAll long (a ∷ starts) (b ∷ ends) = (leb a b && leb b long) && withinAll long starts ends
+withinAll long (a ∷ starts) (b ∷ lengths) = leb (a + b) long && withinAll long starts lengths
 
-within-at : (long : ℕ) (starts ends : List ℕ) → withinAll long starts ends ≡ true → (k : ℕ) → k < length starts → (getD starts k 0 ≤ getD ends k 0) × (getD ends k 0 ≤ long)
+within-at : (long : ℕ) (starts lengths : List ℕ) → withinAll long starts lengths ≡ true → (k : ℕ) → k < length starts → getD starts k 0 + getD lengths k 0 ≤ long
 unfolding withinAll
-within-at long [] ends h k l = absurd (omega arith)
+within-at long [] lengths h k l = absurd (omega arith)
 within-at long (a ∷ starts) [] h k l = absurd (false≢true h)
-within-at long (a ∷ starts) (b ∷ ends) h zero l =
-    let both = and-eq-true-iff (leb a b && leb b long) _ .0 h in
-    let first = and-eq-true-iff (leb a b) _ .0 (both .0) in
-    (leb-true a b (first .0), leb-true b long (first .1))
-within-at long (a ∷ starts) (b ∷ ends) h (suc k) l =
-    within-at long starts ends (and-eq-true-iff (leb a b && leb b long) _ .0 h .1) k (omega arith)
+within-at long (a ∷ starts) (b ∷ lengths) h zero l = leb-true (a + b) long (and-eq-true-iff (leb (a + b) long) _ .0 h .0)
+within-at long (a ∷ starts) (b ∷ lengths) h (suc k) l = within-at long starts lengths (and-eq-true-iff (leb (a + b) long) _ .0 h .1) k (omega arith)
 
 -- Each part of the table lies within its bytes.
-pub table-within : Within allWords wordStarts wordEnds 14
+pub table-names : NamesIn 14 allWords wordStarts wordLengths
 unfolding withinAll
-table-within k h = within-at 59 wordStarts wordEnds refl k h
+table-names = record { starts-long = omega arith; lengths-long = omega arith; within = within-at 59 wordStarts wordLengths refl }
 
 -- What is found is the word; what is not found is none of them.
 find-gives : (i : ℕ) (w : Word) (ks : List Word) (j : ℕ) → find i w ks ≡ some j → (i ≤ j) × (j < i + length ks) × (w ≡ getD ks (j - i) [])
@@ -232,6 +229,18 @@ name-long (c ∷ cs) h = rw (lt-leb (length cs) 15 (omega arith)) (sym (nothing 
     nothing true true = refl
     nothing true false = refl
     nothing false b = refl
+
+-- A name has at most 16 bytes.
+pub name-short : (w : Word) → isName w ≡ true → length w ≤ 16
+name-short w e = go (ltb 16 (length w)) refl
+  where
+    go : (t : Bool) → ltb 16 (length w) ≡ t → length w ≤ 16
+    go true h = absurd (false≢true (name-long w (ltb-true 16 (length w) h) ∙ e))
+    go false h = ltb-false 16 (length w) h
+
+-- As a part of the text.
+pub name-size : (text : List ℕ) (a b : ℕ) → a ≤ b → b ≤ length text → isName (part text a (b - a)) ≡ true → b - a ≤ 16
+name-size text a b h l e = omega (arith, name-short (part text a (b - a)) e, length-take-le (b - a) (drop a text) (omega (arith, length-drop a text)))
 
 -- A word that does not begin with a lower-case letter is no name.
 pub name-first : (w : Word) → 0 < length w → false ≡ isLower (getD w 0 0) → false ≡ isName w

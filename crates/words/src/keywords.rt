@@ -11,8 +11,8 @@ pub fn keyword(word: &[u8]) -> usize
 {
     let words = b"inputoutputclocklocationatany->violationresetmustbeleft>=<=";
     let starts = [0usize, 5, 11, 16, 24, 26, 29, 31, 40, 45, 49, 51, 55, 57];
-    let ends = [5usize, 11, 16, 24, 26, 29, 31, 40, 45, 49, 51, 55, 57, 59];
-    find_name(words, &starts, &ends, 14, word)
+    let lengths = [5u8, 6, 5, 8, 2, 3, 2, 9, 5, 4, 2, 4, 2, 2];
+    find_name(words, &starts, &lengths, 0, 14, word)
 }
 
 fn is_lower(c: u8) -> bool

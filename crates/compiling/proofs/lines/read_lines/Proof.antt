@@ -5,18 +5,32 @@ use native.Mathlib.Omega.{arith}
 use lib.ListN.{length}
 use denote.Ref.{now}
 use borrow.Author.Needs.{needs}
+use Rattle.words.specs.Spans.{NamesIn}
 use Rattle.compiling.specs.Lines.{next-drop, next-more, few-rules}
 use Rattle.compiling.specs.Stored.{Keeping, keeping-start, keeping-on, held-end, held-stops}
-use Rattle.declarations.specs.Table.{draftOf, Fit, Named}
+use Rattle.declarations.specs.Table.{draftOf, Fit}
 use Rattle.compiling.proofs.lines.read_lines.Statement.{statement}
 use Rattle.compiling.proofs.lines.read_lines.Tie as tie
 
 abbrev Inv-loop : tie.InvT-loop
-Inv-loop text kept₀ starts₀ ends₀ left₀ table₀ count₀ used₀ passed₀ at₀ kept starts ends left table count used passed at =
-    (at ≤ length text) × (passed ≤ at) × (count ≤ passed) × (count ≤ 256) × (length kept ≡ 5888) × (length left ≡ 64) × Fit table × Named text starts ends × Keeping text kept₀ (draftOf text starts ends left table) count passed at used kept
+Inv-loop text kept₀ starts₀ lengths₀ left₀ table₀ count₀ used₀ passed₀ at₀ kept starts lengths left table count used passed at =
+    (at ≤ length text) × (passed ≤ at) × (count ≤ passed) × (count ≤ 256) × (length kept ≡ 5888) × (length left ≡ 64) × Fit table × NamesIn 76 text starts lengths × Keeping text kept₀ (draftOf text starts lengths left table) count passed at used kept × (length starts ≡ length starts₀) × (length lengths ≡ length lengths₀)
 
 abbrev μ-loop : tie.MeasureT-loop
-μ-loop text kept₀ starts₀ ends₀ left₀ table₀ count₀ used₀ passed₀ at₀ kept starts ends left table count used passed at = length text - at
+μ-loop text kept₀ starts₀ lengths₀ left₀ table₀ count₀ used₀ passed₀ at₀ kept starts lengths left table count used passed at = length text - at
+
+-- Earlier places in the code.
+abbrev start : tie.At-loop Inv-loop μ-loop → tie.Start Inv-loop μ-loop
+start c = c .before .before .before .before .before .before .before
+
+abbrev at-loop : tie.After-line-end Inv-loop μ-loop → tie.At-loop Inv-loop μ-loop
+at-loop c = c .before .before
+
+abbrev at-line : tie.After-read-line Inv-loop μ-loop → tie.After-line-end Inv-loop μ-loop
+at-line c = c .before .before .before .before
+
+abbrev at-read : tie.After-keep-rule Inv-loop μ-loop → tie.After-read-line Inv-loop μ-loop
+at-read c = c .before .before .before .before .before .before .before .before .before .before
 
 loop-holds : tie.Need-loop-holds Inv-loop μ-loop
 loop-holds c =
@@ -31,91 +45,92 @@ loop-holds c =
       s .pre .2,
       none .ensures .1,
       s .pre .1,
-      keeping-start (now (a .text)) (now (a .kept)) (draftOf (now (a .text)) (now (a .starts)) (now (a .ends)) (now (a .left)) (none .result)) (none .ensures .0 (now (a .text)) (now (a .starts)) (now (a .ends)) (now (a .left))),
+      keeping-start (now (a .text)) (now (a .kept)) (draftOf (now (a .text)) (now (a .starts)) (now (a .lengths)) (now (a .left)) (none .result)) (none .ensures .0 (now (a .text)) (now (a .starts)) (now (a .lengths)) (now (a .left))),
+      refl,
+      refl,
     )
 
 read-line-requires : tie.Need-read-line-requires Inv-loop μ-loop
-read-line-requires c κs = let i = c .before .before .before .before .before .loop .inv in (c .before .before .before .line-end .ensures .after, c .before .before .before .line-end .ensures .within, i .6, i .7, i .5)
+read-line-requires c κs =
+    let e = c .before .before .before in
+    let i = at-loop e .loop .inv in
+    (e .line-end .ensures .after, e .line-end .ensures .within, i .6, i .7, i .5)
 
-add-t21 : tie.Need-add-t21 Inv-loop μ-loop
-add-t21 c = omega (arith, c .before .before .before .before .before .before .before .before .before .before .before .before .before .before .loop .inv .0, c .before .before .before .before .before .before .before .before .before .before .before .before .before .before .loop .inv .1, c .before .before .before .before .before .before .before .before .before .before .before .before .before .loop-test .taken, c .before .before .before .before .before .before .before .before .before .before .before .before .before .before .before .before .before .before .before .before .before .good .0)
-
+-- The slices keep their lengths.
 same-length : tie.Need-same-length Inv-loop μ-loop
-same-length c = omega (arith, c .before .before .before .before .before .before .before .before .before .before .before .before .before .before .loop .inv .4, c .before .before .before .before .before .before .before .before .before .before .before .before .before .before .before .before .before .before .before .before .before .pre .0)
+same-length c = let l = at-loop (at-line (c .before .before .before .before .before .before .before .before)) in omega (arith, l .loop .inv .4, start l .pre .0)
 
 same-length-2 : tie.Need-same-length-2 Inv-loop μ-loop
-same-length-2 c = omega (arith, c .before .before .before .before .before .before .before .before .before .before .before .before .before .before .before .before .before .before .before .before .before .pre .1 .starts-long, c .before .before .before .before .before .before .before .before .read-line .ensures .1 .starts-long)
+same-length-2 c = let r = c .before .before .before .before .before .before .before .before in omega (arith, r .read-line .kept, at-loop (at-line r) .loop .inv .9)
 
 same-length-3 : tie.Need-same-length-3 Inv-loop μ-loop
-same-length-3 c = omega (arith, c .before .before .before .before .before .before .before .before .before .before .before .before .before .before .before .before .before .before .before .before .before .pre .1 .ends-long, c .before .before .before .before .before .before .before .before .read-line .ensures .1 .ends-long)
+same-length-3 c = let r = c .before .before .before .before .before .before .before .before in omega (arith, r .read-line .kept, at-loop (at-line r) .loop .inv .10)
 
 same-length-4 : tie.Need-same-length-4 Inv-loop μ-loop
-same-length-4 c = omega (arith, c .before .before .before .before .before .before .before .before .read-line .kept, c .before .before .before .before .before .before .before .before .before .before .before .before .before .before .loop .inv .5, c .before .before .before .before .before .before .before .before .before .before .before .before .before .before .before .before .before .before .before .before .before .pre .2)
+same-length-4 c = let r = c .before .before .before .before .before .before .before .before in let l = at-loop (at-line r) in omega (arith, r .read-line .kept, l .loop .inv .5, start l .pre .2)
 
 returns : tie.Need-returns Inv-loop μ-loop
 returns c =
-    let l = c .before .before .before .before .before .before .before .before .before .before .before .before .before .before .loop in
-    let k = c .before .before .before .before .before .before .before .before .read-line in
-    (held-stops (l .inv .8) (c .before .before .before .before .before .before .before .before .before .before .before .before .line-end .ensures) (c .before .before .before .before .before .before .before .before .before .before .before .before .before .loop-test .taken) (k .ensures .0) (c .if1 .taken) (record { refusal = k .result .refusal; line = l .passed + 1; count = l .count; used = l .used; table = l .table }) refl refl, l .inv .6, l .inv .3)
+    let r = c .before .before .before .before .before .before .before .before in
+    let e = at-line r in
+    let l = at-loop e .loop in
+    (held-stops (l .inv .8) (e .line-end .ensures) (e .before .loop-test .taken) (r .read-line .ensures .0) (c .if1 .taken) (record { refusal = r .read-line .result .refusal; line = l .passed + 1; count = l .count; used = l .used; table = l .table }) refl refl, l .inv .6, l .inv .3)
 
 keep-rule-requires : tie.Need-keep-rule-requires Inv-loop μ-loop
 keep-rule-requires c κs =
-    let l = c .before .before .before .before .before .before .before .before .before .before .before .before .before .before .before .loop in
-    let k = c .before .before .before .before .before .before .before .before .before .read-line .ensures .0 in
+    let r = c .before .before .before .before .before .before .before .before .before in
+    let l = at-loop (at-line r) .loop in
+    let k = r .read-line .ensures .0 in
     let z = c .before .if1 .left in
     (k .one, λ y. (k .room z y .0, omega (arith, l .inv .8 .few, k .room z y .1, l .inv .4)), k .fit .inputs, k .fit .clocks, k .masked)
 
-add-count : tie.Need-add-count Inv-loop μ-loop
-add-count c = omega (arith, c .before .before .before .before .before .before .before .before .before .before .before .before .before .before .before .before .before .before .before .before .loop .inv .3, c .before .before .before .before .before .before .before .before .before .before .before .before .before .before .read-line .ensures .0 .one)
+-- There are not more lines than bytes.
+add-t21 : tie.Need-add-t21 Inv-loop μ-loop
+add-t21 c = omega (arith, start (at-loop (at-line (c .before .before .before .before .before .before .before .before))) .good .0)
 
 add-passed : tie.Need-add-passed Inv-loop μ-loop
-add-passed c = omega (arith, c .before .before .before .before .before .before .before .before .before .before .before .before .before .before .before .before .before .before .before .before .loop .inv .0, c .before .before .before .before .before .before .before .before .before .before .before .before .before .before .before .before .before .before .before .before .loop .inv .1, c .before .before .before .before .before .before .before .before .before .before .before .before .before .before .before .before .before .before .before .loop-test .taken, c .before .before .before .before .before .before .before .before .before .before .before .before .before .before .before .before .before .before .before .before .before .before .before .before .before .before .before .good .0)
+add-passed c = let e = at-line (c .before .before .before .before .before .before .before .before .before .before .before .before .before .before) in let l = at-loop e in omega (arith, l .loop .inv .0, l .loop .inv .1, e .before .loop-test .taken, start l .good .0)
+
+add-count : tie.Need-add-count Inv-loop μ-loop
+add-count c = let r = c .before .before .before .before .before .before .before .before .before .before .before .before .before .before in omega (arith, at-loop (at-line r) .loop .inv .3, r .read-line .ensures .0 .one)
 
 next-line-requires : tie.Need-next-line-requires Inv-loop μ-loop
 next-line-requires c κs = c .before .before .before .before .before .before .before .before .before .before .before .before .before .before .before .before .before .before .line-end .ensures .within
 
-loop-less : tie.Need-loop-less Inv-loop μ-loop
-loop-less c =
-    let a = c .before .before .before .before .before .before .before .before .before .before .before .before .before .before .before .before .before .before .before .before .before .before .before .before .before .before .before .before .args in
-    let l = c .before .before .before .before .before .before .before .before .before .before .before .before .before .before .before .before .before .before .before .before .before .loop in
-    let e = c .before .before .before .before .before .before .before .before .before .before .before .before .before .before .before .before .before .before .before .line-end in
+-- The next line begins further on.
+on : (c : tie.After-next-line Inv-loop μ-loop) →
+    let e = at-line (at-read (c .before .before .before .before .before)) in
+    at-loop e .loop .at < c .next-line .result
+on c =
+    let e = at-line (at-read (c .before .before .before .before .before)) in
+    let l = at-loop e in
     let n = c .next-line in
-    omega (arith, n .ensures .0, next-more (l .at) (e .result) (length (now (a .text))) (n .result) (e .ensures .after) (c .before .before .before .before .before .before .before .before .before .before .before .before .before .before .before .before .before .before .before .before .loop-test .taken) (e .ensures .within) (n .ensures .1) (n .ensures .2))
+    next-more (l .loop .at) (e .line-end .result) (length (now (start l .args .text))) (n .result) (e .line-end .ensures .after) (e .before .loop-test .taken) (e .line-end .ensures .within) (n .ensures .1) (n .ensures .2)
+
+loop-less : tie.Need-loop-less Inv-loop μ-loop
+loop-less c = omega (arith, c .next-line .ensures .0, on c)
 
 loop-again : tie.Need-loop-again Inv-loop μ-loop
 loop-again c =
-    let s = c .before .before .before .before .before .before .before .before .before .before .before .before .before .before .before .before .before .before .before .before .before .before .before .before .before .before .before .before in
-    let a = s .args in
-    let l = c .before .before .before .before .before .before .before .before .before .before .before .before .before .before .before .before .before .before .before .before .before .loop in
-    let e = c .before .before .before .before .before .before .before .before .before .before .before .before .before .before .before .before .before .before .before .line-end in
-    let k = c .before .before .before .before .before .before .before .before .before .before .before .before .before .before .before .read-line in
-    let p = c .before .before .before .before .before .keep-rule in
+    let p = c .before .before .before .before .before in
+    let r = at-read p in
+    let e = at-line r in
+    let l = at-loop e .loop in
     let n = c .next-line in
-    let z = c .before .before .before .before .before .before .before .if1 .left in
-    let inside : l .at < length (now (a .text)) = c .before .before .before .before .before .before .before .before .before .before .before .before .before .before .before .before .before .before .before .before .loop-test .taken in
-    let on : l .at < n .result = next-more (l .at) (e .result) (length (now (a .text))) (n .result) (e .ensures .after) inside (e .ensures .within) (n .ensures .1) (n .ensures .2) in (
+    let k = r .read-line in
+    let z = p .before .before .if1 .left in (
       n .ensures .0,
-      omega (arith, on, l .inv .1),
+      omega (arith, on c, l .inv .1),
       omega (arith, l .inv .2, k .ensures .0 .one),
       few-rules (k .result .rule) (l .count) (k .ensures .0 .one) (l .inv .3) (λ y. k .ensures .0 .room z y .1),
-      omega (arith, p .kept .0, l .inv .4),
+      omega (arith, p .keep-rule .kept .0, l .inv .4),
       omega (arith, k .kept, l .inv .5),
       k .ensures .0 .fit,
       k .ensures .1,
-      keeping-on (l .inv .8) (e .ensures) inside (k .ensures .0) z (next-drop (now (a .text)) (e .result) (n .result) (e .ensures .within) (n .ensures .1) (n .ensures .2)) (p .ensures .0) (p .ensures .1),
+      keeping-on (l .inv .8) (e .line-end .ensures) (e .before .loop-test .taken) (k .ensures .0) z (next-drop (now (start (at-loop e) .args .text)) (e .line-end .result) (n .result) (e .line-end .ensures .within) (n .ensures .1) (n .ensures .2)) (p .keep-rule .ensures .0) (p .keep-rule .ensures .1),
+      omega (arith, k .kept, l .inv .9),
+      omega (arith, k .kept, l .inv .10),
     )
-
-same-length-5 : tie.Need-same-length-5 Inv-loop μ-loop
-same-length-5 c = omega (arith, c .before .loop .inv .4, c .before .before .before .before .before .before .before .before .pre .0)
-
-same-length-6 : tie.Need-same-length-6 Inv-loop μ-loop
-same-length-6 c = omega (arith, c .before .before .before .before .before .before .before .before .pre .1 .starts-long, c .before .loop .inv .7 .starts-long)
-
-same-length-7 : tie.Need-same-length-7 Inv-loop μ-loop
-same-length-7 c = omega (arith, c .before .before .before .before .before .before .before .before .pre .1 .ends-long, c .before .loop .inv .7 .ends-long)
-
-same-length-8 : tie.Need-same-length-8 Inv-loop μ-loop
-same-length-8 c = omega (arith, c .before .loop .inv .5, c .before .before .before .before .before .before .before .before .pre .2)
 
 returns-2 : tie.Need-returns-2 Inv-loop μ-loop
 returns-2 c =
@@ -127,5 +142,5 @@ read-lines-spec =
     tie.close
     (tie.spec
     Inv-loop μ-loop (λ c κs. search needs) loop-holds (λ c κs. search needs) read-line-requires add-t21 same-length same-length-2 same-length-3
-    same-length-4 returns keep-rule-requires add-count add-passed next-line-requires loop-less loop-again same-length-5 same-length-6 same-length-7
-    same-length-8 returns-2)
+    same-length-4 returns keep-rule-requires add-count add-passed next-line-requires loop-less loop-again (λ c. omega arith)
+    (λ c. omega (arith, c .before .loop .inv .9)) (λ c. omega (arith, c .before .loop .inv .10)) (λ c. omega arith) returns-2)

@@ -19,7 +19,7 @@ returns c =
     let s = c .before .before .before .before .before .before in
     let a = s .args in
     let none = c .unsaid in
-    (λ left rules long. rule-nowhere (now (a .text)) (now (a .starts)) (now (a .ends)) left (s .pre .2) rules (wordsOf (part (now (a .text)) (a .at) (a .end - a .at))) (ruled (now (a .text)) (now (a .starts)) (now (a .ends)) left (a .table) rules (none .result)) (c .before .if1 .taken), none .ensures .1, λ z. absurd (omega arith))
+    (λ left rules long. rule-nowhere (now (a .text)) (now (a .starts)) (now (a .lengths)) left (s .pre .2) rules (wordsOf (part (now (a .text)) (a .at) (a .end - a .at))) (ruled (now (a .text)) (now (a .starts)) (now (a .lengths)) left (a .table) rules (none .result)) (c .before .if1 .taken), none .ensures .1, λ z. absurd (omega arith))
 
 returns-2 : tie.Need-returns-2
 returns-2 c =
@@ -27,7 +27,7 @@ returns-2 c =
     let a = s .args in
     let f = s .pre .2 in
     let step = c .before .before .words-by in
-    (λ left rules long. rule-refused (now (a .text)) (now (a .starts)) (now (a .ends)) left f rules (wordsOf (part (now (a .text)) (a .at) (a .end - a .at))) (c .before .before .before .if1 .left) (step .result) (step .ensures .0 left rules) (ruled (now (a .text)) (now (a .starts)) (now (a .ends)) left (a .table) rules (step .result .parsed)) (c .if2 .taken), step .ensures .1, λ z. absurd (c .if2 .taken z))
+    (λ left rules long. rule-refused (now (a .text)) (now (a .starts)) (now (a .lengths)) left f rules (wordsOf (part (now (a .text)) (a .at) (a .end - a .at))) (c .before .before .before .if1 .left) (step .result) (step .ensures .0 left rules) (ruled (now (a .text)) (now (a .starts)) (now (a .lengths)) left (a .table) rules (step .result .parsed)) (c .if2 .taken), step .ensures .1, λ z. absurd (c .if2 .taken z))
 
 rule-refusal-requires : tie.Need-rule-refusal-requires
 rule-refusal-requires c κs = c .before .before .before .before .before .before .before .before .before .before .pre .2 .clocks
@@ -41,7 +41,7 @@ returns-3 c =
     let p = step .result .parsed in
     let n = a .table .clocks in
     let tested = c .rule-refusal .ensures in (
-      λ left rules long. rule-tested (now (a .text)) (now (a .starts)) (now (a .ends)) left f rules (wordsOf (part (now (a .text)) (a .at) (a .end - a .at))) (c .before .before .before .before .before .before .if1 .left) (step .result) (step .ensures .0 left rules) (c .before .before .before .if2 .left) long tested,
+      λ left rules long. rule-tested (now (a .text)) (now (a .starts)) (now (a .lengths)) left f rules (wordsOf (part (now (a .text)) (a .at) (a .end - a .at))) (c .before .before .before .before .before .before .if1 .left) (step .result) (step .ensures .0 left rules) (c .before .before .before .if2 .left) long tested,
       step .ensures .1,
       λ z. (c .before .before .before .before .before .before .if1 .left, room-left (ends (begunOf n p) (partOf (p .part) (p .clock))) (boundsGood (take n (a .table .ceilings)) (boundsOf n (p .low) (p .high))) (a .count) (sym tested ∙ z)),
     )

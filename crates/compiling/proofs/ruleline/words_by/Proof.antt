@@ -9,10 +9,13 @@ use Rattle.policy.specs.File.{part}
 use Rattle.wording.specs.Words.{wordsOf}
 use Rattle.wording.specs.Names.{through}
 use Rattle.wording.specs.Reader.{Scope, bare, ruleWord}
-use Rattle.declarations.specs.Fresh.{within-behind, behind-long}
 use Rattle.compiling.specs.RuleLine.{scope-is}
 use Rattle.compiling.proofs.ruleline.words_by.Statement.{statement}
 use Rattle.compiling.proofs.ruleline.words_by.Tie as tie
+
+-- Earlier places in the code.
+abbrev start : tie.After-rule-words-arg → tie.Start
+start c = c .before .before .before .before .before .before
 
 array-share-prefix-tags : tie.Need-array-share-prefix-tags
 array-share-prefix-tags c = let f = c .before .before .before .before .pre .2 in omega (arith, f .inputs, f .outputs)
@@ -25,25 +28,21 @@ slice-aggregate-rule-words c =
 
 rule-words-requires : tie.Need-rule-words-requires
 rule-words-requires c κs =
-    let a = c .before .before .before .before .before .before .before .before .before .before .args in
-    let t = a .table in
-    let f = c .before .before .before .before .before .before .before .before .before .before .pre .2 in
-    let p = c .before .before .before .before .before .before .before .before .before .before .pre .3 in
-    let long = length-take-le (t .signals) (t .tags) (omega (arith, f .inputs, f .outputs, f .tags-long)) in (
-      rw long (omega (arith, f .inputs, f .outputs), omega (arith, f .inputs, f .outputs, p .starts-long), omega (arith, f .inputs, f .outputs, p .ends-long), λ k h. p .within k (omega (arith, f .inputs, f .outputs))),
-      ((f .clocks, behind-long 8 (t .clocks) (now (a .starts)) (omega (arith, f .clocks, p .starts-long)), behind-long 8 (t .clocks) (now (a .ends)) (omega (arith, f .clocks, p .ends-long)), within-behind (now (a .text)) (now (a .starts)) (now (a .ends)) (p .within) 8 (t .clocks) (omega (arith, f .clocks))), (f .places, behind-long 12 (t .places) (now (a .starts)) (omega (arith, f .places, p .starts-long)), behind-long 12 (t .places) (now (a .ends)) (omega (arith, f .places, p .ends-long)), within-behind (now (a .text)) (now (a .starts)) (now (a .ends)) (p .within) 12 (t .places) (omega (arith, f .places)))),
-    )
+    let s = start c in
+    let t = s .args .table in
+    let f = s .pre .2 in
+    let long = length-take-le (t .signals) (t .tags) (omega (arith, f .inputs, f .outputs, f .tags-long)) in
+    (omega (arith, long, f .inputs, f .outputs), f .clocks, f .places, s .pre .3)
 
 returns : tie.Need-returns
 returns c =
-    let a = c .before .before .before .before .before .before .before .before .before .before .before .args in
+    let s = start (c .before) in
+    let a = s .args in
     let step = c .rule-words .ensures in
-    (λ left rules. step .0 ∙ ap (λ (sc : Scope). through (ruleWord sc) (bare (a .table .clocks)) (wordsOf (part (now (a .text)) (a .at) (a .end - a .at)))) (scope-is (now (a .text)) (now (a .starts)) (now (a .ends)) left (c .before .before .before .before .before .before .before .before .before .before .before .pre .2) rules refl), step .1)
+    (λ left rules. step .0 ∙ ap (λ (sc : Scope). through (ruleWord sc) (bare (a .table .clocks)) (wordsOf (part (now (a .text)) (a .at) (a .end - a .at)))) (scope-is (now (a .text)) (now (a .starts)) (now (a .lengths)) left (s .pre .2) rules refl), step .1)
 
 pub words-by-spec : {M : Type 1} → statement M
 words-by-spec =
     tie.close
     (tie.spec
-    array-share-prefix-tags slice-aggregate-rule-words (λ c. search needs) (λ c. search needs) (λ c. search needs) (λ c. search needs)
-    (λ c. search needs) (λ c. search needs) (λ c. search needs) (λ c. search needs) (λ c. search needs) (λ c. search needs) (λ c. search needs)
-    (λ c. search needs) (λ c. search needs) (λ c. search needs) (λ c. search needs) rule-words-requires returns)
+    array-share-prefix-tags slice-aggregate-rule-words (λ c. search needs) (λ c. search needs) (λ c. search needs) rule-words-requires returns)

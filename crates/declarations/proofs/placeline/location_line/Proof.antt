@@ -1,29 +1,46 @@
 -- `declarations::placeline::location_line` meets its contract.
 use mathlib.Core.Path.{_∙_}
+use mathlib.Core.List.{List}
 use denote.Ref.{now}
 use borrow.Author.Needs.{needs}
+use Rattle.policy.specs.Rules.{Rule}
+use Rattle.wording.specs.Reader.{Draft}
 use Rattle.declarations.specs.Table.{draftOf}
 use Rattle.declarations.specs.PlaceLine.{location-none, location-no, location-given}
 use Rattle.declarations.proofs.placeline.location_line.Statement.{statement}
 use Rattle.declarations.proofs.placeline.location_line.Tie as tie
 
+-- Earlier places in the code.
+abbrev start : tie.After-word-in → tie.Start
+start c = c .before .before .before .before .before
+
+abbrev at-word : tie.After-left-byte → tie.After-word-in
+at-word c = c .before .before
+
+-- What the lines before have said.
+abbrev draft : tie.Start → List Rule → Draft
+draft s rules = draftOf (now (s .args .text)) (now (s .args .starts)) (now (s .args .lengths)) (now (s .args .left)) (s .args .table) rules
+
 returns : tie.Need-returns
 returns c =
-    let s = c .before .before .before .before .before .before in
-    let a = s .args in
-    (λ rules. location-none (draftOf (now (a .text)) (now (a .starts)) (now (a .ends)) (now (a .left)) (a .table) rules) (c .before .word-in .ensures) (c .if1 .taken), s .pre .2, s .pre .3)
+    let w = c .before in
+    let s = start w in
+    (λ rules. location-none (draft s rules) (w .word-in .ensures) (c .if1 .taken), s .pre .2, s .pre .3)
 
 returns-2 : tie.Need-returns-2
 returns-2 c =
-    let s = c .before .before .before .before .before .before .before .before in
-    let a = s .args in
-    (λ rules. location-no (draftOf (now (a .text)) (now (a .starts)) (now (a .ends)) (now (a .left)) (a .table) rules) (c .before .before .before .word-in .ensures) (c .before .before .if1 .left) (c .before .left-byte .ensures) (c .if2 .taken), s .pre .2, s .pre .3)
+    let b = c .before in
+    let w = at-word b in
+    let s = start w in
+    (λ rules. location-no (draft s rules) (w .word-in .ensures) (b .before .if1 .left) (b .left-byte .ensures) (c .if2 .taken), s .pre .2, s .pre .3)
 
 returns-3 : tie.Need-returns-3
 returns-3 c =
-    let a = c .before .before .before .before .before .before .before .before .before .before .before .before .before .before .before .before .before .before .args in
-    let one = c .before .before .before .before .before .before .place .ensures in
-    (λ rules. one .0 rules ∙ location-given (draftOf (now (a .text)) (now (a .starts)) (now (a .ends)) (now (a .left)) (a .table) rules) (c .before .before .before .before .before .before .before .before .before .before .before .before .before .word-in .ensures) (c .before .before .before .before .before .before .before .before .before .before .before .before .if1 .left) (c .before .before .before .before .before .before .before .before .before .before .before .left-byte .ensures) (c .before .before .before .before .before .before .before .before .before .before .if2 .left), one .1, one .2)
+    let p = c .before .before .before .before .before .before in
+    let b = p .before .before .before .before .before in
+    let w = at-word b in
+    let s = start w in
+    (λ rules. p .place .ensures .0 rules ∙ location-given (draft s rules) (w .word-in .ensures) (b .before .if1 .left) (b .left-byte .ensures) (p .before .before .before .before .if2 .left), p .place .ensures .1, p .place .ensures .2)
 
 pub location-line-spec : {M : Type 1} → statement M
 location-line-spec =
