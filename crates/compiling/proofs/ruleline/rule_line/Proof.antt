@@ -14,6 +14,10 @@ use Rattle.conditions.specs.Steps.{begunOf, boundsOf, partOf}
 use Rattle.compiling.proofs.ruleline.rule_line.Statement.{statement}
 use Rattle.compiling.proofs.ruleline.rule_line.Tie as tie
 
+-- Earlier places in the code.
+abbrev start : tie.After-words-by → tie.Start
+start c = c .before .before .before .before .before .before
+
 returns : tie.Need-returns
 returns c =
     let s = c .before .before .before .before .before .before in
@@ -23,18 +27,18 @@ returns c =
 
 returns-2 : tie.Need-returns-2
 returns-2 c =
-    let s = c .before .before .before .before .before .before .before .before in
+    let s = start (c .before .before) in
     let a = s .args in
     let f = s .pre .2 in
     let step = c .before .before .words-by in
     (λ left rules long. rule-refused (now (a .text)) (now (a .starts)) (now (a .lengths)) left f rules (wordsOf (part (now (a .text)) (a .at) (a .end - a .at))) (c .before .before .before .if1 .left) (step .result) (step .ensures .0 left rules) (ruled (now (a .text)) (now (a .starts)) (now (a .lengths)) left (a .table) rules (step .result .parsed)) (c .if2 .taken), step .ensures .1, λ z. absurd (c .if2 .taken z))
 
 rule-refusal-requires : tie.Need-rule-refusal-requires
-rule-refusal-requires c κs = c .before .before .before .before .before .before .before .before .before .before .pre .2 .clocks
+rule-refusal-requires c κs = start (c .before .before .before .before) .pre .2 .clocks
 
 returns-3 : tie.Need-returns-3
 returns-3 c =
-    let s = c .before .before .before .before .before .before .before .before .before .before .before in
+    let s = start (c .before .before .before .before .before) in
     let a = s .args in
     let f = s .pre .2 in
     let step = c .before .before .before .before .before .words-by in
