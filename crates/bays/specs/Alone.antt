@@ -10,7 +10,7 @@ use lib.Dec.{ltb, eqb}
 use lib.ListN.{length}
 use borrow.Author.Tests.{ltb-true, ltb-false, eqb-true, eqb-false}
 use Rattle.streams.specs.Answer.{Answer, refused}
-use Rattle.bays.specs.Five.{stateWords, stateIn, words-back}
+use Rattle.stepping.specs.Five.{stateWords, stateIn, words-back}
 use Rattle.bays.specs.Bays.{baysIn, bayCount, numbersOf, bayState}
 use Rattle.bays.specs.Entries.{BayAnswer, noBay}
 use Rattle.bays.specs.Parts.{fits, is-bay, numbers-five, same-list}

@@ -5,7 +5,7 @@ use mathlib.Core.List.{List, _++_}
 use Prim.Native.Nat.{ℕ, _+_, _*_, _/_, _%_}
 use lib.Dec.{leb, eqb}
 use lib.ListN.{length, take, drop}
-use Rattle.bays.specs.Five.{stateWords, stateIn}
+use Rattle.stepping.specs.Five.{stateWords, stateIn}
 use Rattle.stepping.specs.declared.state.State.{State}
 
 -- How many bays so many numbers are. Numbers that are not five for each of 1 to 8 bays hold no bay.

@@ -6,7 +6,7 @@ use lib.Dec.{ltb}
 use Rattle.streams.specs.Answer.{Answer, refused, _orElse_, unless}
 use Rattle.enforcer.specs.Entries.{OutputAnswer, marksRefusal, inputOf, outputOf}
 use Rattle.stepping.specs.Code.{startState}
-use Rattle.bays.specs.Five.{stateWords}
+use Rattle.stepping.specs.Five.{stateWords}
 use Rattle.bays.specs.Bays.{bayCount, bayState, withState}
 
 -- "25 for a count of 0 or above 8, when the list is made"

@@ -1,4 +1,3 @@
-pub mod Five
 pub mod Odd
 pub mod Bays
 pub mod Entries

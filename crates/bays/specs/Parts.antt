@@ -10,7 +10,7 @@ use lib.ListN.{length, getD, take, drop, length-append, length-drop, take-append
 use lib.Seq.{length-take-le, take-at, drop-at, take-append-le, drop-append-le, drop-append-add, drop-drop, getD-take, getD-drop, ext-getD}
 use borrow.Author.Tests.{ltb-true, ltb-false, leb-true, eqb-true}
 use Rattle.stepping.specs.Code.{startState}
-use Rattle.bays.specs.Five.{stateWords, words-back, words-in}
+use Rattle.stepping.specs.Five.{stateWords, words-back, words-in}
 use Rattle.bays.specs.Bays.{baysIn, numbersOf, bayState, withState}
 use Rattle.bays.specs.Entries.{started}
 use Rattle.stepping.specs.declared.state.State.{State}

@@ -1,12 +1,12 @@
 // A new list, and the two halves of a bay's tick.
-use crate::five::STATE_NUMBERS;
-use crate::five::put_state;
-use crate::five::state_of;
 use enforcer::HalfAnswer;
 use enforcer::input_half;
 use enforcer::marks_refusal;
 use enforcer::output_of;
 use stepping::State;
+use stepping::five::STATE_NUMBERS;
+use stepping::five::put_state;
+use stepping::five::state_of;
 ghost use mathlib.Core.Path.{_≡_};
 ghost use Prim.Native.Nat.{_<_};
 ghost use Rattle.bays.specs.Bays.{baysIn, bayCount, bayState, withState};

@@ -37,37 +37,21 @@ fn if_marked(layout: Layout, marks: &[u8], state: State, step: Step) -> Step
 }
 
 // What the event x, y does; a next state that is not marked counts as none. Only a run asks this, so that the compiler lays it into the run's loop.
-pub(crate) fn arrival(
-    file: &[u8],
-    layout: Layout,
-    here: Here,
-    marks: &[u8],
-    state: State,
-    x: u8,
-    y: u8,
-) -> Step
-    requires { ⌜ Ready (now file) layout here (now marks) state ⌝ }
-    ensures { λ r. ⌜ r ≡ stepFrom state (arrival (policyOf (layout .reading) (now (file .entry))) (now (marks .entry)) (place (layout .clocks) state) x y) ⌝ }
+pub(crate) fn arrival(file: &[u8], layout: Layout, here: Here, marks: &[u8], x: u8, y: u8) -> Step
+    requires { ⌜ Ready (now file) layout here (now marks) ⌝ }
+    ensures { λ r. ⌜ r ≡ stepFrom (here .state) (arrival (policyOf (layout .reading) (now (file .entry))) (now (marks .entry)) (place (layout .clocks) (here .state)) x y) ⌝ }
 {
-    let rule = rule_of(file, layout, here, state, x, y);
-    let step = state.by(file, layout, rule);
-    if_marked(layout, marks, state, step)
+    let rule = rule_of(file, layout, here, x, y);
+    let step = here.state.by(file, layout, rule);
+    if_marked(layout, marks, here.state, step)
 }
 
 // What the event x, y does, as `arrival` has it. Only the output half asks this one, so that the compiler lays it into the half.
-pub fn output_arrival(
-    file: &[u8],
-    layout: Layout,
-    here: Here,
-    marks: &[u8],
-    state: State,
-    x: u8,
-    y: u8,
-) -> Step
-    requires { ⌜ Ready (now file) layout here (now marks) state ⌝ }
-    ensures { λ r. ⌜ r ≡ stepFrom state (arrival (policyOf (layout .reading) (now (file .entry))) (now (marks .entry)) (place (layout .clocks) state) x y) ⌝ }
+pub fn output_arrival(file: &[u8], layout: Layout, here: Here, marks: &[u8], x: u8, y: u8) -> Step
+    requires { ⌜ Ready (now file) layout here (now marks) ⌝ }
+    ensures { λ r. ⌜ r ≡ stepFrom (here .state) (arrival (policyOf (layout .reading) (now (file .entry))) (now (marks .entry)) (place (layout .clocks) (here .state)) x y) ⌝ }
 {
-    let rule = rule_of(file, layout, here, state, x, y);
-    let step = state.by(file, layout, rule);
-    if_marked(layout, marks, state, step)
+    let rule = rule_of(file, layout, here, x, y);
+    let step = here.state.by(file, layout, rule);
+    if_marked(layout, marks, here.state, step)
 }

@@ -5,8 +5,9 @@ use choice::Choice;
 use choice::nearest;
 use choice::standing;
 use leading::allowed;
+use leading::inputs_of;
+use leading::outputs_of;
 use leading::reaches;
-use leading::values;
 use policy::Layout;
 use policy::Own;
 use stepping::Here;
@@ -36,34 +37,26 @@ pub struct Ticked {
 }
 
 // The event of x and the output chosen for it, and the state after it; or that nothing may stand.
-fn moved(file: &[u8], layout: Layout, here: Here, state: State, x: u8, output: Choice) -> Ticked
-    requires { ⌜ Laid (now file) layout × HereOf (now file) layout state here ⌝ }
-    ensures { λ r. ⌜ ((marks : List ℕ) (y : ℕ) → choiceSaid output ≡ outputChoice (policyOf (layout .reading) (now (file .entry))) marks (place (layout .clocks) state) x y → r ≡ tickFrom state (outputTick (policyOf (layout .reading) (now (file .entry))) marks (place (layout .clocks) state) x y)) ⌝ }
+fn moved(file: &[u8], layout: Layout, here: Here, x: u8, output: Choice) -> Ticked
+    requires { ⌜ Laid (now file) layout × HereOf (now file) layout here ⌝ }
+    ensures { λ r. ⌜ ((marks : List ℕ) (y : ℕ) → choiceSaid output ≡ outputChoice (policyOf (layout .reading) (now (file .entry))) marks (place (layout .clocks) (here .state)) x y → r ≡ tickFrom (here .state) (outputTick (policyOf (layout .reading) (now (file .entry))) marks (place (layout .clocks) (here .state)) x y)) ⌝ }
 {
     match output {
-        Choice::Nothing => stuck(state),
+        Choice::Nothing => stuck(here.state),
         Choice::Value(z) => {
-            let step = state.step(file, layout, here, x, z);
+            let step = here.state.step(file, layout, here, x, z);
             released(x, z, step.state)
         }
     }
 }
 
 // The output half with its move.
-pub fn output_tick(
-    file: &[u8],
-    layout: Layout,
-    here: Here,
-    marks: &[u8],
-    state: State,
-    x: u8,
-    y: u8,
-) -> Ticked
-    requires { ⌜ Ready (now file) layout here (now marks) state × (y < outputValues (policyOf (layout .reading) (now file))) ⌝ }
-    ensures { λ r. ⌜ r ≡ tickFrom state (outputTick (policyOf (layout .reading) (now (file .entry))) (now (marks .entry)) (place (layout .clocks) state) x y) ⌝ }
+pub fn output_tick(file: &[u8], layout: Layout, here: Here, marks: &[u8], x: u8, y: u8) -> Ticked
+    requires { ⌜ Ready (now file) layout here (now marks) × (y < outputValues (policyOf (layout .reading) (now file))) ⌝ }
+    ensures { λ r. ⌜ r ≡ tickFrom (here .state) (outputTick (policyOf (layout .reading) (now (file .entry))) (now (marks .entry)) (place (layout .clocks) (here .state)) x y) ⌝ }
 {
-    let output = choose_output(file, layout, here, marks, state, x, y);
-    moved(file, layout, here, state, x, output)
+    let output = choose_output(file, layout, here, marks, x, y);
+    moved(file, layout, here, x, output)
 }
 
 fn released(x: u8, y: u8, state: State) -> Ticked
@@ -90,28 +83,20 @@ fn stuck(state: State) -> Ticked
 
 // Both halves, one after the other. The input as read stands if an event with it leads on, and mostly the one without any output does. Else one pass over
 // the rules gives the outputs that may stand with each input: it serves both halves.
-fn corrected(
-    file: &[u8],
-    layout: Layout,
-    here: Here,
-    marks: &[u8],
-    state: State,
-    x: u8,
-    y: u8,
-) -> Ticked
-    requires { ⌜ Ready (now file) layout here (now marks) state × (x < inputValues (policyOf (layout .reading) (now file))) × (y < outputValues (policyOf (layout .reading) (now file))) ⌝ }
-    ensures { λ r. ⌜ r ≡ tickFrom state (tick (policyOf (layout .reading) (now (file .entry))) (now (marks .entry)) (place (layout .clocks) state) (eventXY x y)) ⌝ }
+fn corrected(file: &[u8], layout: Layout, here: Here, marks: &[u8], x: u8, y: u8) -> Ticked
+    requires { ⌜ Ready (now file) layout here (now marks) × (x < inputValues (policyOf (layout .reading) (now file))) × (y < outputValues (policyOf (layout .reading) (now file))) ⌝ }
+    ensures { λ r. ⌜ r ≡ tickFrom (here .state) (tick (policyOf (layout .reading) (now (file .entry))) (now (marks .entry)) (place (layout .clocks) (here .state)) (eventXY x y)) ⌝ }
 {
-    if reaches(file, layout, here, marks, state, x, 0) {
-        return output_tick(file, layout, here, marks, state, x, y);
+    if reaches(file, layout, here, marks, x, 0) {
+        return output_tick(file, layout, here, marks, x, y);
     }
-    let sets = allowed(file, layout, here, marks, state);
-    match nearest(standing(sets), x, values(layout.inputs)) {
-        Choice::Nothing => stuck(state),
+    let sets = allowed(file, layout, here, marks);
+    match nearest(standing(sets), x, inputs_of(file, layout)) {
+        Choice::Nothing => stuck(here.state),
         Choice::Value(z) => {
             let i = z as usize;
-            let output = nearest(sets[i], y, values(layout.outputs));
-            moved(file, layout, here, state, z, output)
+            let output = nearest(sets[i], y, outputs_of(file, layout));
+            moved(file, layout, here, z, output)
         }
     }
 }
@@ -130,9 +115,9 @@ pub fn tick(
     ensures { λ r. ⌜ r ≡ tickFrom state (tick (policyOf (layout .reading) (now (file .entry))) (now (marks .entry)) (place (layout .clocks) state) (eventXY x y)) ⌝ }
 {
     let here = here_by(file, layout, own, state);
-    let read = arrival(file, layout, here, marks, state, x, y);
+    let read = arrival(file, layout, here, marks, x, y);
     if read.permitted {
         return released(x, y, read.state);
     }
-    corrected(file, layout, here, marks, state, x, y)
+    corrected(file, layout, here, marks, x, y)
 }

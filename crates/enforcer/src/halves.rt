@@ -4,7 +4,8 @@ use correcting::choose_input;
 use correcting::output_arrival;
 use correcting::output_tick;
 use leading::input_reaches;
-use leading::values;
+use leading::inputs_of;
+use leading::outputs_of;
 use policy::Checked;
 use policy::Layout;
 use policy::Own;
@@ -90,12 +91,12 @@ pub fn input_half(reading: u8, file: &[u8], marks: &[u8], state: State, x: u8) -
     if r != 0 {
         return HalfAnswer::Refused(r);
     }
-    if values(layout.inputs) <= x as usize {
+    if inputs_of(file, layout) <= x as usize {
         return HalfAnswer::Refused(15);
     }
     let own = own_of(file, layout, state);
     let here = here_by(file, layout, own, state);
-    if input_reaches(file, layout, here, marks, state, x) {
+    if input_reaches(file, layout, here, marks, x) {
         return HalfAnswer::Value(x);
     }
     input_by(&file[..], layout, own, &marks[..], state, x)
@@ -113,11 +114,11 @@ pub fn input_by(
     requires { ⌜ Standing (now file) layout (now marks) state × (own ≡ ownOf (layout .clocks) (state .location) (rulesOf (now file))) ⌝ }
     ensures { λ r. ⌜ answerSaid r ≡ inputPast (layout .reading) (now (file .entry)) (now (marks .entry)) (place (layout .clocks) state) x ⌝ }
 {
-    if values(layout.inputs) <= x as usize {
+    if inputs_of(file, layout) <= x as usize {
         return HalfAnswer::Refused(15);
     }
     let here = here_by(file, layout, own, state);
-    match choose_input(file, layout, here, marks, state, x) {
+    match choose_input(file, layout, here, marks, x) {
         Choice::Value(z) => HalfAnswer::Value(z),
         Choice::Nothing => HalfAnswer::Refused(17),
     }
@@ -136,14 +137,14 @@ pub fn output_by(
     requires { ⌜ Standing (now file) layout (now marks) state × (own ≡ ownOf (layout .clocks) (state .location) (rulesOf (now file))) ⌝ }
     ensures { λ r. ⌜ outputSaid r ≡ outputPast (layout .reading) (now (file .entry)) (now (marks .entry)) state (place (layout .clocks) state) x y ⌝ }
 {
-    if values(layout.inputs) <= x as usize {
+    if inputs_of(file, layout) <= x as usize {
         return refused(state, 15);
     }
-    if values(layout.outputs) <= y as usize {
+    if outputs_of(file, layout) <= y as usize {
         return refused(state, 15);
     }
     let here = here_by(file, layout, own, state);
-    let t = output_tick(file, layout, here, marks, state, x, y);
+    let t = output_tick(file, layout, here, marks, x, y);
     if !t.released {
         return refused(state, 17);
     }
@@ -168,15 +169,15 @@ pub fn output_of(state: State, reading: u8, file: &[u8], marks: &[u8], x: u8, y:
     if r != 0 {
         return refused(state, r);
     }
-    if values(layout.inputs) <= x as usize {
+    if inputs_of(file, layout) <= x as usize {
         return refused(state, 15);
     }
-    if values(layout.outputs) <= y as usize {
+    if outputs_of(file, layout) <= y as usize {
         return refused(state, 15);
     }
     let own = own_of(file, layout, state);
     let here = here_by(file, layout, own, state);
-    let read = output_arrival(file, layout, here, marks, state, x, y);
+    let read = output_arrival(file, layout, here, marks, x, y);
     if read.permitted {
         let next = read.state;
         return Output {

@@ -5,7 +5,8 @@ use correcting::tick::tick;
 use index::NUMBERS;
 use index::fill;
 use index::own_at;
-use leading::values;
+use leading::inputs_of;
+use leading::outputs_of;
 use policy::Layout;
 use stepping::State;
 ghost use mathlib.Core.Path.{_≡_};
@@ -34,8 +35,8 @@ pub fn events_good(file: &[u8], layout: Layout, events: &[u8]) -> bool
     requires { ⌜ Laid (now file) layout ⌝ }
     ensures { λ r. ⌜ r ≡ allPass (eventGood (layout .reading) (now (file .entry))) (now (events .entry)) ⌝ }
 {
-    let inputs = values(layout.inputs);
-    let outputs = values(layout.outputs);
+    let inputs = inputs_of(file, layout);
+    let outputs = outputs_of(file, layout);
     let mut i = 0;
     while i < events.len() {
         let event = events[i] as usize;

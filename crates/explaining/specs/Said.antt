@@ -1,30 +1,25 @@
 -- From what the code finds to the reason: the rule that decides, where it leads, and what the tables say of the state there.
--- In order: reasons with small numbers, for an event and for an input; what the tables say of a state; the rules ahead; the reason for an event by the
+-- In order: reasons with small numbers, for an event and for an input; what the tables say of a state; the reason for an event by the
 -- rule that decides it.
 use mathlib.Core.Path.{_≡_, refl, sym, ap, subst, _∙_}
 use mathlib.Core.Bool.{Bool, true, false}
 use mathlib.Core.Logic.{⊎-elim}
 use mathlib.Core.List.{List}
 use mathlib.Core.Option.{Option, none, some, bind}
-use Prim.Native.Nat.{ℕ, zero, suc, _+_, _-_, _*_, _≤_, _<_}
-use native.Mathlib.Nat.{suc-mul}
+use Prim.Native.Nat.{ℕ, suc, _+_, _-_, _≤_, _<_}
 use native.Mathlib.Omega.{arith}
 use lib.ListN.{getD}
 use Rattle.streams.specs.Stream.{Event}
 use Rattle.policy.specs.Rules.{Rule, Policy, Place, unlimited, stopped, decides, looked, taken, step}
-use Rattle.policy.specs.File.{ruleSize}
 use Rattle.policy.specs.Stop.{stop}
 use Rattle.policy.specs.Number.{states, numberOf}
 use Rattle.policy.specs.Sound.{WellFormed, In, Inside}
 use Rattle.policy.specs.Stays.{stop-same}
 use Rattle.policy.specs.Checked.{well-rising, well-checked}
 use Rattle.policy.specs.Own.{below, own, decides-own}
-use Rattle.policy.specs.declared.Layout.{Layout}
 use Rattle.stepping.specs.Code.{eventXY, decider}
 use Rattle.stepping.specs.Tick.{arrives, reaches}
-use Rattle.stepping.specs.Ready.{Laid}
 use Rattle.stepping.specs.Pass.{Led}
-use Rattle.stepping.specs.RuleAhead.{Ahead, RuleAt, ahead-rule, ahead-rest}
 use Rattle.resting.specs.Table.{bit}
 use Rattle.resting.specs.Marks.{bit-le}
 use Rattle.resting.specs.Machine.{Machine}
@@ -97,14 +92,6 @@ module _ {p : Policy} (ok : WellFormed p) {T R : List ℕ} (c : CountsOf p T R) 
 -- Where a rule leads, with an equal answer to whether it leads on.
 pub led-as : {s : Place} {p : Policy} {r : Rule} {b c : Bool} {to : ℕ} → b ≡ c → Led s p r b to → Led s p r c to
 led-as {s} {p} {r} {to = to} e w = subst (λ (z : Bool). Led s p r z to) e w
-
-module _ {f : List ℕ} {l : Layout} (k : Laid f l) {a : ℕ} where
-  -- The rule with the number i of those ahead.
-  pub ahead-nth : (i : ℕ) {at n : ℕ} → Ahead f l a at n → i < n → RuleAt f l a (at + i * ruleSize (l .clocks))
-  ahead-nth zero {at} h m = subst (RuleAt f l a) (omega arith) (ahead-rule k h m)
-  ahead-nth (suc i) {at} {n} h m =
-      let e : at + ruleSize (l .clocks) + i * ruleSize (l .clocks) ≡ at + suc i * ruleSize (l .clocks) = omega (arith, suc-mul i (ruleSize (l .clocks))) in
-      subst (RuleAt f l a) e (ahead-nth i (ahead-rest k h (omega arith)) (omega arith))
 
 module _ (p : Policy) (ok : WellFormed p) (s : Place) (i : Inside p s) (e : Event) where
   -- The rule that decides with stopped clocks decides without limit.

@@ -53,18 +53,17 @@ fn for_input(
     here: Here,
     ticks: &[u32],
     rests: &[u32],
-    state: State,
     x: u8,
     passed: u8,
 ) -> Reason
-    requires { ⌜ Laid (now file) layout × HereOf (now file) layout state here × Inside (policyOf (layout .reading) (now file)) (place (layout .clocks) state) ⌝ }
-    requires { ⌜ CountsOf (policyOf (layout .reading) (now file)) (now ticks) (now rests) × ((x ≡ passed → ⊥) → (y : ℕ) → y < outputValues (policyOf (layout .reading) (now file)) → reaches (policyOf (layout .reading) (now file)) (marksOf (policyOf (layout .reading) (now file))) (place (layout .clocks) state) x y ≡ false) ⌝ }
-    ensures { λ r. ⌜ GivenIn (policyOf (layout .reading) (now (file .entry))) (place (layout .clocks) state) x passed (reasonSaid r) ⌝ }
+    requires { ⌜ Laid (now file) layout × HereOf (now file) layout here × Inside (policyOf (layout .reading) (now file)) (place (layout .clocks) (here .state)) ⌝ }
+    requires { ⌜ CountsOf (policyOf (layout .reading) (now file)) (now ticks) (now rests) × ((x ≡ passed → ⊥) → (y : ℕ) → y < outputValues (policyOf (layout .reading) (now file)) → reaches (policyOf (layout .reading) (now file)) (marksOf (policyOf (layout .reading) (now file))) (place (layout .clocks) (here .state)) x y ≡ false) ⌝ }
+    ensures { λ r. ⌜ GivenIn (policyOf (layout .reading) (now (file .entry))) (place (layout .clocks) (here .state)) x passed (reasonSaid r) ⌝ }
 {
     if x == passed {
         Reason::Kept
     } else {
-        reason_for_input(file, layout, here, ticks, rests, state, x)
+        reason_for_input(file, layout, here, ticks, rests, x)
     }
 }
 
@@ -75,19 +74,18 @@ fn for_output(
     here: Here,
     ticks: &[u32],
     rests: &[u32],
-    state: State,
     x: u8,
     y: u8,
     released: u8,
 ) -> Reason
-    requires { ⌜ Laid (now file) layout × HereOf (now file) layout state here × Inside (policyOf (layout .reading) (now file)) (place (layout .clocks) state) ⌝ }
-    requires { ⌜ CountsOf (policyOf (layout .reading) (now file)) (now ticks) (now rests) × ((y ≡ released → ⊥) → reaches (policyOf (layout .reading) (now file)) (marksOf (policyOf (layout .reading) (now file))) (place (layout .clocks) state) x y ≡ false) ⌝ }
-    ensures { λ r. ⌜ GivenOut (policyOf (layout .reading) (now (file .entry))) (place (layout .clocks) state) x y released (reasonSaid r) ⌝ }
+    requires { ⌜ Laid (now file) layout × HereOf (now file) layout here × Inside (policyOf (layout .reading) (now file)) (place (layout .clocks) (here .state)) ⌝ }
+    requires { ⌜ CountsOf (policyOf (layout .reading) (now file)) (now ticks) (now rests) × ((y ≡ released → ⊥) → reaches (policyOf (layout .reading) (now file)) (marksOf (policyOf (layout .reading) (now file))) (place (layout .clocks) (here .state)) x y ≡ false) ⌝ }
+    ensures { λ r. ⌜ GivenOut (policyOf (layout .reading) (now (file .entry))) (place (layout .clocks) (here .state)) x y released (reasonSaid r) ⌝ }
 {
     if y == released {
         Reason::Kept
     } else {
-        reason_of(file, layout, here, ticks, rests, state, x, y)
+        reason_of(file, layout, here, ticks, rests, x, y)
     }
 }
 
@@ -113,8 +111,8 @@ pub fn tell(
     let answer = output.answer;
     let released = value_or(answer, y);
     let reasons = Reasons {
-        input: for_input(file, layout, here, ticks, rests, state, x, passed),
-        output: for_output(file, layout, here, ticks, rests, state, passed, y, released),
+        input: for_input(file, layout, here, ticks, rests, x, passed),
+        output: for_output(file, layout, here, ticks, rests, passed, y, released),
     };
     let next = output.state;
     Told {

@@ -28,9 +28,9 @@ ghost use Rattle.explaining.specs.Said.{ToldWhy, ToldIn, SaidCount};
 ghost use Rattle.explaining.specs.CodeReasons.{reasonSaid};
 
 // The rule that decides the event x, y, by its number among the location's own.
-fn decided(file: &[u8], layout: Layout, here: Here, state: State, x: u8, y: u8) -> Found
-    requires { ⌜ Laid (now file) layout × HereOf (now file) layout state here ⌝ }
-    ensures { λ r. ⌜ foundSaid r ≡ decider (rulesFrom (layout .clocks) (now (file .entry)) (layout .«rules_start» + here .own .start) (here .own .count)) (looked stopped (policyOf (layout .reading) (now (file .entry))) (place (layout .clocks) state)) (eventXY x y) ⌝ }
+fn decided(file: &[u8], layout: Layout, here: Here, x: u8, y: u8) -> Found
+    requires { ⌜ Laid (now file) layout × HereOf (now file) layout here ⌝ }
+    ensures { λ r. ⌜ foundSaid r ≡ decider (rulesFrom (layout .clocks) (now (file .entry)) (layout .«rules_start» + here .own .start) (here .own .count)) (looked stopped (policyOf (layout .reading) (now (file .entry))) (place (layout .clocks) (here .state))) (eventXY x y) ⌝ }
 {
     let clocks = layout.clocks;
     let seen = here.seen;
@@ -65,26 +65,26 @@ pub(crate) fn reason_of(
     here: Here,
     ticks: &[u32],
     rests: &[u32],
-    state: State,
     x: u8,
     y: u8,
 ) -> Reason
-    requires { ⌜ Laid (now file) layout × HereOf (now file) layout state here × Inside (policyOf (layout .reading) (now file)) (place (layout .clocks) state) ⌝ }
-    requires { ⌜ CountsOf (policyOf (layout .reading) (now file)) (now ticks) (now rests) × (reaches (policyOf (layout .reading) (now file)) (marksOf (policyOf (layout .reading) (now file))) (place (layout .clocks) state) x y ≡ false) ⌝ }
-    ensures { λ r. ⌜ ToldWhy (policyOf (layout .reading) (now (file .entry))) (place (layout .clocks) state) (eventXY x y) (reasonSaid r) ⌝ }
+    requires { ⌜ Laid (now file) layout × HereOf (now file) layout here × Inside (policyOf (layout .reading) (now file)) (place (layout .clocks) (here .state)) ⌝ }
+    requires { ⌜ CountsOf (policyOf (layout .reading) (now file)) (now ticks) (now rests) × (reaches (policyOf (layout .reading) (now file)) (marksOf (policyOf (layout .reading) (now file))) (place (layout .clocks) (here .state)) x y ≡ false) ⌝ }
+    ensures { λ r. ⌜ ToldWhy (policyOf (layout .reading) (now (file .entry))) (place (layout .clocks) (here .state)) (eventXY x y) (reasonSaid r) ⌝ }
 {
-    match decided(file, layout, here, state, x, y) {
+    match decided(file, layout, here, x, y) {
         Found::Nothing => Reason::Unmatched,
         Found::Rule(i) => {
             let size = 7 + 4 * layout.clocks;
             let to = next_of(
                 file,
                 layout,
-                state,
+                here.state,
                 layout.rules_start + here.own.start + i * size,
             );
             if !to.some {
-                return Reason::Rule(here.own.start / size + i);
+                let number = here.own.start / size + i;
+                return Reason::Rule(number);
             }
             left_at(file, layout, ticks, rests, to.number)
         }
@@ -98,18 +98,17 @@ pub(crate) fn reason_for_input(
     here: Here,
     ticks: &[u32],
     rests: &[u32],
-    state: State,
     x: u8,
 ) -> Reason
-    requires { ⌜ Laid (now file) layout × HereOf (now file) layout state here × Inside (policyOf (layout .reading) (now file)) (place (layout .clocks) state) ⌝ }
-    requires { ⌜ CountsOf (policyOf (layout .reading) (now file)) (now ticks) (now rests) × ((y : ℕ) → y < outputValues (policyOf (layout .reading) (now file)) → reaches (policyOf (layout .reading) (now file)) (marksOf (policyOf (layout .reading) (now file))) (place (layout .clocks) state) x y ≡ false) ⌝ }
-    ensures { λ r. ⌜ ToldIn (policyOf (layout .reading) (now (file .entry))) (place (layout .clocks) state) (outputValues (policyOf (layout .reading) (now (file .entry)))) x (reasonSaid r) ⌝ }
+    requires { ⌜ Laid (now file) layout × HereOf (now file) layout here × Inside (policyOf (layout .reading) (now file)) (place (layout .clocks) (here .state)) ⌝ }
+    requires { ⌜ CountsOf (policyOf (layout .reading) (now file)) (now ticks) (now rests) × ((y : ℕ) → y < outputValues (policyOf (layout .reading) (now file)) → reaches (policyOf (layout .reading) (now file)) (marksOf (policyOf (layout .reading) (now file))) (place (layout .clocks) (here .state)) x y ≡ false) ⌝ }
+    ensures { λ r. ⌜ ToldIn (policyOf (layout .reading) (now (file .entry))) (place (layout .clocks) (here .state)) (outputValues (policyOf (layout .reading) (now (file .entry)))) x (reasonSaid r) ⌝ }
 {
     let outputs = values(layout.outputs);
-    let mut best = reason_of(file, layout, here, ticks, rests, state, x, 0);
+    let mut best = reason_of(file, layout, here, ticks, rests, x, 0);
     let mut y = 1u8;
     while (y as usize) < outputs {
-        let one = reason_of(file, layout, here, ticks, rests, state, x, y);
+        let one = reason_of(file, layout, here, ticks, rests, x, y);
         best = better(best, one);
         y += 1;
     }

@@ -16,7 +16,7 @@ use Rattle.join.specs.Entry.{joinOf}
 use Rattle.join.specs.Promise.{join-up-to}
 use Rattle.ticks.specs.Conversion.{ticksOf}
 use Rattle.ticks.specs.Laws.{ticks-up-to}
-use Rattle.bays.specs.Five.{stateIn}
+use Rattle.stepping.specs.Five.{stateIn}
 use Rattle.bays.specs.Odd.{oddRefusal, odd-some, odd-le}
 use Rattle.groovepawn.specs.Words.{answerWord, summaryWord, ranWord, isState, prepareWord, inputWord, outputWord, runWord, joinWord, isUp, ticksWord}
 use Rattle.groovepawn.specs.Bounds.{Small, summary-small}

@@ -6,7 +6,7 @@ use Prim.Native.Nat.{ℕ}
 use Rattle.streams.specs.Answer.{_orElse_}
 use Rattle.index.specs.Entry.{buildRefusal, builtIndex}
 use Rattle.indexed.specs.Entries.{earlyRefusal, inputIndexedOf, outputIndexedOf}
-use Rattle.bays.specs.Five.{stateWords, stateIn}
+use Rattle.stepping.specs.Five.{stateWords, stateIn}
 use Rattle.groovepawn.specs.Words.{answerWord, isState}
 
 -- Numbers that are not five are no state: 16 in its place in the order, after 22, 1 to 9, 28 and 10.

@@ -14,7 +14,7 @@ use Rattle.stepping.specs.Tick.{ReleasedTick, outputTick}
 use Rattle.enforcer.specs.Entries.{OutputAnswer, chosen, outputFrom, outputRefusal, outputOf}
 use Rattle.indexed.specs.Entries.{refusedOr, indexRefusal, earlyRefusal, inputIndexedOf, outputIndexedOf}
 use Rattle.indexed.specs.Same.{input-same, output-same, early-same, early-le, input-up-to-28, output-up-to-28}
-use Rattle.bays.specs.Five.{stateWords, stateIn, words-back}
+use Rattle.stepping.specs.Five.{stateWords, stateIn, words-back}
 use Rattle.bays.specs.Odd.{oddRefusal}
 use Rattle.groovepawn.specs.Words.{answerWord, isState, inputWord, outputWord, outputState}
 use Rattle.groovepawn.specs.Fields.{answerIn, answer-back}

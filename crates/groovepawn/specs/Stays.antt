@@ -13,7 +13,7 @@ use Rattle.stepping.specs.State.{placeIn}
 use Rattle.stepping.specs.Tick.{ReleasedTick, Progress, outputTick, ran}
 use Rattle.enforcer.specs.Entries.{eventOf, chosen, outputFrom, outputRefusal, outputOf, runFrom, runRefusal, runOf}
 use Rattle.groovepawn.specs.Words.{answerWord, ranWord, isState, outputWord, outputState, runWord, runState, runOut}
-use Rattle.bays.specs.Five.{stateWords, stateIn, words-back}
+use Rattle.stepping.specs.Five.{stateWords, stateIn, words-back}
 use Rattle.bays.specs.Odd.{oddRefusal}
 
 -- The refusal that a run that is not refused at once ends by.

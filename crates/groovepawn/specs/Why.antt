@@ -8,7 +8,7 @@ use lib.ListN.{length}
 use borrow.Author.Tests.{eqb-true}
 use Rattle.streams.specs.Answer.{Answer, _orElse_}
 use Rattle.enforcer.specs.Entries.{RunAnswer}
-use Rattle.bays.specs.Five.{stateWords, stateIn, words-back}
+use Rattle.stepping.specs.Five.{stateWords, stateIn, words-back}
 use Rattle.bays.specs.Odd.{oddRefusal}
 use Rattle.explaining.specs.EachHalf.{Reasons}
 use Rattle.reasons.specs.Entry.{WhyAnswers, answers-one}

@@ -10,7 +10,7 @@ use Rattle.prepare.specs.Entry.{prepareOf}
 use Rattle.prepare.specs.declared.Summary.{Summary}
 use Rattle.join.specs.Entry.{joinOf}
 use Rattle.ticks.specs.Conversion.{ticksOf}
-use Rattle.bays.specs.Five.{stateWords, stateIn}
+use Rattle.stepping.specs.Five.{stateWords, stateIn}
 use Rattle.bays.specs.Odd.{oddRefusal}
 
 -- The word of an answer: its refusal, or what is given from bit 8 on.

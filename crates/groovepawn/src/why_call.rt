@@ -1,14 +1,14 @@
 // Reasons for a controller in C: for one event, and for a run of them.
-use bays::five::STATE_NUMBERS;
-use bays::five::odd_refusal;
-use bays::five::put_state;
-use bays::five::state_of;
+use bays::odd_refusal;
 use policy::check_under;
 use reasons::room_refusal;
 use reasons::shortest;
 use reasons::why;
 use reasons::why_run;
 use reasons::word;
+use stepping::five::STATE_NUMBERS;
+use stepping::five::put_state;
+use stepping::five::state_of;
 ghost use mathlib.Core.Path.{_≡_};
 ghost use Rattle.groovepawn.specs.Why.{WhyCall, oddWhyRun, WhyRunCall};
 

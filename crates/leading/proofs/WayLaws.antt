@@ -27,10 +27,10 @@ unfolding ruleFrom
 rule-holds s h b e = rw (eq-eqb _ _ (h .ours .source)) e
 
 -- So it does for the state that bounds see.
-pub rule-seen : {f : List ℕ} {l : Layout} → Laid f l → {s : State} {h : Here} → HereOf f l s h → {at : ℕ} → RuleAt f l (s .location) at → (b : Bool) →
+pub rule-seen : {f : List ℕ} {l : Layout} → Laid f l → {h : Here} → HereOf f l h → {at : ℕ} → RuleAt f l (h .state .location) at → (b : Bool) →
     hold (boundsFrom f (at + 7) (l .clocks)) (take (l .clocks) (h .seen .clocks)) ≡ b →
-    holds (looked stopped (policyOf (l .reading) f) (place (l .clocks) s)) (ruleFrom (l .clocks) f at) ≡ b
-rule-seen {f} {l} k {s} {h} o {at} r b e =
+    holds (looked stopped (policyOf (l .reading) f) (place (l .clocks) (h .state))) (ruleFrom (l .clocks) f at) ≡ b
+rule-seen {f} {l} k {h} o {at} r b e =
     ap (λ (z : Place). holds z (ruleFrom (l .clocks) f at)) (sym (here-seen k o))
     ∙ rule-holds (h .seen) (subst (λ (a : ℕ). RuleAt f l a at) (sym (ap (λ (z : Place). z .location) (here-seen k o))) r) b e
 

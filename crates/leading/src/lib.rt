@@ -3,6 +3,7 @@ mod lead;
 mod pass;
 mod reach;
 mod share;
+mod start;
 
 pub use lead::To;
 pub use lead::held;
@@ -19,3 +20,6 @@ pub use share::Share;
 pub use share::part_of;
 pub use share::take_by;
 pub use share::way_by;
+pub use start::all_left;
+pub use start::inputs_of;
+pub use start::outputs_of;

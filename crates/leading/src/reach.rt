@@ -35,43 +35,28 @@ fn leads_by(file: &[u8], layout: Layout, marks: &[u8], state: State, rule: Decid
 }
 
 // The event x, y takes the state to a marked one.
-pub fn reaches(
-    file: &[u8],
-    layout: Layout,
-    here: Here,
-    marks: &[u8],
-    state: State,
-    x: u8,
-    y: u8,
-) -> bool
-    requires { ⌜ Ready (now file) layout here (now marks) state ⌝ }
-    ensures { λ r. ⌜ r ≡ reaches (policyOf (layout .reading) (now (file .entry))) (now (marks .entry)) (place (layout .clocks) state) x y ⌝ }
+pub fn reaches(file: &[u8], layout: Layout, here: Here, marks: &[u8], x: u8, y: u8) -> bool
+    requires { ⌜ Ready (now file) layout here (now marks) ⌝ }
+    ensures { λ r. ⌜ r ≡ reaches (policyOf (layout .reading) (now (file .entry))) (now (marks .entry)) (place (layout .clocks) (here .state)) x y ⌝ }
 {
-    let rule = rule_of(file, layout, here, state, x, y);
-    leads_by(file, layout, marks, state, rule)
+    let rule = rule_of(file, layout, here, x, y);
+    leads_by(file, layout, marks, here.state, rule)
 }
 
 // The event 0, 0 takes the state to a marked one. Only prepare asks this, so that the compiler lays it into the loop over the states.
-pub(crate) fn idles(file: &[u8], layout: Layout, here: Here, marks: &[u8], state: State) -> bool
-    requires { ⌜ Ready (now file) layout here (now marks) state ⌝ }
-    ensures { λ r. ⌜ r ≡ reaches (policyOf (layout .reading) (now (file .entry))) (now (marks .entry)) (place (layout .clocks) state) 0 0 ⌝ }
+pub(crate) fn idles(file: &[u8], layout: Layout, here: Here, marks: &[u8]) -> bool
+    requires { ⌜ Ready (now file) layout here (now marks) ⌝ }
+    ensures { λ r. ⌜ r ≡ reaches (policyOf (layout .reading) (now (file .entry))) (now (marks .entry)) (place (layout .clocks) (here .state)) 0 0 ⌝ }
 {
-    let rule = rule_of(file, layout, here, state, 0, 0);
-    leads_by(file, layout, marks, state, rule)
+    let rule = rule_of(file, layout, here, 0, 0);
+    leads_by(file, layout, marks, here.state, rule)
 }
 
 // The event x, 0 takes the state to a marked one. Only the input half asks this, so that the compiler lays it into the half.
-pub fn input_reaches(
-    file: &[u8],
-    layout: Layout,
-    here: Here,
-    marks: &[u8],
-    state: State,
-    x: u8,
-) -> bool
-    requires { ⌜ Ready (now file) layout here (now marks) state ⌝ }
-    ensures { λ r. ⌜ r ≡ reaches (policyOf (layout .reading) (now (file .entry))) (now (marks .entry)) (place (layout .clocks) state) x 0 ⌝ }
+pub fn input_reaches(file: &[u8], layout: Layout, here: Here, marks: &[u8], x: u8) -> bool
+    requires { ⌜ Ready (now file) layout here (now marks) ⌝ }
+    ensures { λ r. ⌜ r ≡ reaches (policyOf (layout .reading) (now (file .entry))) (now (marks .entry)) (place (layout .clocks) (here .state)) x 0 ⌝ }
 {
-    let rule = rule_of(file, layout, here, state, x, 0);
-    leads_by(file, layout, marks, state, rule)
+    let rule = rule_of(file, layout, here, x, 0);
+    leads_by(file, layout, marks, here.state, rule)
 }

@@ -11,7 +11,6 @@ use choice::take;
 use policy::Layout;
 use policy::bytes::byte_within;
 use stepping::Here;
-use stepping::State;
 ghost use mathlib.Core.Path.{_≡_};
 ghost use mathlib.Core.Bool.{false};
 ghost use Prim.Native.Nat.{_≤_};
@@ -49,15 +48,14 @@ pub fn part_of(
     file: &[u8],
     layout: Layout,
     here: Here,
-    state: State,
     inputs: usize,
     left: &[u16; 16],
     at: usize,
 ) -> Share
-    requires { ⌜ Laid (now file) layout × HereOf (now file) layout state here × RuleAt (now file) layout (state .location) at × (inputs ≤ 16) ⌝ }
-    ensures { λ r. ⌜ Parted (looked stopped (policyOf (layout .reading) (now (file .entry))) (place (layout .clocks) state)) (ruleFrom (layout .clocks) (now (file .entry)) at) inputs (now (left .entry)) (r .some) (r .care) (r .value) (r .set) ⌝ }
+    requires { ⌜ Laid (now file) layout × HereOf (now file) layout here × RuleAt (now file) layout (here .state .location) at × (inputs ≤ 16) ⌝ }
+    ensures { λ r. ⌜ Parted (looked stopped (policyOf (layout .reading) (now (file .entry))) (place (layout .clocks) (here .state))) (ruleFrom (layout .clocks) (now (file .entry)) at) inputs (now (left .entry)) (r .some) (r .care) (r .value) (r .set) ⌝ }
 {
-    if !held(file, layout, here, state, at) {
+    if !held(file, layout, here, at) {
         return nothing();
     }
     let care = byte_within(file, at + 1);
@@ -79,15 +77,14 @@ pub fn take_by(
     file: &[u8],
     layout: Layout,
     here: Here,
-    state: State,
     inputs: usize,
     left: &mut [u16; 16],
     at: usize,
 ) -> bool
-    requires { ⌜ Laid (now file) layout × HereOf (now file) layout state here × RuleAt (now file) layout (state .location) at × (inputs ≤ 16) × (length (now left) ≡ 16) ⌝ }
-    ensures { λ r. ⌜ Took (looked stopped (policyOf (layout .reading) (now (file .entry))) (place (layout .clocks) state)) (ruleFrom (layout .clocks) (now (file .entry)) at) inputs (now (left .entry)) (now (left .exit)) r ⌝ }
+    requires { ⌜ Laid (now file) layout × HereOf (now file) layout here × RuleAt (now file) layout (here .state .location) at × (inputs ≤ 16) × (length (now left) ≡ 16) ⌝ }
+    ensures { λ r. ⌜ Took (looked stopped (policyOf (layout .reading) (now (file .entry))) (place (layout .clocks) (here .state))) (ruleFrom (layout .clocks) (now (file .entry)) at) inputs (now (left .entry)) (now (left .exit)) r ⌝ }
 {
-    let part = part_of(file, layout, here, state, inputs, left, at);
+    let part = part_of(file, layout, here, inputs, left, at);
     if !part.some {
         return false;
     }
@@ -100,21 +97,20 @@ pub fn way_by(
     file: &[u8],
     layout: Layout,
     here: Here,
-    state: State,
     inputs: usize,
     left: &mut [u16; 16],
     at: usize,
 ) -> To
-    requires { ⌜ Laid (now file) layout × HereOf (now file) layout state here × Inside (policyOf (layout .reading) (now file)) (place (layout .clocks) state) × RuleAt (now file) layout (state .location) at × (inputs ≤ 16) × (length (now left) ≡ 16) ⌝ }
-    ensures { λ r. ⌜ RuleTurned (place (layout .clocks) state) (policyOf (layout .reading) (now (file .entry))) (ruleFrom (layout .clocks) (now (file .entry)) at) inputs (now (left .entry)) (now (left .exit)) (r .some) (r .number) ⌝ }
+    requires { ⌜ Laid (now file) layout × HereOf (now file) layout here × Inside (policyOf (layout .reading) (now file)) (place (layout .clocks) (here .state)) × RuleAt (now file) layout (here .state .location) at × (inputs ≤ 16) × (length (now left) ≡ 16) ⌝ }
+    ensures { λ r. ⌜ RuleTurned (place (layout .clocks) (here .state)) (policyOf (layout .reading) (now (file .entry))) (ruleFrom (layout .clocks) (now (file .entry)) at) inputs (now (left .entry)) (now (left .exit)) (r .some) (r .number) ⌝ }
 {
-    if !take_by(file, layout, here, state, inputs, left, at) {
+    if !take_by(file, layout, here, inputs, left, at) {
         return To {
             some: false,
             number: 0,
         };
     }
-    next_of(file, layout, state, at)
+    next_of(file, layout, here.state, at)
 }
 
 // Takes what the rule at `at` takes, and says whether that is something and the rule leads to a marked state. Prepare asks this of every rule of every state: it is written out, as `gather_by` is, so that the compiler lays it into the loop there and copies nothing for it.
@@ -123,15 +119,14 @@ pub(crate) fn go_by(
     layout: Layout,
     here: Here,
     marks: &[u8],
-    state: State,
     inputs: usize,
     left: &mut [u16; 16],
     at: usize,
 ) -> bool
-    requires { ⌜ Ready (now file) layout here (now marks) state × RuleAt (now file) layout (state .location) at × (inputs ≤ 16) × (length (now left) ≡ 16) ⌝ }
-    ensures { λ r. ⌜ Went (place (layout .clocks) state) (policyOf (layout .reading) (now (file .entry))) (now (marks .entry)) (ruleFrom (layout .clocks) (now (file .entry)) at) inputs (now (left .entry)) (now (left .exit)) r ⌝ }
+    requires { ⌜ Ready (now file) layout here (now marks) × RuleAt (now file) layout (here .state .location) at × (inputs ≤ 16) × (length (now left) ≡ 16) ⌝ }
+    ensures { λ r. ⌜ Went (place (layout .clocks) (here .state)) (policyOf (layout .reading) (now (file .entry))) (now (marks .entry)) (ruleFrom (layout .clocks) (now (file .entry)) at) inputs (now (left .entry)) (now (left .exit)) r ⌝ }
 {
-    if !held(file, layout, here, state, at) {
+    if !held(file, layout, here, at) {
         return false;
     }
     let care = byte_within(file, at + 1);
@@ -141,26 +136,18 @@ pub(crate) fn go_by(
         return false;
     }
     take(left, inputs, care, value, set);
-    leads(file, layout, marks, state, at)
+    leads(file, layout, marks, here.state, at)
 }
 
 // What the rule at `at` takes of what is left with x.
-pub(crate) fn takes(
-    file: &[u8],
-    layout: Layout,
-    here: Here,
-    state: State,
-    x: u8,
-    left: u16,
-    at: usize,
-) -> u16
-    requires { ⌜ Laid (now file) layout × HereOf (now file) layout state here × RuleAt (now file) layout (state .location) at ⌝ }
-    ensures { λ r. ⌜ r ≡ takes (looked stopped (policyOf (layout .reading) (now (file .entry))) (place (layout .clocks) state)) (ruleFrom (layout .clocks) (now (file .entry)) at) x left ⌝ }
+pub(crate) fn takes(file: &[u8], layout: Layout, here: Here, x: u8, left: u16, at: usize) -> u16
+    requires { ⌜ Laid (now file) layout × HereOf (now file) layout here × RuleAt (now file) layout (here .state .location) at ⌝ }
+    ensures { λ r. ⌜ r ≡ takes (looked stopped (policyOf (layout .reading) (now (file .entry))) (place (layout .clocks) (here .state))) (ruleFrom (layout .clocks) (now (file .entry)) at) x left ⌝ }
 {
     if x as usize & byte_within(file, at + 1) != byte_within(file, at + 2) {
         return 0;
     }
-    if !held(file, layout, here, state, at) {
+    if !held(file, layout, here, at) {
         return 0;
     }
     left & outs(byte_within(file, at + 3), byte_within(file, at + 4))
@@ -172,18 +159,17 @@ pub(crate) fn gather_by(
     layout: Layout,
     here: Here,
     marks: &[u8],
-    state: State,
     inputs: usize,
     left: &mut [u16; 16],
     found: &mut [u16; 16],
     at: usize,
 )
-    requires { ⌜ Ready (now file) layout here (now marks) state × RuleAt (now file) layout (state .location) at × (inputs ≤ 16) × (length (now left) ≡ 16) × (length (now found) ≡ 16) ⌝ }
-    ensures { λ _. ⌜ Gathers (place (layout .clocks) state) (policyOf (layout .reading) (now (file .entry))) (now (marks .entry)) (ruleFrom (layout .clocks) (now (file .entry)) at) inputs (now (left .entry)) (now (left .exit)) (now (found .entry)) (now (found .exit)) ⌝ }
+    requires { ⌜ Ready (now file) layout here (now marks) × RuleAt (now file) layout (here .state .location) at × (inputs ≤ 16) × (length (now left) ≡ 16) × (length (now found) ≡ 16) ⌝ }
+    ensures { λ _. ⌜ Gathers (place (layout .clocks) (here .state)) (policyOf (layout .reading) (now (file .entry))) (now (marks .entry)) (ruleFrom (layout .clocks) (now (file .entry)) at) inputs (now (left .entry)) (now (left .exit)) (now (found .entry)) (now (found .exit)) ⌝ }
 {
-    if held(file, layout, here, state, at) {
+    if held(file, layout, here, at) {
         let set = outs(byte_within(file, at + 3), byte_within(file, at + 4));
-        let led = kept(file, layout, marks, state, set, at);
+        let led = kept(file, layout, marks, here.state, set, at);
         gather(
             left,
             found,

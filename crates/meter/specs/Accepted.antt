@@ -9,7 +9,7 @@ use lib.ListN.{length, drop}
 use lib.Seq.{take-at}
 use Rattle.streams.specs.Answer.{Answer, refused, gives}
 use Rattle.enforcer.specs.Entries.{OutputAnswer, inputOf, outputOf}
-use Rattle.bays.specs.Five.{stateWords, stateIn, words-in}
+use Rattle.stepping.specs.Five.{stateWords, stateIn, words-in}
 use Rattle.bays.specs.Halves.{output-four}
 use Rattle.bays.specs.Odd.{oddRefusal}
 use Rattle.meter.specs.Meter.{isStation, areTotals, stationState, lastReading, withStation, pulsesOf, withPulse, isOn, risen, fits}

@@ -6,7 +6,7 @@ use Prim.Native.Nat.{ℕ, _+_, _-_, _%_}
 use lib.Dec.{leb, eqb}
 use lib.Bits.{bitAnd, bitOr}
 use lib.ListN.{length, getD, take, drop}
-use Rattle.bays.specs.Five.{stateWords, stateIn}
+use Rattle.stepping.specs.Five.{stateWords, stateIn}
 use Rattle.stepping.specs.declared.state.State.{State}
 
 -- The slice has the six numbers of a station.

@@ -11,7 +11,7 @@ use crate::station::has_room;
 use crate::station::pulses;
 use crate::station::put_station;
 use crate::station::station_state;
-use bays::five::odd_refusal;
+use bays::odd_refusal;
 use enforcer::HalfAnswer;
 use enforcer::input_half;
 use enforcer::output_of;

@@ -1,8 +1,8 @@
 // A station with a meter as six numbers: a state, and the register as last accepted. The totals are two: billed and unbilled. What stands past them stays.
-use bays::five::STATE_NUMBERS;
-use bays::five::put_state;
-use bays::five::state_of;
 use stepping::State;
+use stepping::five::STATE_NUMBERS;
+use stepping::five::put_state;
+use stepping::five::state_of;
 ghost use mathlib.Core.Path.{_≡_};
 ghost use mathlib.Core.Bool.{true};
 ghost use mathlib.Core.List.{_∷_};

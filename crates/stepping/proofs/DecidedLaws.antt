@@ -41,7 +41,7 @@ rule-place (DecidedBy.At at) = at
 rule-place DecidedBy.Nothing = 0
 
 module _ {f : List ℕ} {l : Layout} (k : Laid f l) where
-  module _ {h : Here} (s : State) (e : Event) (g : HereOf f l s h) where
+  module _ {h : Here} (e : Event) (g : HereOf f l h) where
     abbrev from : ℕ
     from = l .«rules_start» + h .own .start
 
@@ -49,28 +49,28 @@ module _ {f : List ℕ} {l : Layout} (k : Laid f l) where
     abbrev found : Option ℕ
     found = decider (rulesFrom (l .clocks) (part f from (h .own .count * ruleSize (l .clocks))) 0 (h .own .count)) (place (l .clocks) (h .seen)) e
 
-    own-found : found ≡ decider (rulesFrom (l .clocks) f from (h .own .count)) (looked stopped (policyOf (l .reading) f) (place (l .clocks) s)) e
+    own-found : found ≡ decider (rulesFrom (l .clocks) f from (h .own .count)) (looked stopped (policyOf (l .reading) f) (place (l .clocks) (h .state))) e
     own-found = rw (here-seen k g, rules-part f (l .clocks) from (h .own .count))
 
     own-decides : Option·map (λ i. ruleFrom (l .clocks) f (from + i * ruleSize (l .clocks))) found
-        ≡ decides (policyOf (l .reading) f .rules) (looked stopped (policyOf (l .reading) f) (place (l .clocks) s)) e
+        ≡ decides (policyOf (l .reading) f .rules) (looked stopped (policyOf (l .reading) f) (place (l .clocks) (h .state))) e
     own-decides =
-        let v = looked stopped (policyOf (l .reading) f) (place (l .clocks) s) in
+        let v = looked stopped (policyOf (l .reading) f) (place (l .clocks) (h .state)) in
         rw own-found (sym (decider-decides (l .clocks) f v e (h .own .count) from))
-        ∙ ap (λ (rs : List Rule). decides rs v e) (own-here k (s .location) (g .own))
+        ∙ ap (λ (rs : List Rule). decides rs v e) (own-here k (h .state .location) (g .own))
         ∙ decides-own v e (well-rising (policyOf (l .reading) f) (laid-well k))
 
-    pub decided-none : none ≡ found → Decided f l s e DecidedBy.Nothing
+    pub decided-none : none ≡ found → Decided f l (h .state) e DecidedBy.Nothing
     unfolding is-rule
     decided-none p = record { says = rw (sym p) at own-decides; stands = λ at q. absurd (false≢true (ap is-rule q)) }
 
-    pub decided-rule : (i : ℕ) → some i ≡ found → Decided f l s e (DecidedBy.At (from + i * ruleSize (l .clocks)))
+    pub decided-rule : (i : ℕ) → some i ≡ found → Decided f l (h .state) e (DecidedBy.At (from + i * ruleSize (l .clocks)))
     unfolding rule-place
     decided-rule i p =
         record {
           says = rw (sym p) at own-decides;
-          stands = λ at q. subst (RuleAt f l (s .location)) (ap rule-place q)
-              (ahead-at k (h .own .count) i (own-ahead k (s .location) (g .own)) (decider-lt _ _ _ _ _ _ i (sym p)));
+          stands = λ at q. subst (RuleAt f l (h .state .location)) (ap rule-place q)
+              (ahead-at (h .own .count) i (own-ahead k (h .state .location) (g .own)) (decider-lt _ _ _ _ _ _ i (sym p)));
         }
 
 -- What the rule that decides makes of the state is what the event does.

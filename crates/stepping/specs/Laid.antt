@@ -217,8 +217,8 @@ module _ {f : List ℕ} {l : Layout} (k : Laid f l) where
       go false = refl
 
   -- The state seen that is kept with a state's own rules stands for the place looked at.
-  pub here-seen : {s : State} {h : Here} → HereOf f l s h → place (l .clocks) (h .seen) ≡ looked stopped (policyOf (l .reading) f) (place (l .clocks) s)
-  here-seen {s} o = ap (place (l .clocks)) (o .seen) ∙ laid-seen s
+  pub here-seen : {h : Here} → HereOf f l h → place (l .clocks) (h .seen) ≡ looked stopped (policyOf (l .reading) f) (place (l .clocks) (h .state))
+  here-seen {h} o = ap (place (l .clocks)) (o .seen) ∙ laid-seen (h .state)
 
   -- The place that a state is, by the layout, is the one by the policy.
   pub laid-place : (s : State) → place (l .clocks) s ≡ placeIn (policyOf (l .reading) f) s

@@ -1,4 +1,5 @@
 pub mod State
+pub mod Five
 pub mod Only
 pub mod Tick
 pub mod Ticks

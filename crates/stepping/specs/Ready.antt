@@ -1,5 +1,5 @@
 -- What the tick's functions ask: a file that was checked, its layout, marks for each state, and a state in range.
-use mathlib.Core.Path.{_≡_, sym, ap₂, _∙_}
+use mathlib.Core.Path.{_≡_, sym, ap, ap₂, subst, _∙_}
 use mathlib.Core.List.{List}
 use Prim.Native.Nat.{ℕ, _≤_}
 use lib.ListN.{length}
@@ -35,15 +35,26 @@ pub record Standing (f : List ℕ) (l : Layout) (marks : List ℕ) (s : State) :
   pub inside : Inside (policyOf (l .reading) f) (place (l .clocks) s)
 
 -- The state's own rules are known, and the state that their bounds see.
-pub record HereOf (f : List ℕ) (l : Layout) (s : State) (h : Here) : Type 0 where
-  pub own : h .own ≡ ownOf (l .clocks) (s .location) (rulesOf f)
-  pub seen : h .seen ≡ seenBy l s
+pub record HereOf (f : List ℕ) (l : Layout) (h : Here) : Type 0 where
+  pub own : h .own ≡ ownOf (l .clocks) (h .state .location) (rulesOf f)
+  pub seen : h .seen ≡ seenBy l (h .state)
 
--- One answer alone meets it.
-pub here-one : {f : List ℕ} {l : Layout} {s : State} {h g : Here} → HereOf f l s h → HereOf f l s g → h ≡ g
-here-one k j = ap₂ (λ (o : Own) (v : State). record { own = o; seen = v }) (k .own ∙ sym (j .own)) (k .seen ∙ sym (j .seen))
+-- What is worked out for a state.
+abbrev hereOf : List ℕ → Layout → State → Here
+hereOf f l s = record { own = ownOf (l .clocks) (s .location) (rulesOf f); seen = seenBy l s; state = s }
+
+here-is : {f : List ℕ} {l : Layout} {h : Here} → HereOf f l h → h ≡ hereOf f l (h .state)
+here-is {h = h} k = ap₂ (λ (o : Own) (v : State). record { own = o; seen = v; state = h .state }) (k .own) (k .seen)
+
+-- One answer alone meets it for a state.
+pub here-one : {f : List ℕ} {l : Layout} {h g : Here} → HereOf f l h → HereOf f l g → h .state ≡ g .state → h ≡ g
+here-one {f} {l} k j e = here-is k ∙ ap (hereOf f l) e ∙ sym (here-is j)
 
 -- A mark for each state, a state in range, and the state's own rules known.
-pub record Ready (f : List ℕ) (l : Layout) (h : Here) (marks : List ℕ) (s : State) : Type 0 where
-  pub standing : Standing f l marks s
-  pub here : HereOf f l s h
+pub record Ready (f : List ℕ) (l : Layout) (h : Here) (marks : List ℕ) : Type 0 where
+  pub standing : Standing f l marks (h .state)
+  pub here : HereOf f l h
+
+-- What is worked out for a state in range makes all ready.
+pub ready-of : {f : List ℕ} {l : Layout} {h : Here} {marks : List ℕ} {s : State} → Standing f l marks s → HereOf f l h × (h .state ≡ s) → Ready f l h marks
+ready-of {f} {l} {marks = marks} k o = record { standing = subst (Standing f l marks) (sym (o .1)) k; here = o .0 }

@@ -19,10 +19,11 @@ ghost use Rattle.stepping.specs.State.{place};
 ghost use Rattle.stepping.specs.Ready.{Laid, HereOf};
 ghost use Rattle.stepping.specs.Decided.{Decided};
 
-// What is worked out once for a state: the rules of its location, and the state that their bounds see.
+// A state, and what is worked out for it once: the rules of its location, and the state that their bounds see.
 pub struct Here {
     pub own: Own,
     pub seen: State,
+    pub state: State,
 }
 
 // The rules of the state's location.
@@ -58,18 +59,19 @@ fn seen_of(layout: Layout, state: State) -> State
 // What is worked out for a state whose location's rules are known.
 pub fn here_by(file: &[u8], layout: Layout, own: Own, state: State) -> Here
     requires { ⌜ Laid (now file) layout × (own ≡ ownOf (layout .clocks) (state .location) (rulesOf (now file))) ⌝ }
-    ensures { λ r. ⌜ HereOf (now (file .entry)) layout state r ⌝ }
+    ensures { λ r. ⌜ HereOf (now (file .entry)) layout r × (r .state ≡ state) ⌝ }
 {
     Here {
         own,
         seen: seen_of(layout, state),
+        state,
     }
 }
 
 // The rule that decides the event x, y: the first of the location's own that fires.
-pub fn rule_of(file: &[u8], layout: Layout, here: Here, state: State, x: u8, y: u8) -> DecidedBy
-    requires { ⌜ Laid (now file) layout × HereOf (now file) layout state here ⌝ }
-    ensures { λ r. ⌜ Decided (now (file .entry)) layout state (eventXY x y) r ⌝ }
+pub fn rule_of(file: &[u8], layout: Layout, here: Here, x: u8, y: u8) -> DecidedBy
+    requires { ⌜ Laid (now file) layout × HereOf (now file) layout here ⌝ }
+    ensures { λ r. ⌜ Decided (now (file .entry)) layout (here .state) (eventXY x y) r ⌝ }
 {
     let clocks = layout.clocks;
     let count = here.own.count;
@@ -85,10 +87,10 @@ pub fn rule_of(file: &[u8], layout: Layout, here: Here, state: State, x: u8, y: 
 impl State {
     // The state after the event x, y.
     pub fn step(self, file: &[u8], layout: Layout, here: Here, x: u8, y: u8) -> Step
-        requires { ⌜ Laid (now file) layout × HereOf (now file) layout self here ⌝ }
+        requires { ⌜ Laid (now file) layout × HereOf (now file) layout here × (here .state ≡ self) ⌝ }
         ensures { λ r. ⌜ r ≡ stepFrom self (step stopped (policyOf (layout .reading) (now (file .entry))) (place (layout .clocks) self) (eventXY x y)) ⌝ }
     {
-        let rule = rule_of(file, layout, here, self, x, y);
+        let rule = rule_of(file, layout, here, x, y);
         self.by(file, layout, rule)
     }
 }

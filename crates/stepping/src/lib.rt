@@ -1,9 +1,13 @@
 // A state, and one step of it by the rule that decides an event.
+mod ahead;
+pub mod five;
 mod here;
 mod matcher;
 mod next;
 mod state;
 
+pub use ahead::RulesAhead;
+pub use ahead::rules_ahead;
 pub use here::Here;
 pub use here::here_by;
 pub use here::own_of;

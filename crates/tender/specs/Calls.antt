@@ -26,7 +26,7 @@ use Rattle.fast.specs.Promise.{FastPromise}
 use Rattle.join.specs.Promise.{joinedSaid, JoinPromise}
 use Rattle.join.specs.declared.Joined.{Joined}
 use Rattle.join.specs.declared.Joined.the-variants as Joined
-use Rattle.bays.specs.Five.{stateWords, stateIn, words-in}
+use Rattle.stepping.specs.Five.{stateWords, stateIn, words-in}
 use Rattle.bays.specs.Odd.{oddRefusal}
 use Rattle.bays.specs.Halves.{output-four}
 use Rattle.bays.specs.Promises.{NewPromise, BayInputPromise, BayOutputPromise}

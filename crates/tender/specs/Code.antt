@@ -34,7 +34,7 @@ use Rattle.prepare.specs.declared.Prepared.the-variants as Prepared
 use Rattle.join.specs.Promise.{JoinPromise}
 use Rattle.join.specs.declared.Joined.the-variants as Code
 use Rattle.console.specs.Scratch.{start-is}
-use Rattle.bays.specs.Five.{stateWords, stateIn, words-in, words-back}
+use Rattle.stepping.specs.Five.{stateWords, stateIn, words-in, words-back}
 use Rattle.bays.specs.Odd.{oddRefusal}
 use Rattle.bays.specs.Halves.{four-long, output-four}
 use Rattle.groovepawn.specs.Words.{isState, outputState, runState, runOut}

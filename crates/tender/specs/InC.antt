@@ -42,7 +42,7 @@ use Rattle.waves.specs.declared.writer.Written.{Written}
 use Rattle.waves.specs.declared.writer.Written.the-variants as Written
 use Rattle.waves.specs.declared.reader.Taken.{Taken}
 use Rattle.waves.specs.declared.reader.Taken.the-variants as Taken
-use Rattle.bays.specs.Five.{stateIn}
+use Rattle.stepping.specs.Five.{stateIn}
 use Rattle.bays.specs.Odd.{odd-some, odd-le}
 use Rattle.groovepawn.specs.Words.{isState, isUp}
 use Rattle.groovepawn.specs.Calls.{PrepareCall, InputCall, OutputCall, RunCall, TicksCall}

@@ -28,7 +28,7 @@ use Rattle.reasons.specs.Word.{whyWord}
 use Rattle.reasons.specs.Runs.{Room, shortestOf, roomRefusal, earlyRefusal as earlyRunRefusal, whyRunRefusal, WhyRunPromise, refuses as run-refuses, run-answers-one, why-run-one}
 use Rattle.reasons.specs.declared.entry.WhyAnswer.{WhyAnswer}
 use Rattle.reasons.specs.declared.entry.WhyAnswer.the-variants as WhyAnswer
-use Rattle.bays.specs.Five.{stateIn}
+use Rattle.stepping.specs.Five.{stateIn}
 use Rattle.bays.specs.Odd.{oddRefusal}
 use Rattle.bays.specs.Entries.{BayAnswer}
 use Rattle.bays.specs.Promises.{BayInputPromise, BayOutputPromise, bay-input-one, bay-output-one}

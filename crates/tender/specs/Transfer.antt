@@ -21,7 +21,7 @@ use Rattle.enforcer.specs.States.{marks-granted, state-granted}
 use Rattle.stepping.specs.Tick.{outputTick, inputChoice}
 use Rattle.enforcer.specs.Entries.{OutputAnswer, marksRefusal, xGood, yGood, inputOf, outputOf}
 use Rattle.trimming.specs.Table.{marksOf}
-use Rattle.bays.specs.Five.{stateWords}
+use Rattle.stepping.specs.Five.{stateWords}
 use Rattle.meter.specs.Meter.{pulsesOf, withPulse, isOn, risen, fits}
 use Rattle.meter.specs.Entries.{tagP, tagD, settled, metered, meterInputOf, meterOutputOf}
 use Rattle.meter.specs.There.{input-there, output-there}

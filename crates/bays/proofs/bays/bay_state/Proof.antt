@@ -4,7 +4,7 @@ use Prim.Native.Nat.{ℕ, _+_, _-_, _*_, _%_, _≤_}
 use native.Mathlib.Omega.{arith}
 use lib.ListN.{length, take, drop}
 use denote.Ref.{now}
-use Rattle.bays.specs.Five.{stateIn}
+use Rattle.stepping.specs.Five.{stateIn}
 use Rattle.bays.specs.Parts.{fits}
 use borrow.Author.Needs.{needs}
 use Rattle.bays.proofs.bays.bay_state.Statement.{statement}

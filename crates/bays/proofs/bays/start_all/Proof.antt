@@ -9,7 +9,7 @@ use denote.Ref.{now}
 use borrow.Author.Needs.{needs}
 use Rattle.stepping.specs.Code.{startState}
 use Rattle.stepping.specs.declared.state.State.{State}
-use Rattle.bays.specs.Five.{stateWords}
+use Rattle.stepping.specs.Five.{stateWords}
 use Rattle.bays.specs.Bays.{baysIn, withState}
 use Rattle.bays.specs.Entries.{started}
 use Rattle.bays.specs.Parts.{started-length, five-each}

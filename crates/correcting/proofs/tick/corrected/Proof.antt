@@ -1,16 +1,16 @@
 -- `correcting::tick::corrected` meets its contract: the output half goes on from the chosen input, by the set that one pass has found for it.
 use mathlib.Core.Path.{_≡_, sym, ap, _∙_}
 use mathlib.Core.Option.{bind}
-use Prim.Native.Nat.{_≤_, _<_}
+use Prim.Native.Nat.{_<_}
 use native.Mathlib.Omega.{arith}
 use lib.Pow.{pow-pos}
 use borrow.Author.Needs.{needs}
 use denote.Ref.{now}
-use Rattle.policy.specs.Rules.{Policy, Place, inputValues, outputValues}
+use Rattle.policy.specs.Rules.{Policy, Place, inputValues}
 use Rattle.policy.specs.File.{policyOf}
 use Rattle.stepping.specs.State.{place}
 use Rattle.stepping.specs.Tick.{inputChoice, tick}
-use Rattle.stepping.specs.Laid.{laid-limits, laid-well, laid-inputs, laid-outputs}
+use Rattle.stepping.specs.Laid.{laid-well}
 use Rattle.choice.specs.Said.{choiceSaid}
 use Rattle.correcting.specs.Choice.{input-stands, input-below, sets-chosen, set-chosen}
 use Rattle.correcting.proofs.tick.corrected.Statement.{statement}
@@ -27,20 +27,13 @@ abbrev policyAt : tie.Start → Policy
 policyAt s = policyOf (s .args .layout .reading) (now (s .args .file))
 
 abbrev placeAt : tie.Start → Place
-placeAt s = place (s .args .layout .clocks) (s .args .state)
-
--- The values counted are those of the inputs, and then those of the outputs.
-inputs : (c : tie.After-values) → (c .values .result ≡ inputValues (policyAt (start (c .before)))) × (c .values .result ≤ 16)
-inputs c = rw (c .values .ensures) (laid-inputs (start (c .before) .pre .0 .standing .laid))
-
-outputs : (c : tie.After-values2) → (c .values2 .result ≡ outputValues (policyAt (start (chosen (c .before) .before .before)))) × (c .values2 .result ≤ 16)
-outputs c = rw (c .values2 .ensures) (laid-outputs (start (chosen (c .before) .before .before) .pre .0 .standing .laid))
+placeAt s = place (s .args .layout .clocks) (s .args .here .state)
 
 -- The input is the one that the input half chooses.
 input : (c : tie.After-nearest) → let s = start (c .before .before) in choiceSaid (c .nearest .result) ≡ inputChoice (policyAt s) (now (s .args .marks)) (placeAt s) (s .args .x)
 input c =
     let v = c .before in
-    rw (inputs v .0) at (c .nearest .ensures)
+    rw (v .inputs-of .ensures .0) at (c .nearest .ensures)
     ∙ sets-chosen _ (laid-well (start (v .before) .pre .0 .standing .laid)) _ _ (v .before .before .allowed .result) _ (v .before .before .allowed .ensures) (v .before .standing .ensures) _
 
 below : (c : tie.After-known-told) → c .before .z .given .0 .0 < inputValues (policyAt (start (chosen c .before .before)))
@@ -52,14 +45,8 @@ returns c =
     let s = c .before .before .before .before .before in
     rw (input-stands _ _ _ _ 0 (s .pre .1) (pow-pos _) (sym (c .before .before .reaches .ensures) ∙ c .before .if1 .taken)) (c .output-tick .ensures)
 
-values-requires : tie.Need-values-requires
-values-requires c κs = laid-limits (start c .pre .0 .standing .laid) .0
-
 array-read-nearest : tie.Need-array-read-nearest
-array-read-nearest c = omega (arith, below c, inputs (chosen c .before))
-
-values-requires-2 : tie.Need-values-requires-2
-values-requires-2 c κs = laid-limits (start (chosen c .before .before) .pre .0 .standing .laid) .1
+array-read-nearest c = omega (arith, below c, chosen c .before .inputs-of .ensures)
 
 moved-requires : tie.Need-moved-requires
 moved-requires c κs = let s = start (chosen (c .before .before) .before .before) in (s .pre .0 .standing .laid, s .pre .0 .here)
@@ -74,13 +61,13 @@ returns-3 c =
     let v = c .before .before in
     let k = v .before in
     let s = start (chosen k .before .before) in
-    let output = rw (outputs v .0) at (c .before .nearest2 .ensures) ∙ set-chosen _ (laid-well (s .pre .0 .standing .laid)) _ _ _ _ (chosen k .before .before .before .allowed .ensures _) (below k) _ in
+    let output = rw (v .outputs-of .ensures .0) at (c .before .nearest2 .ensures) ∙ set-chosen _ (laid-well (s .pre .0 .standing .laid)) _ _ _ _ (chosen k .before .before .before .allowed .ensures _) (below k) _ in
     rw (sym (input (chosen k)) ∙ ap choiceSaid (k .before .z .given .1)) (c .moved .ensures _ _ output)
 
 pub corrected-spec : {M : Type 1} → statement M
 corrected-spec =
     tie.close
     (tie.spec
-    (λ c κs. search needs) (λ c κs. search needs) returns (λ c κs. search needs) (λ c κs. search needs) values-requires (λ c κs. inputs c .1)
-    (λ c. search needs) (λ c κs. search needs) (λ c. search needs) (λ c. search needs) (λ c. search needs) array-read-nearest values-requires-2
-    (λ c κs. outputs c .1) moved-requires returns-2 returns-3)
+    (λ c κs. search needs) (λ c κs. search needs) returns (λ c κs. search needs) (λ c κs. search needs) (λ c κs. search needs) (λ c κs. search needs)
+    (λ c. search needs) (λ c κs. search needs) (λ c. search needs) (λ c. search needs) (λ c. search needs) array-read-nearest (λ c κs. search needs)
+    (λ c κs. search needs) moved-requires returns-2 returns-3)

@@ -1,14 +1,10 @@
 -- `enforcer::halves::input_half` meets its contract: each refusal up to 15 in its order; then the input as it was read, if it stands; and then what is left past it.
 use mathlib.Core.Path.{_≡_, sym, _∙_}
-use native.Mathlib.Omega.{arith}
 use borrow.Author.Needs.{needs}
 use denote.Ref.{now}
-use Rattle.policy.specs.Rules.{inputValues}
-use Rattle.policy.specs.File.{policyOf}
 use Rattle.enforcer.specs.Entries.{marksRefusal, inputRefusal, inputOf, inputPast}
 use Rattle.stepping.specs.State.{place}
-use Rattle.stepping.specs.Ready.{Standing}
-use Rattle.stepping.specs.Laid.{laid-limits, laid-inputs}
+use Rattle.stepping.specs.Ready.{Standing, ready-of}
 use Rattle.enforcer.specs.States.{chosen-first, marks-by, granted-laid, input-16, half-standing, input-left}
 use Rattle.enforcer.specs.AsRead.{input-past-15, input-as-read}
 use Rattle.enforcer.proofs.halves.input_half.Statement.{statement}
@@ -54,19 +50,10 @@ left c =
     let e = c .before .before .before in
     input-left _ _ _ (e .before .before .check-under .ensures) (passed e) _ (c .before .state-refusal .ensures) (c .if2 .left) _
 
-values-requires : tie.Need-values-requires
-values-requires c κs = omega (arith, laid-limits (standing c .laid))
-
--- The values that x may have are the policy's, and past 15 x is one of them.
-inputs : (c : tie.After-values) →
-    let s = c .before .before .before .before .before .before in
-    c .values .result ≡ inputValues (policyOf (s .check-under .result .layout .reading) (now (s .before .before .before .args .file)))
-inputs c = c .values .ensures ∙ laid-inputs (standing (c .before) .laid) .0
-
 returns-3 : tie.Need-returns-3
 returns-3 c =
     let v = c .before in
-    record { said = sym (left (v .before) ∙ input-past-15 _ _ _ _ _ (rw (inputs v) at (c .if3 .taken))) }
+    record { said = sym (left (v .before) ∙ input-past-15 _ _ _ _ _ (rw (v .inputs-of .ensures .0) at (c .if3 .taken))) }
 
 own-of-requires : tie.Need-own-of-requires
 own-of-requires c κs = standing (c .before .before) .laid
@@ -75,14 +62,15 @@ here-by-requires : tie.Need-here-by-requires
 here-by-requires c κs = (standing (c .before .before .before) .laid, c .own-of .ensures)
 
 input-reaches-requires : tie.Need-input-reaches-requires
-input-reaches-requires c κs = record { standing = standing (c .before .before .before .before); here = c .here-by .ensures }
+input-reaches-requires c κs = ready-of (standing (c .before .before .before .before)) (c .here-by .ensures)
 
 -- As it was read the input stands.
 returns-4 : tie.Need-returns-4
 returns-4 c =
     let r = c .before in
-    let e = r .before .before .before in
-    record { said = sym (left (e .before .before) ∙ input-as-read _ _ _ _ _ (rw (inputs (e .before)) at (e .if3 .left)) (sym (r .input-reaches .ensures) ∙ c .if4 .taken)) }
+    let h = r .before in
+    let e = h .before .before in
+    record { said = sym (left (e .before .before) ∙ input-as-read _ _ _ _ _ (rw (e .before .inputs-of .ensures .0) at (e .if3 .left)) (sym (rw (h .here-by .ensures .1) at (r .input-reaches .ensures)) ∙ c .if4 .taken)) }
 
 input-by-requires : tie.Need-input-by-requires
 input-by-requires c κs =
@@ -98,5 +86,5 @@ pub input-half-spec : {M : Type 1} → statement M
 input-half-spec =
     tie.close
     (tie.spec
-    (λ c κs. search needs) (λ c κs. search needs) returns state-refusal-requires returns-2 values-requires returns-3 own-of-requires here-by-requires
+    (λ c κs. search needs) (λ c κs. search needs) returns state-refusal-requires returns-2 (λ c κs. standing c .laid) returns-3 own-of-requires here-by-requires
     input-reaches-requires returns-4 input-by-requires returns-5)

@@ -3,7 +3,6 @@ use mathlib.Core.Path.{_≡_, refl, sym, ap, _∙_}
 use mathlib.Core.Bool.{cond}
 use mathlib.Core.Option.{Option, none, some}
 use Prim.Native.Nat.{_<_}
-use native.Mathlib.Omega.{arith}
 use borrow.Author.Needs.{needs}
 use borrow.Author.Tests.{lt-ltb, le-ltb, not-true, not-false}
 use denote.Ref.{now}
@@ -13,7 +12,7 @@ use Rattle.stepping.specs.Tick.{ReleasedTick, outputTick}
 use Rattle.enforcer.specs.Entries.{OutputAnswer, chosen, outputFrom, outputPast}
 use Rattle.stepping.specs.State.{place}
 use Rattle.correcting.specs.Chosen.{tickFrom}
-use Rattle.stepping.specs.Laid.{laid-limits, laid-inputs, laid-outputs}
+use Rattle.stepping.specs.Ready.{ready-of}
 use Rattle.enforcer.specs.Promises.{outputSaid}
 use Rattle.stepping.specs.declared.state.State.{State}
 use Rattle.correcting.specs.declared.tick.Ticked.{Ticked}
@@ -30,32 +29,20 @@ tick-says : (s : State) (d : Option ReleasedTick) → outputFrom s (chosen 0 d) 
 tick-says s none = refl
 tick-says s (some t) = refl
 
-values-requires : tie.Need-values-requires
-values-requires c κs = omega (arith, laid-limits (c .before .before .pre .0 .laid))
-
--- The values that x and y may have are the policy's, and past 15 they are among them.
-inputs : (c : tie.After-values) → let a = c .before .before .before .args in c .values .result ≡ inputValues (policyOf (a .layout .reading) (now (a .file)))
-inputs c = c .values .ensures ∙ laid-inputs (c .before .before .before .pre .0 .laid) .0
-
 returns : tie.Need-returns
-returns c = ap outputSaid (c .refused .ensures) ∙ sym (rw (← inputs (c .before .before), le-ltb _ _ (c .before .if1 .taken)))
+returns c = ap outputSaid (c .refused .ensures) ∙ sym (rw (← c .before .before .inputs-of .ensures .0, le-ltb _ _ (c .before .if1 .taken)))
 
-values-requires-2 : tie.Need-values-requires-2
-values-requires-2 c κs = omega (arith, laid-limits (c .before .before .before .before .pre .0 .laid))
-
-outputs : (c : tie.After-values2) → let a = c .before .before .before .before .before .args in c .values2 .result ≡ outputValues (policyOf (a .layout .reading) (now (a .file)))
-outputs c = c .values2 .ensures ∙ laid-outputs (c .before .before .before .before .before .pre .0 .laid) .0
-
+-- Past 15 x is one of the inputs, and y one of the outputs.
 x-fits : (c : tie.Else1) → let a = c .before .before .before .before .args in a .x < inputValues (policyOf (a .layout .reading) (now (a .file)))
-x-fits c = rw (inputs (c .before)) at (c .if1 .left)
+x-fits c = rw (c .before .inputs-of .ensures .0) at (c .if1 .left)
 
 returns-2 : tie.Need-returns-2
 returns-2 c =
     let v = c .before .before in
-    ap outputSaid (c .refused2 .ensures) ∙ sym (rw (lt-ltb _ _ (x-fits (v .before)), ← outputs v, le-ltb _ _ (c .before .if2 .taken)))
+    ap outputSaid (c .refused2 .ensures) ∙ sym (rw (lt-ltb _ _ (x-fits (v .before)), ← v .outputs-of .ensures .0, le-ltb _ _ (c .before .if2 .taken)))
 
 y-fits : (c : tie.Else2) → let a = c .before .before .before .before .before .before .args in a .y < outputValues (policyOf (a .layout .reading) (now (a .file)))
-y-fits c = rw (outputs (c .before)) at (c .if2 .left)
+y-fits c = rw (c .before .outputs-of .ensures .0) at (c .if2 .left)
 
 here-by-requires : tie.Need-here-by-requires
 here-by-requires c κs = let s = c .before .before .before .before .before .before in (s .pre .0 .laid, s .pre .1)
@@ -63,7 +50,7 @@ here-by-requires c κs = let s = c .before .before .before .before .before .befo
 output-tick-requires : tie.Need-output-tick-requires
 output-tick-requires c κs =
     let e = c .before in
-    (record { standing = e .before .before .before .before .before .before .pre .0; here = c .here-by .ensures }, y-fits e)
+    (ready-of (e .before .before .before .before .before .before .pre .0) (c .here-by .ensures), y-fits e)
 
 -- The tick says the rest.
 abbrev asked : tie.After-output-tick → Option ReleasedTick
@@ -76,8 +63,9 @@ given : (c : tie.After-output-tick) →
     outputPast (a .layout .reading) (now (a .file)) (now (a .marks)) (a .state) (place (a .layout .clocks) (a .state)) (a .x) (a .y)
     ≡ tickSaid (a .state) (c .output-tick .result)
 given c =
-    let e = c .before .before in
-    rw (lt-ltb _ _ (x-fits (e .before .before)), lt-ltb _ _ (y-fits e), c .output-tick .ensures) (tick-says (c .before .before .before .before .before .before .before .before .args .state) (asked c))
+    let h = c .before in
+    let e = h .before in
+    rw (lt-ltb _ _ (x-fits (e .before .before)), lt-ltb _ _ (y-fits e), rw (h .here-by .ensures .1) at (c .output-tick .ensures)) (tick-says (c .before .before .before .before .before .before .before .before .args .state) (asked c))
 
 returns-3 : tie.Need-returns-3
 returns-3 c =
@@ -92,5 +80,5 @@ pub output-by-spec : {M : Type 1} → statement M
 output-by-spec =
     tie.close
     (tie.spec
-    values-requires (λ c κs. search needs) returns values-requires-2 (λ c κs. search needs) returns-2 here-by-requires output-tick-requires
+    (λ c κs. search needs) (λ c κs. search needs) returns (λ c κs. search needs) (λ c κs. search needs) returns-2 here-by-requires output-tick-requires
     (λ c κs. search needs) returns-3 returns-4)

@@ -8,12 +8,9 @@ use lib.ListN.{length, getD, drop}
 use denote.Ref.{now}
 use borrow.Author.Needs.{needs}
 use borrow.Author.Tests.{lt-ltb, le-ltb}
-use Rattle.policy.specs.Rules.{inputValues, outputValues}
-use Rattle.policy.specs.File.{policyOf}
 use Rattle.policy.specs.Check.{allPass}
 use Rattle.policy.proofs.Laws.{all-turn, all-end}
 use Rattle.enforcer.specs.Entries.{eventGood}
-use Rattle.stepping.specs.Laid.{laid-limits, laid-inputs, laid-outputs}
 use Rattle.enforcer.proofs.runs.events_good.Statement.{statement}
 use Rattle.enforcer.proofs.runs.events_good.Tie as tie
 
@@ -28,32 +25,19 @@ abbrev μ-loop : tie.MeasureT-loop
 μ-loop file events inputs outputs i₀ i = length events - i
 
 -- The values counted are those of the inputs and of the outputs.
-counted : (c : tie.After-values2 Inv-loop μ-loop) →
-    let p = policyOf (c .before .before .before .before .args .layout .reading) (now (c .before .before .before .before .args .file)) in
-    (c .before .values .result ≡ inputValues p) × (c .values2 .result ≡ outputValues p)
-counted c =
-    let k = c .before .before .before .before .pre in
-    (c .before .values .ensures ∙ laid-inputs k .0, c .values2 .ensures ∙ laid-outputs k .0)
-
-good-is : (c : tie.After-values2 Inv-loop μ-loop) →
+good-is : (c : tie.After-outputs-of Inv-loop μ-loop) →
     let a = c .before .before .before .before .args in
-    allPass (good (c .before .values .result) (c .values2 .result)) (now (a .events)) ≡ allPass (eventGood (a .layout .reading) (now (a .file))) (now (a .events))
-good-is c = rw (counted c .0, counted c .1)
+    allPass (good (c .before .inputs-of .result) (c .outputs-of .result)) (now (a .events)) ≡ allPass (eventGood (a .layout .reading) (now (a .file))) (now (a .events))
+good-is c = rw (c .before .inputs-of .ensures .0, c .outputs-of .ensures .0)
 
 -- The events are good if the event i is and those after it are.
 turn : (c : tie.In-loop Inv-loop μ-loop) →
     let v = c .before .before in
     let a = v .before .before .before .before .args in
-    let g = good (v .before .values .result) (v .values2 .result) in
+    let g = good (v .before .inputs-of .result) (v .outputs-of .result) in
     let i = c .before .loop .i in
     allPass g (now (a .events)) ≡ (g (getD (now (a .events)) i 0) && allPass g (drop (i + 1) (now (a .events))))
 turn c = c .before .loop .inv .1 ∙ all-turn _ _ _ (c .loop-test .taken)
-
-values-requires : tie.Need-values-requires Inv-loop μ-loop
-values-requires c κs = laid-limits (c .before .before .pre) .0
-
-values-requires-2 : tie.Need-values-requires-2 Inv-loop μ-loop
-values-requires-2 c κs = laid-limits (c .before .before .before .pre) .1
 
 cast-event : tie.Need-cast-event Inv-loop μ-loop
 cast-event c = omega (arith, c .shared-slice-known3 .given (c .before .before .loop .i))
@@ -80,5 +64,5 @@ pub events-good-spec : {M : Type 1} → statement M
 events-good-spec =
     tie.close
     (tie.spec
-    Inv-loop μ-loop values-requires values-requires-2 (λ c. search needs) (λ c. search needs) cast-event returns returns-2 (λ c. search needs)
+    Inv-loop μ-loop (λ c κs. search needs) (λ c κs. search needs) (λ c. search needs) (λ c. search needs) cast-event returns returns-2 (λ c. search needs)
     (λ c. search needs) loop-again returns-3)

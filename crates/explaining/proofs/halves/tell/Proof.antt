@@ -59,23 +59,25 @@ is-next c =
 for-input-requires : tie.Need-for-input-requires
 for-input-requires c κs =
     let s = start (c .before .before) in
+    let e = c .before .before .before .before .here-by .ensures in
     let h = s .pre .0 .0 in (
-      (h .laid, c .before .before .before .before .here-by .ensures, h .inside),
+      (h .laid, e .0, rw (e .1) (h .inside)),
       (
         s .pre .1 .0,
-        λ n. input-dead _ (laid-well (h .laid)) _ (s .pre .0 .1) _ (h .inside) (s .pre .0 .2) (s .args .x) (s .args .y) (s .pre .1 .1) (λ e. n (e ∙ sym (is-passed (c .before .before)))),
+        λ n. rw (e .1) (input-dead _ (laid-well (h .laid)) _ (s .pre .0 .1) _ (h .inside) (s .pre .0 .2) (s .args .x) (s .args .y) (s .pre .1 .1) (λ q. n (q ∙ sym (is-passed (c .before .before))))),
       ),
     )
 
 for-output-requires : tie.Need-for-output-requires
 for-output-requires c κs =
     let s = start (c .before .before .before) in
+    let e = c .before .before .before .before .before .here-by .ensures in
     let h = s .pre .0 .0 in (
-      (h .laid, c .before .before .before .before .before .here-by .ensures, h .inside),
+      (h .laid, e .0, rw (e .1) (h .inside)),
       (
         s .pre .1 .0,
-        λ n. rw (is-passed (c .before .before .before))
-            (output-dead _ (laid-well (h .laid)) _ (s .pre .0 .1) _ (h .inside) (s .pre .0 .2) (s .args .x) (s .args .y) (s .pre .1 .2) (λ e. n (e ∙ sym (is-released (c .before))))),
+        λ n. rw (e .1, is-passed (c .before .before .before))
+            (output-dead _ (laid-well (h .laid)) _ (s .pre .0 .1) _ (h .inside) (s .pre .0 .2) (s .args .x) (s .args .y) (s .pre .1 .2) (λ q. n (q ∙ sym (is-released (c .before))))),
       ),
     )
 
@@ -84,9 +86,10 @@ returns d =
     let c = d .before in
     let s = start (c .before .before .before .before) in
     let h = s .pre .0 .0 in
-    let v = c .before .before in (
+    let v = c .before .before in
+    let e = v .before .before .before .before .here-by .ensures .1 in (
       both-told _ (laid-well (h .laid)) _ (s .pre .0 .1) _ (h .inside) (s .pre .0 .2) (s .args .x) (s .args .y)
-          (rw (is-passed (v .before .before)) at (c .before .for-input .ensures)) (rw (is-passed (v .before .before), is-released v) at (c .for-output .ensures)),
+          (rw (e, is-passed (v .before .before)) at (c .before .for-input .ensures)) (rw (e, is-passed (v .before .before), is-released v) at (c .for-output .ensures)),
       record {
         done = moved-tick _ (laid-well (h .laid)) _ (s .pre .0 .1) _ (h .inside) (s .pre .0 .2) (s .args .x) (s .args .y);
         is = moves-on _ (laid-well (h .laid)) _ (s .pre .0 .1) _ (h .inside) (s .pre .0 .2) (s .args .x) (s .args .y);

@@ -20,10 +20,10 @@ fits : (c : tie.After-struct-known2) →
     × (a .here .own .count ≤ 256) × (a .layout .clocks ≤ 4)
 fits c =
     let s = c .before .before .before .before in
-    omega (arith, own-fits (s .pre .0) (s .args .state .location) (s .pre .1 .own), laid-limits (s .pre .0))
+    omega (arith, own-fits (s .pre .0) (s .args .here .state .location) (s .pre .1 .own), laid-limits (s .pre .0))
 
 -- The state that bounds see is at the same location.
-location : (s : tie.Start) → s .args .here .seen .location ≡ s .args .state .location
+location : (s : tie.Start) → s .args .here .seen .location ≡ s .args .here .state .location
 location s = ap (λ (z : Place). z .location) (here-seen (s .pre .0) (s .pre .1))
 
 add-from : tie.Need-add-from
@@ -52,7 +52,7 @@ first-rule-requires c κs =
     let from = a .layout .«rules_start» + a .here .own .start in
     let n : from + size - from ≡ size = omega arith in (
       simp (length-take, length-drop) (omega (arith, fits (c .before .before))),
-      rw (n, location s) (own-located (s .pre .0) (a .state .location) (s .pre .1 .own)),
+      rw (n, location s) (own-located (s .pre .0) (a .here .state .location) (s .pre .1 .own)),
     )
 
 returns : tie.Need-returns

@@ -15,11 +15,11 @@ use Rattle.explaining.proofs.tell.reason_for_input.Statement.{statement
 use Rattle.explaining.proofs.tell.reason_for_input.Tie as tie
 
 abbrev Inv-loop : tie.InvT-loop
-Inv-loop file layout here ticks rests state x outputs best₀ y₀ best y =
-    ((0 < y) × (y ≤ outputs) × (outputs ≤ 16)) × ToldIn (policyOf (layout .reading) file) (place (layout .clocks) state) y x (reasonSaid best)
+Inv-loop file layout here ticks rests x outputs best₀ y₀ best y =
+    ((0 < y) × (y ≤ outputs) × (outputs ≤ 16)) × ToldIn (policyOf (layout .reading) file) (place (layout .clocks) (here .state)) y x (reasonSaid best)
 
 abbrev μ-loop : tie.MeasureT-loop
-μ-loop file layout here ticks rests state x outputs best₀ y₀ best y =
+μ-loop file layout here ticks rests x outputs best₀ y₀ best y =
     outputs - y
 
 -- The values counted are those of the outputs.

@@ -32,10 +32,10 @@ told c = c .before .before .before .before
 found : (c : tie.After-known-told) →
     let a = start c .args in
     let p = policyOf (a .layout .reading) (now (a .file)) in
-    let v = looked stopped p (place (a .layout .clocks) (a .state)) in
+    let v = looked stopped p (place (a .layout .clocks) (a .here .state)) in
     let i = c .before .i .given .0 .0 in
-    (i < a .here .own .count) × (decider (own (a .state .location) (p .rules)) v (eventXY (a .x) (a .y)) ≡ some i)
-    × (decides (own (a .state .location) (p .rules)) v (eventXY (a .x) (a .y))
+    (i < a .here .own .count) × (decider (own (a .here .state .location) (p .rules)) v (eventXY (a .x) (a .y)) ≡ some i)
+    × (decides (own (a .here .state .location) (p .rules)) v (eventXY (a .x) (a .y))
     ≡ some (ruleFrom (a .layout .clocks) (now (a .file)) (a .layout .«rules_start» + a .here .own .start + i * ruleSize (a .layout .clocks))))
 found c =
     let s = start c in
@@ -43,12 +43,12 @@ found c =
 
 -- The rules lie within the file.
 fits : (s : tie.Start) → s .args .layout .«rules_start» + s .args .here .own .start < 65536
-fits s = omega (arith, own-fits (s .pre .0 .0) (s .args .state .location) (s .pre .0 .1 .own), laid-short (s .pre .0 .0))
+fits s = omega (arith, own-fits (s .pre .0 .0) (s .args .here .state .location) (s .pre .0 .1 .own), laid-short (s .pre .0 .0))
 
 small : (c : tie.After-known-told) → c .before .i .given .0 .0 * (7 + 4 * start c .args .layout .clocks) ≤ 5888
 small c =
     let s = start c in
-    let n = own-fits (s .pre .0 .0) (s .args .state .location) (s .pre .0 .1 .own) .1 in
+    let n = own-fits (s .pre .0 .0) (s .args .here .state .location) (s .pre .0 .1 .own) .1 in
     let l = laid-limits (s .pre .0 .0) in
     let a : c .before .i .given .0 .0 ≤ 256 = omega (arith, found c .0) in
     let b : 7 + 4 * s .args .layout .clocks ≤ 23 = omega arith in
@@ -57,7 +57,7 @@ small c =
 -- It leads to a state.
 leads : (c : tie.Else1) →
     let a = start (told (c .before .before)) .args in
-    Led (place (a .layout .clocks) (a .state)) (policyOf (a .layout .reading) (now (a .file)))
+    Led (place (a .layout .clocks) (a .here .state)) (policyOf (a .layout .reading) (now (a .file)))
     (ruleFrom (a .layout .clocks) (now (a .file)) (a .layout .«rules_start» + a .here .own .start + told (c .before .before) .before .i .given .0 .0 * ruleSize (a .layout .clocks))) true (c .before .before .next-of .result .number)
 leads c = led-as (not-false _ (c .if1 .left)) (c .before .before .next-of .ensures)
 
@@ -81,8 +81,8 @@ next-of-requires c κs =
     let s = start (c .before .before .before) in
     (s .pre .0 .0, s .pre .0 .2, rule-there (s .pre .0 .0) (s .pre .0 .1) (eventXY (s .args .x) (s .args .y)) (found (c .before .before .before) .0))
 
-add-t19 : tie.Need-add-t19
-add-t19 c = let s = start (told (c .before .before .before)) in omega (arith, rule-few (s .pre .0 .0) (s .pre .0 .1) (eventXY (s .args .x) (s .args .y)) (found (told (c .before .before .before)) .0))
+add-number : tie.Need-add-number
+add-number c = let s = start (told (c .before .before .before)) in omega (arith, rule-few (s .pre .0 .0) (s .pre .0 .1) (eventXY (s .args .x) (s .args .y)) (found (told (c .before .before .before)) .0))
 
 returns : tie.Need-returns
 returns c =
@@ -116,4 +116,4 @@ reason-of-spec =
     tie.close
     (tie.spec
     (λ c κs. search needs) (λ c. search needs) (λ c. search needs) mul-size add-size add-next-of mul-next-of add-next-of-2 next-of-requires
-    (λ c. search needs) add-t19 returns left-at-requires returns-2 returns-3)
+    (λ c. search needs) add-number returns left-at-requires returns-2 returns-3)

@@ -18,7 +18,7 @@ start c = c .before .before .before .before
 parts : (c : tie.After-byte-within4) →
     let o = c .before .before .before .before .before in
     let a = start (o .before .before .before) .args in
-    Parts (looked stopped (policyOf (a .layout .reading) (now (a .file))) (place (a .layout .clocks) (a .state))) (ruleFrom (a .layout .clocks) (now (a .file)) (a .at))
+    Parts (looked stopped (policyOf (a .layout .reading) (now (a .file))) (place (a .layout .clocks) (a .here .state))) (ruleFrom (a .layout .clocks) (now (a .file)) (a .at))
     (c .before .byte-within3 .result) (c .byte-within4 .result) (o .outs .result)
 unfolding ruleFrom
 parts c =

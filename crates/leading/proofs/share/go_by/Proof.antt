@@ -65,7 +65,7 @@ parted : (c : tie.Else2) →
     let l = c .before in
     let a = entry l .args in
     let o = l .before .before in
-    Parted (looked stopped (policyOf (a .layout .reading) (now (a .file))) (place (a .layout .clocks) (a .state))) (ruleFrom (a .layout .clocks) (now (a .file)) (a .at)) (a .inputs) (now (a .left)) true
+    Parted (looked stopped (policyOf (a .layout .reading) (now (a .file))) (place (a .layout .clocks) (a .here .state))) (ruleFrom (a .layout .clocks) (now (a .file)) (a .at)) (a .inputs) (now (a .left)) true
     (care l .byte-within .result) (o .before .before .before .byte-within2 .result) (o .outs .result)
 unfolding ruleFrom
 parted c =

@@ -21,10 +21,10 @@ fits : (s : tie.Start) →
     let a = s .args in
     (a .layout .«rules_start» + a .here .own .start + a .here .own .count * (7 + 4 * a .layout .clocks) ≤ length (now (a .file)))
     × (a .here .own .count ≤ 256) × (a .layout .clocks ≤ 4)
-fits s = omega (arith, own-fits (s .pre .0) (s .args .state .location) (s .pre .1 .own), laid-limits (s .pre .0))
+fits s = omega (arith, own-fits (s .pre .0) (s .args .here .state .location) (s .pre .1 .own), laid-limits (s .pre .0))
 
 -- The state that bounds see is at the same location.
-location : (s : tie.Start) → s .args .here .seen .location ≡ s .args .state .location
+location : (s : tie.Start) → s .args .here .seen .location ≡ s .args .here .state .location
 location s = ap (λ (z : Place). z .location) (here-seen (s .pre .0) (s .pre .1))
 
 -- What the search found, as it looks at the part of the file.
@@ -75,16 +75,16 @@ first-rule-requires c κs =
     let from = a .layout .«rules_start» + a .here .own .start in
     let n : from + size - from ≡ size = omega arith in (
       simp (length-take, length-drop) (omega (arith, fits s)),
-      rw (n, location s) (own-located (s .pre .0) (a .state .location) (s .pre .1 .own)),
+      rw (n, location s) (own-located (s .pre .0) (a .here .state .location) (s .pre .1 .own)),
     )
 
-mul-t19 : tie.Need-mul-t19
-mul-t19 c =
+mul-t18 : tie.Need-mul-t18
+mul-t18 c =
     let s = c .before .before .before .before .before .before .before .before in
     omega (arith, fits s, mul-le-mul-right (ruleSize (s .args .layout .clocks)) (few c))
 
-add-t20 : tie.Need-add-t20
-add-t20 c =
+add-t19 : tie.Need-add-t19
+add-t19 c =
     let s = c .before .before .before .before .before .before .before .before in
     omega (arith, fits s, mul-le-mul-right (ruleSize (s .args .layout .clocks)) (few c))
 
@@ -92,17 +92,17 @@ returns : tie.Need-returns
 returns c =
     let b = c .before .before in
     let s = b .before .before .before .before .before in
-    decided-none (s .pre .0) (s .args .state) _ (s .pre .1) (ap foundSaid (sym (c .enum-told .given .1)) ∙ searched b)
+    decided-none (s .pre .0) _ (s .pre .1) (ap foundSaid (sym (c .enum-told .given .1)) ∙ searched b)
 
 returns-2 : tie.Need-returns-2
 returns-2 c =
     let b = c .before .before .before in
     let s = b .before .before .before .before .before in
-    decided-rule (s .pre .0) (s .args .state) _ (s .pre .1) _ (ap foundSaid (sym (c .before .number .given .1)) ∙ searched b)
+    decided-rule (s .pre .0) _ (s .pre .1) _ (ap foundSaid (sym (c .before .number .given .1)) ∙ searched b)
 
 pub rule-of-spec : {M : Type 1} → statement M
 rule-of-spec =
     tie.close
     (tie.spec
     mul-size add-size add-from mul-to add-to (λ c. search needs) (λ c. search needs) part-first-rule-end first-rule-requires (λ c. search needs)
-    (λ c. search needs) mul-t19 add-t20 returns returns-2)
+    (λ c. search needs) mul-t18 add-t19 returns returns-2)

@@ -5,10 +5,10 @@ use Rattle.stepping.proofs.state.State.step.Statement.{statement}
 use Rattle.stepping.proofs.state.State.step.Tie as tie
 
 by-requires : tie.Need-by-requires
-by-requires c κs = (c .before .before .pre .0, c .rule-of .ensures .stands)
+by-requires c κs = let s = c .before .before in (s .pre .0, rw (s .pre .2) at (c .rule-of .ensures .stands))
 
 returns : tie.Need-returns
-returns c = decided-step (c .before .rule-of .ensures) (c .by .ensures)
+returns c = let d = c .before in decided-step (rw (d .before .before .pre .2) at (d .rule-of .ensures)) (c .by .ensures)
 
 pub step-spec : {M : Type 1} → statement M
 step-spec = tie.close (tie.spec (λ c κs. search needs) by-requires returns)

@@ -3,11 +3,9 @@ use mathlib.Core.Path.{_≡_, sym, ap, subst, _∙_}
 use mathlib.Core.List.{List, [], _∷_}
 use Prim.Native.Nat.{ℕ}
 use native.Mathlib.Omega.{arith}
-use lib.ListN.{length, getD, set, drop}
-use lib.Seq.{ext-getD}
-use Rattle.resting.specs.Table.{tab}
-use Rattle.resting.specs.Marks.{length-tab, getD-tab}
+use lib.ListN.{length, getD, set, take, drop}
+use lib.Seq.{take-suc, take-all}
 use Rattle.stepping.specs.declared.state.State.{State}
 
 -- "A state is a location and four clock values": five numbers, in this order.
 abbrev pub stateWords : State → List ℕ
@@ -17,16 +15,11 @@ stateWords s = s .location ∷ s .clocks
 abbrev pub stateIn : List ℕ → State
 stateIn s = record { location = getD s 0 0; clocks = getD s 1 0 ∷ getD s 2 0 ∷ getD s 3 0 ∷ getD s 4 0 ∷ [] }
 
--- A list is its elements, one after the other.
-each : (n : ℕ) (s : List ℕ) → length s ≡ n → tab (λ i. getD s i 0) n ≡ s
-each n s e =
-    let l = length-tab n (λ i. getD s i 0) in
-    ext-getD 0 _ s (l ∙ sym e) (λ i h. getD-tab n (λ k. getD s k 0) i (omega arith))
-
 -- Five numbers are those of the state in them, and the state in the numbers of a state is that state.
 pub words-back : (s : List ℕ) → length s ≡ 5 → stateWords (stateIn s) ≡ s
-unfolding tab
-words-back s e = each 5 s e
+words-back s e =
+    let each : take 5 s ≡ stateWords (stateIn s) = rw (take-suc s 4 0 (omega arith), take-suc s 3 0 (omega arith), take-suc s 2 0 (omega arith), take-suc s 1 0 (omega arith), take-suc s 0 0 (omega arith)) in
+    sym each ∙ take-all 5 s (omega arith)
 
 -- A state with four clock values comes back from its numbers.
 pub words-in : (t : State) → length (t .clocks) ≡ 4 → stateIn (stateWords t) ≡ t
@@ -37,7 +30,7 @@ words-in t e =
 -- Five stores leave the numbers stored.
 pub words-put : (s cs : List ℕ) (location : ℕ) → length s ≡ 5 → length cs ≡ 4 →
     set (set (set (set (set s 0 location) 1 (getD cs 0 0)) 2 (getD cs 1 0)) 3 (getD cs 2 0)) 4 (getD cs 3 0) ≡ location ∷ cs
-unfolding tab
 words-put s cs location e l =
+    let five : length (location ∷ cs) ≡ 5 = omega arith in
     subst (λ (t : List ℕ). set (set (set (set (set t 0 location) 1 (getD cs 0 0)) 2 (getD cs 1 0)) 3 (getD cs 2 0)) 4 (getD cs 3 0) ≡ location ∷ cs)
-    (each 5 s e) (ap (_∷_ location) (each 4 cs l))
+    (words-back s e) (words-back (location ∷ cs) five)

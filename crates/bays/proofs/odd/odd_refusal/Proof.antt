@@ -1,4 +1,4 @@
--- `bays::five::odd_refusal` meets its contract: 22 and 1 to 10 come first, then 14 where there is no room, then 16.
+-- `bays::odd::odd_refusal` meets its contract: 22 and 1 to 10 come first, then 14 where there is no room, then 16.
 use mathlib.Core.Path.{_≡_, sym, _∙_}
 use denote.Ref.{now}
 use Rattle.streams.specs.AnswerLaws.{first-refused}
@@ -6,8 +6,8 @@ use Rattle.enforcer.specs.Entries.{marksRefusal}
 use Rattle.enforcer.specs.States.{marks-by}
 use Rattle.bays.specs.Odd.{oddRefusal}
 use borrow.Author.Needs.{needs}
-use Rattle.bays.proofs.five.odd_refusal.Statement.{statement}
-use Rattle.bays.proofs.five.odd_refusal.Tie as tie
+use Rattle.bays.proofs.odd.odd_refusal.Statement.{statement}
+use Rattle.bays.proofs.odd.odd_refusal.Tie as tie
 
 marked : (c : tie.After-marks-refusal) →
     let a = c .before .before .before .before .args in c .marks-refusal .result ≡ marksRefusal (a .reading) (now (a .file)) (now (a .marks))

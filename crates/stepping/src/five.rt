@@ -1,24 +1,11 @@
 // A state as five numbers: the location and then the four clock values.
-use enforcer::marks_refusal;
-use stepping::State;
+use crate::state::State;
 ghost use mathlib.Core.Path.{_≡_};
 ghost use lib.ListN.{length};
-ghost use Rattle.bays.specs.Five.{stateIn, stateWords};
-ghost use Rattle.bays.specs.Odd.{oddRefusal};
+ghost use Rattle.stepping.specs.Five.{stateIn, stateWords};
 
 // How many numbers a state is.
 pub const STATE_NUMBERS: usize = State::CLOCKS + 1;
-
-// What is refused where the numbers are too many or too few: 22 and 1 to 10 come first, then 14 where there is no room for what is to be written.
-pub fn odd_refusal(reading: u8, file: &[u8], marks: &[u8], room: bool) -> u8
-    ensures { λ r. ⌜ r ≡ oddRefusal reading (now (file .entry)) (now (marks .entry)) room ⌝ }
-{
-    let r = marks_refusal(policy::check_under(reading, file), marks);
-    if r != 0 {
-        return r;
-    }
-    if room { 16 } else { 14 }
-}
 
 // The state in five numbers.
 pub fn state_of(state: &[u16]) -> State

@@ -1,10 +1,10 @@
--- `bays::five::put_state` meets its contract: the five stores leave the location and the clock values.
+-- `stepping::five::put_state` meets its contract: the five stores leave the location and the clock values.
 use native.Mathlib.Omega.{arith}
 use lib.ListN.{length-set}
-use Rattle.bays.specs.Five.{words-put}
+use Rattle.stepping.specs.Five.{words-put}
 use borrow.Author.Needs.{needs}
-use Rattle.bays.proofs.five.put_state.Statement.{statement}
-use Rattle.bays.proofs.five.put_state.Tie as tie
+use Rattle.stepping.proofs.five.put_state.Statement.{statement}
+use Rattle.stepping.proofs.five.put_state.Tie as tie
 
 slice-write-state-5 : tie.Need-slice-write-state-5
 slice-write-state-5 c = simp length-set (omega arith)
