@@ -32,14 +32,14 @@ fn same_tags(a: &[u8], b: &[u8]) -> bool
     true
 }
 
-pub(crate) fn same_signals(a: &[u8], x: Layout, b: &[u8], y: Layout) -> bool
-    requires { ⌜ LayoutOf (now a) x × LayoutOf (now b) y ⌝ }
+pub(crate) fn same_signals(a: &[u8], first: Layout, b: &[u8], second: Layout) -> bool
+    requires { ⌜ LayoutOf (now a) first × LayoutOf (now b) second ⌝ }
     ensures { λ r. ⌜ r ≡ sameSignals (said (now (a .entry))) (said (now (b .entry))) ⌝ }
 {
-    let a_end = 1 + x.inputs;
-    let b_end = 1 + y.inputs;
-    let a_last = a_end + 1 + x.outputs;
-    let b_last = b_end + 1 + y.outputs;
+    let a_end = 1 + first.inputs;
+    let b_end = 1 + second.inputs;
+    let a_last = a_end + 1 + first.outputs;
+    let b_last = b_end + 1 + second.outputs;
     if !same_tags(&a[1..a_end], &b[1..b_end]) {
         return false;
     }
@@ -47,26 +47,30 @@ pub(crate) fn same_signals(a: &[u8], x: Layout, b: &[u8], y: Layout) -> bool
 }
 
 // The join has at most 64 locations, 4 clocks and 65,536 states.
-pub(crate) fn within_limits(x: Layout, y: Layout) -> bool
-    requires { ⌜ (x .locations ≤ 64) × (y .locations ≤ 64) × (x .clocks ≤ 4) × (y .clocks ≤ 4) ⌝ }
-    requires { ⌜ (x .states ≤ 65536) × (y .states ≤ 65536) ⌝ }
-    ensures { λ r. ⌜ r ≡ limits x y ⌝ }
+pub(crate) fn within_limits(first: Layout, second: Layout) -> bool
+    requires { ⌜ (first .locations ≤ 64) × (second .locations ≤ 64) × (first .clocks ≤ 4) × (second .clocks ≤ 4) ⌝ }
+    requires { ⌜ (first .states ≤ 65536) × (second .states ≤ 65536) ⌝ }
+    ensures { λ r. ⌜ r ≡ limits first second ⌝ }
 {
-    if LOCATIONS < x.locations * y.locations {
+    if LOCATIONS < first.locations * second.locations {
         return false;
     }
-    if CLOCKS < x.clocks + y.clocks {
+    if CLOCKS < first.clocks + second.clocks {
         return false;
     }
-    x.states * y.states <= STATES
+    first.states * second.states <= STATES
 }
 
 // How many bytes stand before the join's rules.
-pub(crate) fn counts_length(x: Layout, y: Layout) -> usize
-    requires { ⌜ (x .inputs ≤ 4) × (x .outputs ≤ 4) × (x .clocks + y .clocks ≤ 4) × (x .locations * y .locations ≤ 64) ⌝ }
-    ensures { λ r. ⌜ r ≡ countsLength x y ⌝ }
+pub(crate) fn counts_length(first: Layout, second: Layout) -> usize
+    requires { ⌜ (first .inputs ≤ 4) × (first .outputs ≤ 4) × (first .clocks + second .clocks ≤ 4) × (first .locations * second .locations ≤ 64) ⌝ }
+    ensures { λ r. ⌜ r ≡ countsLength first second ⌝ }
 {
-    6 + x.inputs + x.outputs + 2 * (x.clocks + y.clocks) + x.locations * y.locations
+    6
+        + first.inputs
+        + first.outputs
+        + 2 * (first.clocks + second.clocks)
+        + first.locations * second.locations
 }
 
 // The clocks: their count and ceilings, A's first. The sections stand at p and at q.
@@ -91,25 +95,25 @@ fn lay_clocks(
 }
 
 // The byte of one location: it must be left if either part must.
-fn left_at(a: &[u8], x: Layout, b: &[u8], y: Layout, location: usize) -> usize
-    requires { ⌜ PartsReady (now a) x (now b) y × (location < x .locations * y .locations) ⌝ }
+fn left_at(a: &[u8], first: Layout, b: &[u8], second: Layout, location: usize) -> usize
+    requires { ⌜ PartsReady (now a) first (now b) second × (location < first .locations * second .locations) ⌝ }
     ensures { λ r. ⌜ (r ≡ leftAt (said (now (a .entry))) (said (now (b .entry))) location) × (r < 256) ⌝ }
 {
-    let first = may_rest(a, x, location / y.locations);
-    let second = may_rest(b, y, location % y.locations);
-    if first & second { 0 } else { 1 }
+    let rests = may_rest(a, first, location / second.locations);
+    let other_rests = may_rest(b, second, location % second.locations);
+    if rests & other_rests { 0 } else { 1 }
 }
 
 // The bytes of all locations, in number order.
-fn lay_left(a: &[u8], x: Layout, b: &[u8], y: Layout, out: &mut [u8], at: usize) -> usize
-    requires { ⌜ PartsReady (now a) x (now b) y × (at < 2 ^ 18) ⌝ }
-    ensures { λ r. ⌜ LaidAt (leftPart (now (a .entry)) x (now (b .entry)) y) (now (out .entry)) at (now (out .exit)) r ⌝ }
+fn lay_left(a: &[u8], first: Layout, b: &[u8], second: Layout, out: &mut [u8], at: usize) -> usize
+    requires { ⌜ PartsReady (now a) first (now b) second × (at < 2 ^ 18) ⌝ }
+    ensures { λ r. ⌜ LaidAt (leftPart (now (a .entry)) first (now (b .entry)) second) (now (out .entry)) at (now (out .exit)) r ⌝ }
 {
-    let locations = x.locations * y.locations;
+    let locations = first.locations * second.locations;
     let mut next = at;
     let mut location = 0;
     while location < locations {
-        next = put(left_at(a, x, b, y, location), out, next);
+        next = put(left_at(a, first, b, second, location), out, next);
         location += 1;
     }
     next
@@ -118,36 +122,36 @@ fn lay_left(a: &[u8], x: Layout, b: &[u8], y: Layout, out: &mut [u8], at: usize)
 // The locations, and how many rules there are.
 fn lay_places(
     a: &[u8],
-    x: Layout,
+    first: Layout,
     b: &[u8],
-    y: Layout,
+    second: Layout,
     rules: usize,
     out: &mut [u8],
     at: usize,
 ) -> usize
-    requires { ⌜ PartsReady (now a) x (now b) y × (rules ≤ 256) × (at < 2 ^ 17) ⌝ }
-    ensures { λ r. ⌜ LaidAt (placesPart (now (a .entry)) x (now (b .entry)) y rules) (now (out .entry)) at (now (out .exit)) r ⌝ }
+    requires { ⌜ PartsReady (now a) first (now b) second × (rules ≤ 256) × (at < 2 ^ 17) ⌝ }
+    ensures { λ r. ⌜ LaidAt (placesPart (now (a .entry)) first (now (b .entry)) second rules) (now (out .entry)) at (now (out .exit)) r ⌝ }
 {
-    let left = put(x.locations * y.locations, out, at);
-    let count = lay_left(a, x, b, y, out, left);
+    let left = put(first.locations * second.locations, out, at);
+    let count = lay_left(a, first, b, second, out, left);
     put_pair(rules, out, count)
 }
 
 // All that stands before the rules. Signals and their tags are A's.
 pub(crate) fn lay_counts(
     a: &[u8],
-    x: Layout,
+    first: Layout,
     b: &[u8],
-    y: Layout,
+    second: Layout,
     rules: usize,
     out: &mut [u8],
 ) -> usize
-    requires { ⌜ PartsReady (now a) x (now b) y × (rules ≤ 256) ⌝ }
-    ensures { λ r. ⌜ LaidAt (countsFrom (now (a .entry)) x (now (b .entry)) y rules) (now (out .entry)) 0 (now (out .exit)) r ⌝ }
+    requires { ⌜ PartsReady (now a) first (now b) second × (rules ≤ 256) ⌝ }
+    ensures { λ r. ⌜ LaidAt (countsFrom (now (a .entry)) first (now (b .entry)) second rules) (now (out .entry)) 0 (now (out .exit)) r ⌝ }
 {
-    let p = 2 + x.inputs + x.outputs;
-    let q = 2 + y.inputs + y.outputs;
+    let p = 2 + first.inputs + first.outputs;
+    let q = 2 + second.inputs + second.outputs;
     let clocks = copy(a, 0, p, out, 0);
-    let places = lay_clocks(a, p, x.clocks, b, q, y.clocks, out, clocks);
-    lay_places(a, x, b, y, rules, out, places)
+    let places = lay_clocks(a, p, first.clocks, b, q, second.clocks, out, clocks);
+    lay_places(a, first, b, second, rules, out, places)
 }

@@ -24,82 +24,95 @@ pub enum Joined {
 }
 
 // The rules of the join of two checked files, from the slice's start on.
-fn lay_joined(a: &[u8], x: Layout, b: &[u8], y: Layout, out: &mut [u8]) -> usize
-    requires { ⌜ PartsReady (now a) x (now b) y ⌝ }
+fn lay_joined(a: &[u8], first: Layout, b: &[u8], second: Layout, out: &mut [u8]) -> usize
+    requires { ⌜ PartsReady (now a) first (now b) second ⌝ }
     ensures { λ r. ⌜ LaidAt (joinedRules (now (a .entry)) (now (b .entry))) (now (out .entry)) 0 (now (out .exit)) r ⌝ }
     ensures { λ r. ⌜ r < 2 ^ 27 ⌝ }
 {
-    let start = x.rules_start;
-    let end = x.rules_end;
-    let other_start = y.rules_start;
-    let other_end = y.rules_end;
-    lay_rules(&a[start..end], x, &b[other_start..other_end], y, out)
+    let start = first.rules_start;
+    let end = first.rules_end;
+    let other_start = second.rules_start;
+    let other_end = second.rules_end;
+    lay_rules(
+        &a[start..end],
+        first,
+        &b[other_start..other_end],
+        second,
+        out,
+    )
 }
 
 // How many bytes they take: they are laid into a part with no bytes.
-fn rules_length(a: &[u8], x: Layout, b: &[u8], y: Layout, out: &mut [u8]) -> usize
-    requires { ⌜ PartsReady (now a) x (now b) y ⌝ }
+fn rules_length(a: &[u8], first: Layout, b: &[u8], second: Layout, out: &mut [u8]) -> usize
+    requires { ⌜ PartsReady (now a) first (now b) second ⌝ }
     ensures { λ r. ⌜ (r ≡ length (joinedRules (now (a .entry)) (now (b .entry)))) × (r < 2 ^ 27) × (now (out .exit) ≡ now (out .entry)) ⌝ }
 {
-    lay_joined(a, x, b, y, &mut out[..0])
+    lay_joined(a, first, b, second, &mut out[..0])
 }
 
 // The counts, and the rules into the part of the slice that begins after them. The length written is handed back.
-fn write_joined(a: &[u8], x: Layout, b: &[u8], y: Layout, rules: usize, out: &mut [u8]) -> usize
-    requires { ⌜ PartsReady (now a) x (now b) y ⌝ }
-    requires { ⌜ (rules ≡ joinedCount (now a) (now b)) × (rules ≤ 256) × (countsLength x y + length (joinedRules (now a) (now b)) ≤ length (now out)) ⌝ }
+fn write_joined(
+    a: &[u8],
+    first: Layout,
+    b: &[u8],
+    second: Layout,
+    rules: usize,
+    out: &mut [u8],
+) -> usize
+    requires { ⌜ PartsReady (now a) first (now b) second ⌝ }
+    requires { ⌜ (rules ≡ joinedCount (now a) (now b)) × (rules ≤ 256) × (countsLength first second + length (joinedRules (now a) (now b)) ≤ length (now out)) ⌝ }
     ensures { λ r. ⌜ r ≡ length (joinedFile (now (a .entry)) (now (b .entry)) (now (out .entry))) ⌝ }
     ensures { λ r. ⌜ now (out .exit) ≡ writtenOver (now (a .entry)) (now (b .entry)) (now (out .entry)) 0 ⌝ }
 {
-    let start = lay_counts(a, x, b, y, rules, out);
-    start + lay_joined(a, x, b, y, &mut out[start..])
+    let start = lay_counts(a, first, b, second, rules, out);
+    start + lay_joined(a, first, b, second, &mut out[start..])
 }
 
 // 13 where there are too many rules, 14 where the slice is too short; otherwise the join is written.
-fn join_within(a: &[u8], x: Layout, b: &[u8], y: Layout, out: &mut [u8]) -> Joined
-    requires { ⌜ PartsReady (now a) x (now b) y ⌝ }
+fn join_within(a: &[u8], first: Layout, b: &[u8], second: Layout, out: &mut [u8]) -> Joined
+    requires { ⌜ PartsReady (now a) first (now b) second ⌝ }
     ensures { λ r. ⌜ JoinPromise (now (a .entry)) (now (b .entry)) (now (out .entry)) r (now (out .exit)) ⌝ }
 {
-    let laid = rules_length(a, x, b, y, out);
-    let rules = laid / (7 + 4 * (x.clocks + y.clocks));
+    let laid = rules_length(a, first, b, second, out);
+    let rules = laid / (7 + 4 * (first.clocks + second.clocks));
     if RULES < rules {
         return Joined::Refused(13);
     }
-    if out.len() < counts_length(x, y) + laid {
+    if out.len() < counts_length(first, second) + laid {
         return Joined::Refused(14);
     }
-    Joined::Length(write_joined(a, x, b, y, rules, out))
+    Joined::Length(write_joined(a, first, b, second, rules, out))
 }
 
 // The two files are checked already: 12, 13, 14, or the join.
-fn join_checked(a: &[u8], x: Layout, b: &[u8], y: Layout, out: &mut [u8]) -> Joined
-    requires { ⌜ LayoutOf (now a) x × LayoutOf (now b) y ⌝ }
+fn join_checked(a: &[u8], first: Layout, b: &[u8], second: Layout, out: &mut [u8]) -> Joined
+    requires { ⌜ LayoutOf (now a) first × LayoutOf (now b) second ⌝ }
     ensures { λ r. ⌜ JoinPromise (now (a .entry)) (now (b .entry)) (now (out .entry)) r (now (out .exit)) ⌝ }
 {
-    if !same_signals(a, x, b, y) {
+    if !same_signals(a, first, b, second) {
         return Joined::Refused(12);
     }
-    if !within_limits(x, y) {
+    if !within_limits(first, second) {
         return Joined::Refused(13);
     }
-    join_within(a, x, b, y, out)
+    join_within(a, first, b, second, out)
 }
 
 // A by 1 to 9, B likewise, then 12, 13, 14. A refusal writes nothing, and bytes past the written part stay.
 pub fn join(a: &[u8], b: &[u8], out: &mut [u8]) -> Joined
     ensures { λ r. ⌜ JoinPromise (now (a .entry)) (now (b .entry)) (now (out .entry)) r (now (out .exit)) ⌝ }
 {
-    let first = check(a);
-    let refusal = first.refusal;
+    let checked = check(a);
+    let refusal = checked.refusal;
     if refusal != 0 {
         return Joined::Refused(refusal);
     }
-    let second = check(b);
-    let other = second.refusal;
-    if other != 0 {
-        return Joined::Refused(other);
+    let other = check(b);
+    let other_refusal = other.refusal;
+    if other_refusal != 0 {
+        return Joined::Refused(other_refusal);
     }
-    let x = first.layout;
-    let y = second.layout;
-    join_checked(a, x, b, y, out)
+    let first = checked.layout;
+    let second = other.layout;
+    join_checked(a, first, b, second, out)
 }

@@ -24,7 +24,7 @@ counted c = c .before .before .before .before
 -- the counts end within the slice
 begins : (c : tie.After-lay-counts) →
     let s = start c in
-    (c .lay-counts .result ≡ countsLength (s .args .x) (s .args .y)) × (length (c .lay-counts .last .1 .1 .1 .1 .1 .0) ≡ length (now (s .args .out)))
+    (c .lay-counts .result ≡ countsLength (s .args .first) (s .args .second)) × (length (c .lay-counts .last .1 .1 .1 .1 .1 .0) ≡ length (now (s .args .out)))
 begins c =
     let s = start c in
     let e = c .lay-counts .ensures in (omega (arith, e .ends, counts-long (s .pre .0) (s .args .rules)), laid-length e)

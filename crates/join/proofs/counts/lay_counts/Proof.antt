@@ -41,7 +41,7 @@ lay-clocks-requires c κs =
       sizes (r .second),
       few r,
       c .before .before .before .copy .ensures .ends,
-      bytes-length (now (s .args .a)) 0 (clocksFor (s .args .x)),
+      bytes-length (now (s .args .a)) 0 (clocksFor (s .args .first)),
     )
 
 lay-places-requires : tie.Need-lay-places-requires
@@ -55,7 +55,7 @@ lay-places-requires c κs =
         sizes (s .pre .0 .first),
         w .lay-clocks .ensures .1,
         copied w .copy .ensures .ends,
-        bytes-length (now (s .args .a)) 0 (clocksFor (s .args .x)),
+        bytes-length (now (s .args .a)) 0 (clocksFor (s .args .first)),
       ),
     )
 

@@ -14,11 +14,11 @@ use Rattle.join.proofs.counts.lay_left.Statement.{statement}
 use Rattle.join.proofs.counts.lay_left.Tie as tie
 
 abbrev Inv-loop : tie.InvT-loop
-Inv-loop a x b y out₀ at locations next₀ location₀ out next location =
-    (location ≤ x .locations * y .locations) × (next ≡ at + location) × LaidAt (leftBelow (said a) (said b) location) out₀ at out next
+Inv-loop a first b second out₀ at locations next₀ location₀ out next location =
+    (location ≤ first .locations * second .locations) × (next ≡ at + location) × LaidAt (leftBelow (said a) (said b) location) out₀ at out next
 
 abbrev μ-loop : tie.MeasureT-loop
-μ-loop a x b y out₀ at locations next₀ location₀ out next location = x .locations * y .locations - location
+μ-loop a first b second out₀ at locations next₀ location₀ out next location = first .locations * second .locations - location
 
 abbrev entry : tie.In-loop Inv-loop μ-loop → tie.Start Inv-loop μ-loop
 entry l = l .before .before .before .before .before .before .before
@@ -58,7 +58,7 @@ returns : tie.Need-returns Inv-loop μ-loop
 returns c =
     let l = c .before .loop in
     let a = c .before .before .before .before .before .before .before .args in
-    let e : l .location ≡ a .x .locations * a .y .locations = omega (arith, l .inv .0, c .loop-test .left) in
+    let e : l .location ≡ a .first .locations * a .second .locations = omega (arith, l .inv .0, c .loop-test .left) in
     laid-as (ap (leftBelow (said (now (a .a))) (said (now (a .b)))) e) (l .inv .2)
 
 pub lay-left-spec : {M : Type 1} → statement M

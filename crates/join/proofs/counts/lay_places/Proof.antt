@@ -40,7 +40,7 @@ put-pair-requires c κs =
         s .pre .2,
         put-count w .put .ensures .ends,
         w .lay-left .ensures .ends,
-        left-length (said (now (a .a))) (said (now (a .b))) (a .x .locations * a .y .locations),
+        left-length (said (now (a .a))) (said (now (a .b))) (a .first .locations * a .second .locations),
       ),
     )
 

@@ -8,10 +8,10 @@ use borrow.Author.Needs.{needs}
 use Rattle.join.proofs.counts.within_limits.Statement.{statement}
 use Rattle.join.proofs.counts.within_limits.Tie as tie
 
-places : (c : tie.Start) → c .args .x .locations * c .args .y .locations ≤ 64 * 64
+places : (c : tie.Start) → c .args .first .locations * c .args .second .locations ≤ 64 * 64
 places c = mul-le-mul {n₂ = 64} {m₂ = 64} (c .pre .0 .0) (c .pre .0 .1)
 
-numbers : (c : tie.Start) → c .args .x .states * c .args .y .states ≤ 65536 * 65536
+numbers : (c : tie.Start) → c .args .first .states * c .args .second .states ≤ 65536 * 65536
 numbers c = mul-le-mul {n₂ = 65536} {m₂ = 65536} (c .pre .1 .0) (c .pre .1 .1)
 
 mul-if1 : tie.Need-mul-if1
