@@ -44,10 +44,12 @@ pub record BothTold (p : Policy) (marks : List ℕ) (s : Place) (x y : ℕ) (r :
   pub few-input : countOf (r .input) < 65536
   pub few-output : countOf (r .output) < 65536
 
--- The tick of the event as read, and the state after it.
-pub record Moves (p : Policy) (marks : List ℕ) (s : Place) (x y : ℕ) (after : State) : Type 0 where
+-- The tick of the event as read: it releases x' and y', and the state after it.
+pub record Moves (p : Policy) (marks : List ℕ) (s : Place) (x y x' y' : ℕ) (after : State) : Type 0 where
   pub done : ReleasedTick
   pub is : tick p marks s (eventXY x y) ≡ some done
+  pub is-x : x' ≡ done .event .x
+  pub is-y : y' ≡ done .event .y
   pub state : after ≡ stateOf (done .place)
 
 module _ {p : Policy} {s : Place} {x : ℕ} where

@@ -30,14 +30,16 @@ ghost use Rattle.counting.specs.Counted.{CountsOf};
 ghost use Rattle.explaining.specs.Halves.{valueOr, GivenIn, GivenOut, BothTold, Moves};
 ghost use Rattle.explaining.specs.CodeReasons.{reasonSaid, bothSaid};
 
-// The reasons for a tick, and the state after it.
+// The reasons for a tick, the halves that it releases, and the state after it.
 pub struct Told {
     pub reasons: Reasons,
+    pub x: u8,
+    pub y: u8,
     pub state: State,
 }
 
 // The value of an answer, or another one.
-pub fn value_or(answer: HalfAnswer, other: u8) -> u8
+fn value_or(answer: HalfAnswer, other: u8) -> u8
     ensures { λ r. ⌜ r ≡ valueOr (answerSaid answer) other ⌝ }
 {
     match answer {
@@ -103,7 +105,7 @@ pub fn tell(
 ) -> Told
     requires { ⌜ Standing (now file) layout (now marks) state × AsPrepared (policyOf (layout .reading) (now file)) (now marks) × (isMarked (now marks) (numberOf (policyOf (layout .reading) (now file)) (place (layout .clocks) state)) ≡ true) ⌝ }
     requires { ⌜ CountsOf (policyOf (layout .reading) (now file)) (now ticks) (now rests) × (x < inputValues (policyOf (layout .reading) (now file))) × (y < outputValues (policyOf (layout .reading) (now file))) × (own ≡ ownOf (layout .clocks) (state .location) (rulesOf (now file))) ⌝ }
-    ensures { λ r. ⌜ BothTold (policyOf (layout .reading) (now (file .entry))) (now (marks .entry)) (place (layout .clocks) state) x y (bothSaid (r .reasons)) × Moves (policyOf (layout .reading) (now (file .entry))) (now (marks .entry)) (place (layout .clocks) state) x y (r .state) ⌝ }
+    ensures { λ r. ⌜ BothTold (policyOf (layout .reading) (now (file .entry))) (now (marks .entry)) (place (layout .clocks) state) x y (bothSaid (r .reasons)) × Moves (policyOf (layout .reading) (now (file .entry))) (now (marks .entry)) (place (layout .clocks) state) x y (r .x) (r .y) (r .state) ⌝ }
 {
     let here = here_by(file, layout, own, state);
     let passed = value_or(input_by(file, layout, own, marks, state, x), x);
@@ -117,6 +119,8 @@ pub fn tell(
     let next = output.state;
     Told {
         reasons,
+        x: passed,
+        y: released,
         state: next,
     }
 }

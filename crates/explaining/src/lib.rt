@@ -4,7 +4,6 @@ mod reason;
 mod tell;
 
 pub use halves::reasons;
-pub use halves::value_or;
 pub use reason::Reason;
 pub use reason::Reasons;
 pub use reason::kind;

@@ -109,9 +109,9 @@ module _ {f : List ℕ} {l : Layout} {marks events out₀ : List ℕ} {s₀ : St
   pub walking-ends : length events ≤ i → Walking f l marks events out₀ s₀ (length events) out s
   walking-ends h = let e : i ≡ length events = omega (arith, g .most) in subst (λ (n : ℕ). Walking f l marks events out₀ s₀ n out s) e g
 
-  module _ (by : AsPrepared (policyOf (l .reading) f) marks) (h : i < length events) (o : i < length out) {r : Reasons} {w : ℕ} {t : State}
+  module _ (by : AsPrepared (policyOf (l .reading) f) marks) (h : i < length events) (o : i < length out) {r : Reasons} {w x' y' : ℕ} {t : State}
       (b : BothTold (policyOf (l .reading) f) marks (place (l .clocks) s) (getD events i 0 % 16) (getD events i 0 / 16) r) (e : w ≡ reasonsWord r)
-      (m : Moves (policyOf (l .reading) f) marks (place (l .clocks) s) (getD events i 0 % 16) (getD events i 0 / 16) t) where
+      (m : Moves (policyOf (l .reading) f) marks (place (l .clocks) s) (getD events i 0 % 16) (getD events i 0 / 16) x' y' t) where
     abbrev p : Policy
     p = policyOf (l .reading) f
 

@@ -1,5 +1,4 @@
 // What `why` decides on slices: the input of `enforce`, and its lines with a reason after each edited half.
-mod release;
 mod reply;
 mod tell;
 

@@ -10,7 +10,6 @@ use console::put_verdict;
 use counting::count;
 use policy::Layout;
 use prepare::Prepared;
-use stepping::State;
 ghost use mathlib.Core.Path.{_≡_};
 ghost use mathlib.Core.Bool.{true};
 ghost use Prim.Native.Nat.{_+_, _*_, _≤_};
@@ -20,6 +19,7 @@ ghost use Rattle.policy.specs.File.{policyOf};
 ghost use Rattle.policy.specs.Number.{states};
 ghost use Rattle.policy.specs.Check.{allPass};
 ghost use Rattle.stepping.specs.State.{place};
+ghost use Rattle.stepping.specs.Code.{startState};
 ghost use Rattle.enforcer.specs.Entries.{eventGood};
 ghost use Rattle.stepping.specs.Ready.{Laid};
 ghost use Rattle.trimming.specs.Table.{marksOf};
@@ -31,25 +31,24 @@ ghost use Rattle.telling.specs.Prints.{Prints, Writes, Startable};
 // The text at the most: a verdict, 66 bytes, and for each event three lines, 373 bytes.
 pub const TEXT: usize = 66 + 373 * EVENTS;
 
-// The counts are made once, and the ticks are told from a state.
+// The counts are made once, and the ticks are told from the start.
 fn tell_counted(
     file: &[u8],
     layout: Layout,
     marks: &[u8],
     ticks: &mut [u32],
     rests: &mut [u32],
-    state: State,
     events: &[u8],
     text: &mut [u8],
     at: usize,
 ) -> usize
-    requires { ⌜ Asked (now file) layout (now marks) state × Laid (now file) layout × (now marks ≡ marksOf (policyOf (layout .reading) (now file))) ⌝ }
+    requires { ⌜ Asked (now file) layout (now marks) startState × Laid (now file) layout × (now marks ≡ marksOf (policyOf (layout .reading) (now file))) ⌝ }
     requires { ⌜ (length (now ticks) ≡ states (policyOf (layout .reading) (now file))) × (length (now rests) ≡ states (policyOf (layout .reading) (now file))) ⌝ }
     requires { ⌜ (length (now events) ≤ 16384) × (allPass (eventGood (layout .reading) (now file)) (now events) ≡ true) × (at + tickRoom * length (now events) ≤ length (now text)) ⌝ }
-    ensures { λ r. ⌜ ToldFrom (policyOf (layout .reading) (now (file .entry))) (now (marks .entry)) (place (layout .clocks) state) (now (events .entry)) (now (text .entry)) at r (now (text .exit)) ⌝ }
+    ensures { λ r. ⌜ ToldFrom (policyOf (layout .reading) (now (file .entry))) (now (marks .entry)) (place (layout .clocks) startState) (now (events .entry)) (now (text .entry)) at r (now (text .exit)) ⌝ }
 {
     count(file, layout, marks, ticks, rests);
-    tell(file, layout, marks, ticks, rests, state, events, text, at)
+    tell(file, layout, marks, ticks, rests, events, text, at)
 }
 
 // Nothing is refused: the ticks are told from the start.
@@ -68,7 +67,6 @@ fn tell_all(
     ensures { λ r. ⌜ ToldFrom (policyOf reading (now (file .entry))) (now (marks .entry)) (start (policyOf reading (now (file .entry)))) (now (events .entry)) (now (text .entry)) at r (now (text .exit)) ⌝ }
 {
     let checked = policy::check_under(reading, file);
-    let first = State::start();
     let layout = checked.layout;
     let states = layout.states;
     tell_counted(
@@ -77,7 +75,6 @@ fn tell_all(
         marks,
         &mut ticks[..states],
         &mut rests[..states],
-        first,
         events,
         text,
         at,

@@ -93,6 +93,8 @@ returns d =
       record {
         done = moved-tick _ (laid-well (h .laid)) _ (s .pre .0 .1) _ (h .inside) (s .pre .0 .2) (s .args .x) (s .args .y);
         is = moves-on _ (laid-well (h .laid)) _ (s .pre .0 .1) _ (h .inside) (s .pre .0 .2) (s .args .x) (s .args .y);
+        is-x = is-passed (v .before .before);
+        is-y = is-released v;
         state = is-next (v .before);
       },
     )

@@ -1,12 +1,11 @@
 -- `telling::reply::tell_all` meets its contract: the layout is the file's, the start may be asked about, and the tables have an entry for each state.
-use mathlib.Core.Path.{sym, subst, _∙_}
+use mathlib.Core.Path.{sym, _∙_}
 use native.Mathlib.Omega.{arith}
 use lib.Seq.{length-take-le}
 use denote.Ref.{now}
 use borrow.Author.Needs.{needs}
 use Rattle.stepping.specs.Laid.{laid-well}
 use Rattle.enforcer.specs.States.{Granted, granted-laid}
-use Rattle.telling.specs.Asked.{Asked}
 use Rattle.telling.specs.Prints.{start-marks, start-good, start-asked, start-told}
 use Rattle.telling.proofs.reply.tell_all.Statement.{statement}
 use Rattle.telling.proofs.reply.tell_all.Tie as tie
@@ -21,27 +20,25 @@ granted c = granted-laid _ (c .check-under .ensures) (start c .pre .0 .early)
 
 slice-relend-prefix-tell-counted : tie.Need-slice-relend-prefix-tell-counted
 slice-relend-prefix-tell-counted c =
-    let k = granted (c .before .before) in
-    omega (arith, k .laid .states, laid-well (k .laid) .states, start (c .before .before) .pre .1 .0)
+    let k = granted (c .before) in omega (arith, laid-well (k .laid) .states)
 
 slice-aggregate-tell-counted : tie.Need-slice-aggregate-tell-counted
 slice-aggregate-tell-counted c = sym (length-take-le _ _ (slice-relend-prefix-tell-counted (c .before)))
 
 slice-relend-prefix-tell-counted-2 : tie.Need-slice-relend-prefix-tell-counted-2
 slice-relend-prefix-tell-counted-2 c =
-    let k = granted (c .before .before .before) in
-    omega (arith, k .laid .states, laid-well (k .laid) .states, start (c .before .before .before) .pre .1 .1)
+    let k = granted (c .before .before) in omega (arith, laid-well (k .laid) .states)
 
 slice-aggregate-tell-counted-2 : tie.Need-slice-aggregate-tell-counted-2
 slice-aggregate-tell-counted-2 c = sym (length-take-le _ _ (slice-relend-prefix-tell-counted-2 (c .before)))
 
 tell-counted-requires : tie.Need-tell-counted-requires
 tell-counted-requires c κs =
-    let w = c .before .before .before .before .before in
+    let w = c .before .before .before .before in
     let s = start w in
     let k = granted w in
     let h = s .pre .0 in (
-      (subst (Asked (now (s .args .file)) (w .check-under .result .layout) (now (s .args .marks))) (sym (c .before .before .before .before .start .ensures)) (start-asked k h), k .laid, start-marks k h),
+      (start-asked k h, k .laid, start-marks k h),
       (
         (
           length-take-le _ _ (slice-relend-prefix-tell-counted (c .before .before .before)) ∙ k .laid .states,
@@ -54,13 +51,11 @@ tell-counted-requires c κs =
 returns : tie.Need-returns
 returns c =
     let t = c .before .before .before .before .before .before in
-    let s = start (t .before .before .before .before .before .before) in
-    let k = granted (t .before .before .before .before .before .before) in
-    start-told k (s .pre .0) (rw (t .before .before .before .before .before .start .ensures) at (t .tell-counted .ensures))
+    let w = t .before .before .before .before .before in start-told (granted w) (start w .pre .0) (t .tell-counted .ensures)
 
 pub tell-all-spec : {M : Type 1} → statement M
 tell-all-spec =
     tie.close
     (tie.spec
-    (λ c κs. search needs) (λ c κs. search needs) slice-relend-prefix-tell-counted slice-aggregate-tell-counted slice-relend-prefix-tell-counted-2
+    (λ c κs. search needs) slice-relend-prefix-tell-counted slice-aggregate-tell-counted slice-relend-prefix-tell-counted-2
     slice-aggregate-tell-counted-2 tell-counted-requires (λ c. search needs) (λ c. search needs) (λ c. search needs) returns)
