@@ -1,48 +1,15 @@
 // The body of a record: what it gives is read and lent to the call, and what it expects is compared.
-use crate::calls::Given;
 use crate::calls::answer;
-use crate::lists::LIST;
-use crate::lists::longs;
-use crate::lists::pairs;
-use crate::lists::same_longs;
-use crate::lists::same_pairs;
-use crate::lists::same_words;
-use crate::lists::words;
-use crate::numbers::Cursor;
-use crate::parts;
-use crate::parts::PARTS;
-use crate::strings::STRING;
-use crate::strings::same_string;
-use crate::strings::string;
-
-// The first part that came out different, or `PARTS` if all came out as expected.
-fn compared(
-    cases: &[u8],
-    places: &[usize; PARTS],
-    got: u64,
-    written: &[u8],
-    state: &[u16],
-    totals: &[u32],
-    struck: &[u8],
-    reasons: &[u64],
-) -> usize {
-    let expected = Cursor::new(places[parts::ANSWER]).long(cases);
-    if got != expected.value {
-        parts::ANSWER
-    } else if !same_string(cases, places[parts::WRITTEN_AFTER], written) {
-        parts::WRITTEN_AFTER
-    } else if !same_pairs(cases, places[parts::STATE_AFTER], state) {
-        parts::STATE_AFTER
-    } else if !same_words(cases, places[parts::TOTALS_AFTER], totals) {
-        parts::TOTALS_AFTER
-    } else if !same_string(cases, places[parts::STRUCK_AFTER], struck) {
-        parts::STRUCK_AFTER
-    } else if !same_longs(cases, places[parts::REASONS_AFTER], reasons) {
-        parts::REASONS_AFTER
-    } else {
-        PARTS
-    }
-}
+use stored_cases::expected::compared;
+use stored_cases::given::Given;
+use stored_cases::lists::LIST;
+use stored_cases::lists::longs;
+use stored_cases::lists::pairs;
+use stored_cases::lists::words;
+use stored_cases::parts;
+use stored_cases::parts::PARTS;
+use stored_cases::strings::STRING;
+use stored_cases::strings::string;
 
 // Makes the call of the record whose parts begin at those places, and says which part came out different.
 pub(crate) fn body(cases: &[u8], kind: u8, places: &[usize; PARTS]) -> usize {

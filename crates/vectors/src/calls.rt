@@ -1,38 +1,19 @@
 // The calls, by the kinds' numbers. What a record does not have is empty or 0, and its entry does not take it.
-use crate::numbers::Cursor;
-use crate::parts;
-use crate::parts::PARTS;
+use stored_cases::given::Given;
 
-// The numbers that a record gives, beside its strings and lists.
-pub struct Given {
-    reading: u8,
-    word: u32,
-    tick_length: u32,
-    register: u16,
-    x: u8,
-    y: u8,
-}
-
-impl Given {
-    pub(crate) fn read(cases: &[u8], places: &[usize; PARTS]) -> Self {
-        let reading = Cursor::new(places[parts::READING]).byte(cases);
-        let word = Cursor::new(places[parts::WORD]).word(cases);
-        let tick_length = Cursor::new(places[parts::TICK_LENGTH]).word(cases);
-        let register = Cursor::new(places[parts::REGISTER]).pair(cases);
-        let x = Cursor::new(places[parts::X]).byte(cases);
-        let y = Cursor::new(places[parts::Y]).byte(cases);
-        Self {
-            reading: reading.value,
-            word: word.value,
-            tick_length: tick_length.value,
-            register: register.value,
-            x: x.value,
-            y: y.value,
-        }
+// The calls about a policy's text.
+fn by_text(kind: u8, word: u32, first: &[u8], written: &mut [u8]) -> u64 {
+    match kind {
+        23 => groovepawn::groovepawn_text_read(first, written),
+        24 => groovepawn::groovepawn_text_write(first, written),
+        25 => groovepawn::groovepawn_text_line_of_rule(first, word),
+        26 => groovepawn::groovepawn_text_name_of_signal(first, word),
+        27 => groovepawn::groovepawn_text_name_of_clock(first, word),
+        _ => groovepawn::groovepawn_text_name_of_location(first, word),
     }
 }
 
-// The calls with strings only, and that of ticks.
+// The other calls with strings only, and that of ticks.
 fn by_strings(
     kind: u8,
     given: Given,
@@ -49,12 +30,7 @@ fn by_strings(
         8 => groovepawn::groovepawn_wave_read(first, second, written),
         19 => groovepawn::groovepawn_clean(given.reading, first, written, struck),
         21 => groovepawn::groovepawn_check(first),
-        23 => groovepawn::groovepawn_text_read(first, written),
-        24 => groovepawn::groovepawn_text_write(first, written),
-        25 => groovepawn::groovepawn_text_line_of_rule(first, given.word),
-        26 => groovepawn::groovepawn_text_name_of_signal(first, given.word),
-        27 => groovepawn::groovepawn_text_name_of_clock(first, given.word),
-        _ => groovepawn::groovepawn_text_name_of_location(first, given.word),
+        _ => by_text(kind, given.word, first, written),
     }
 }
 
@@ -166,7 +142,12 @@ pub(crate) fn answer(
             work_4,
             work_5,
         ),
-        2 | 3 | 9..=17 | 20 => by_state(kind, given, first, second, state, totals, work_1),
-        _ => by_strings(kind, given, first, second, written, struck),
+        _ => {
+            if given.has_state {
+                by_state(kind, given, first, second, state, totals, work_1)
+            } else {
+                by_strings(kind, given, first, second, written, struck)
+            }
+        }
     }
 }

@@ -2,12 +2,7 @@
 // Then the same for a file of wrong expectations, all of which must come out different.
 mod bodies;
 mod calls;
-mod lists;
-mod numbers;
-mod parts;
 mod records;
-mod strings;
-mod tally;
 
 use libc::STDOUT_FILENO;
 
