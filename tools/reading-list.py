@@ -31,7 +31,7 @@ HEAD, END = "## What to read\n", "## The meaning\n"
 # The parts of the list: a title, the crates (or modules of one) whose entries belong to it, and the sections whose citations do.
 PARTS = [
     ("Demands 1 to 3, and the library's entries in 01", "", []),
-    ("The program `enforce` and the C interface", "console groovepawn:Calls groovepawn:Words", ["The program `enforce` and the C interface"]),
+    ("The program `enforce` and the C interface", "printing readings frames console groovepawn:Calls groovepawn:Words", ["The program `enforce` and the C interface"]),
     ("The second engine (8/13)", "paths fast groovepawn:Fast", []),
     ("The rule index (12/13)", "index indexed groovepawn:Indexed", ["The rule index (12/13)"]),
     ("Several bays (10/13)", "bays groovepawn:Bays", ["Several bays (10/13)"]),

@@ -8,7 +8,7 @@ fn main() {
     }
     let mut word = [0u8; 16];
     let digits = os::arg(1, &mut word);
-    let reading = console::reading_of(&word[..digits]);
+    let reading = readings::reading_of(&word[..digits]);
     let mut from = io::buffer();
     let from_length = os::arg(2, &mut from);
     let mut to = io::buffer();

@@ -1,12 +1,5 @@
-pub mod Text
-pub mod Lines
-pub mod Reading
-pub mod Frame
-pub mod Framed
 pub mod Outcome
 pub mod Printed
 pub mod Scratch
 pub mod OutcomeLaws
-pub mod Reply
 pub mod Longer
-pub mod FileFront

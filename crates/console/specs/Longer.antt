@@ -2,41 +2,32 @@
 use mathlib.Core.Path.{_≡_, refl, sym, _∙_}
 use mathlib.Core.Bool.{Bool, true, false}
 use mathlib.Core.List.{List, _++_}
-use Prim.Native.Nat.{ℕ, zero, suc, _+_, _≤_, _<_}
+use Prim.Native.Nat.{ℕ, zero, suc, _+_, _≤_}
 use native.Mathlib.Omega.{arith}
 use lib.Dec.{leb}
-use lib.ListN.{length, drop, length-append, length-drop, List·getD-append}
-use lib.Seq.{take-append-le, drop-append-le}
+use lib.ListN.{length, length-append}
 use borrow.Author.Tests.{leb-true, le-leb, lt-leb}
 use Rattle.streams.specs.Answer.{Answer, refused, gives, answer, _orElse_, unless}
 use Rattle.streams.specs.AnswerLaws.{none-refused}
-use Rattle.policy.specs.File.{pairAt, part}
+use Rattle.policy.specs.File.{pairAt}
 use Rattle.policy.specs.Check.{readingRefusal}
 use Rattle.prepare.specs.Entry.{prepareOf}
 use Rattle.prepare.specs.declared.Summary.{Summary}
-use Rattle.console.specs.Frame.{countRefusal, policyFrameRefusal, policyEnd, policyPart, eventsFrameRefusal, eventsEnd, inputRefusal}
-use Rattle.console.specs.Framed.{count-fits, events-fit}
+use Rattle.frames.specs.Frame.{countRefusal, policyFrameRefusal, policyEnd, policyPart, eventsFrameRefusal, eventsEnd, inputRefusal}
+use Rattle.frames.specs.Framed.{count-fits, events-fit}
+use Rattle.frames.specs.FileFront.{pair-front, part-front}
 use Rattle.console.specs.Outcome.{lent, _andThen_, eventsRefusal, outcome}
 use Rattle.console.specs.OutcomeLaws.{events-refused, outcome-gives}
-use Rattle.console.specs.Printed.{lineOr, printed}
+use Rattle.console.specs.Printed.{printed}
+use Rattle.printing.specs.Text.{lineOr}
 
 module _ (front rest : List ℕ) where
-  -- A two-byte number that stands in the front is the same in the whole input.
-  pub pair-front : (at : ℕ) → at + 1 < length front → pairAt (front ++ rest) at ≡ pairAt front at
-  pair-front at h = rw (List·getD-append front rest 0 at (omega arith), List·getD-append front rest 0 (at + 1) h)
-
-  -- Bytes that stand in the front are the same in the whole input.
-  pub part-front : (at n : ℕ) → at + n ≤ length front → part (front ++ rest) at n ≡ part front at n
-  part-front at n h =
-      let l : n ≤ length (drop at front) = simp length-drop (omega arith) in
-      rw (drop-append-le at front rest (omega arith), take-append-le n (drop at front) rest l)
-
   -- A count whose bytes cannot end behind the front.
   count-front : (at most : ℕ) → at + 2 + most ≤ length front → countRefusal (front ++ rest) at most ≡ countRefusal front at most
   unfolding countRefusal
   count-front at most h =
       let n = length-append front rest in
-      rw (pair-front at (omega arith), le-leb (at + 2) (length (front ++ rest)) (omega arith), le-leb (at + 2) (length front) (omega arith))
+      rw (pair-front front rest at (omega arith), le-leb (at + 2) (length (front ++ rest)) (omega arith), le-leb (at + 2) (length front) (omega arith))
       (go (leb (pairAt front at) most) refl)
     where
       go : (t : Bool) → leb (pairAt front at) most ≡ t →
@@ -59,7 +50,7 @@ module _ (front rest : List ℕ) where
 
       events-same : eventsFrameRefusal (front ++ rest) ≡ eventsFrameRefusal front
       events-same =
-          rw (pair-front 0 (omega arith), pair-front (policyEnd front) (omega (arith, short)), count-front (policyEnd front) 16384 (omega (arith, short)))
+          rw (pair-front front rest 0 (omega arith), pair-front front rest (policyEnd front) (omega (arith, short)), count-front (policyEnd front) 16384 (omega (arith, short)))
           (go (countRefusal front (policyEnd front) 16384) refl)
         where
           go : (c : ℕ) → countRefusal front (policyEnd front) 16384 ≡ c →
@@ -85,7 +76,7 @@ module _ (front rest : List ℕ) where
         go (suc n) e = refl
         go zero e =
             let framed = none-refused (readingRefusal reading) _ .0 e .1 in
-            rw (pair-front 0 (omega arith), part-front 2 (pairAt front 0) (omega (arith, short framed)), refusal-same framed reading)
+            rw (pair-front front rest 0 (omega arith), part-front front rest 2 (pairAt front 0) (omega (arith, short framed)), refusal-same framed reading)
 
     -- So nothing but the line of a refusal is told of it.
     pub line-front : (reading : ℕ) (whole part : Summary → List ℕ) → lineOr (outcome reading (front ++ rest)) whole ≡ lineOr (outcome reading front) part

@@ -10,7 +10,7 @@ use Rattle.enforcer.specs.Entries.{RunAnswer, runOf}
 use Rattle.trimming.specs.Table.{marksOf}
 use Rattle.prepare.specs.Entry.{prepareOf}
 use Rattle.prepare.specs.declared.Summary.{Summary}
-use Rattle.console.specs.Frame.{inputRefusal, policyPart, eventsFrameRefusal, eventsPart}
+use Rattle.frames.specs.Frame.{inputRefusal, policyPart, eventsFrameRefusal, eventsPart}
 
 -- A slice of n bytes, lent to be written. What it holds makes no difference.
 unfoldable pub lent : ℕ → List ℕ

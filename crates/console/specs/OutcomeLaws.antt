@@ -28,9 +28,9 @@ use Rattle.trimming.specs.Live.{marks-length}
 use Rattle.prepare.specs.declared.Summary.{Summary}
 use Rattle.prepare.specs.declared.Prepared.{Prepared}
 use Rattle.prepare.specs.declared.Prepared.the-variants as Prepared
-use Rattle.console.specs.Text.{verdictLine, refusedLine, tickLines}
-use Rattle.console.specs.Lines.{lines-all}
-use Rattle.console.specs.Frame.{policyFrameRefusal, policyPart, eventsFrameRefusal, eventsPart, inputRefusal}
+use Rattle.printing.specs.Text.{verdictLine, refusedLine, tickLines}
+use Rattle.printing.specs.Lines.{lines-all}
+use Rattle.frames.specs.Frame.{policyFrameRefusal, policyPart, eventsFrameRefusal, eventsPart, inputRefusal}
 use Rattle.console.specs.Outcome.{lent, ranInto, ranUnder, _andThen_, eventsRefusal, outcome}
 use Rattle.console.specs.Printed.{summaryLines, printed}
 use Rattle.console.specs.Scratch.{prepare-alike, run-alike, run-front, start-is}

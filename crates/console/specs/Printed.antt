@@ -1,22 +1,11 @@
 -- The whole text that `enforce` prints, for any input: the line of the first refusal, or a line for the verdict and one for each event.
 use mathlib.Core.List.{List, _++_}
-use Prim.Native.Nat.{ℕ, zero, suc}
-use Rattle.streams.specs.Answer.{Answer, refused, gives}
+use Prim.Native.Nat.{ℕ}
 use Rattle.enforcer.specs.Entries.{RunAnswer}
 use Rattle.prepare.specs.declared.Summary.{Summary}
-use Rattle.console.specs.Text.{verdictLine, refusedLine, tickLines}
-use Rattle.console.specs.Frame.{policyPart, eventsPart}
+use Rattle.printing.specs.Text.{verdictLine, lineOr, tickLines}
+use Rattle.frames.specs.Frame.{policyPart, eventsPart}
 use Rattle.console.specs.Outcome.{ranUnder, outcome}
-
--- "A refusal prints one line only, as `refused 11`."
-abbrev pub unlessRefused : ℕ → List ℕ → List ℕ
-unlessRefused zero text = text
-unlessRefused (suc n) text = refusedLine (suc n)
-
--- The same of an answer, by the text of what it gives.
-abbrev pub lineOr : {A : Type 0} → Answer A → (A → List ℕ) → List ℕ
-lineOr (refused n) text = refusedLine n
-lineOr (gives a) text = text a
 
 -- "The program uses reading 1."
 abbrev pub ranOver : (policy events : List ℕ) → RunAnswer

@@ -1,10 +1,10 @@
 // What the checks on an input come to, in one order for every program that reads what `enforce` reads.
-use crate::frame::events_in;
-use crate::frame::events_refusal;
-use crate::frame::input_refusal;
-use crate::frame::policy_in;
 use enforcer::run;
 use fast::prepare;
+use frames::events_in;
+use frames::events_refusal;
+use frames::input_refusal;
+use frames::policy_in;
 use prepare::Prepared;
 use stepping::State;
 ghost use mathlib.Core.Path.{_≡_};

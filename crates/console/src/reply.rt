@@ -1,16 +1,16 @@
 // The whole reply to an input.
 use crate::checks::outcome;
-use crate::frame::EVENTS;
-use crate::frame::events_in;
-use crate::lines::put_refused;
-use crate::lines::put_ticks;
-use crate::lines::put_verdict;
+use frames::EVENTS;
+use frames::events_in;
 use prepare::Prepared;
+use printing::put_refused;
+use printing::put_ticks;
+use printing::put_verdict;
 use stepping::State;
 ghost use mathlib.Core.Path.{_≡_};
 ghost use lib.ListN.{length};
 ghost use Rattle.console.specs.Printed.{printed};
-ghost use Rattle.console.specs.Reply.{Replied};
+ghost use Rattle.printing.specs.Reply.{Replied};
 
 // As many marks as a policy may have states.
 pub const MARKS: usize = State::STATES;

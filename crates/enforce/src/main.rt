@@ -3,10 +3,10 @@ use libc::STDIN_FILENO;
 use libc::STDOUT_FILENO;
 
 fn main() {
-    let mut input = [0u8; console::INPUT];
+    let mut input = [0u8; frames::INPUT];
     let read = io::read_full(STDIN_FILENO, &mut input);
     let mut marks = [0u8; console::MARKS];
-    let mut released = [0u8; console::EVENTS];
+    let mut released = [0u8; frames::EVENTS];
     let mut text = [0u8; console::TEXT];
     let written = console::respond(&input[..read], &mut marks, &mut released, &mut text);
     let is_written = io::write_all(STDOUT_FILENO, &text[..written]);

@@ -9,9 +9,9 @@ use Rattle.policy.specs.Check.{refusalUnder}
 use Rattle.texts.specs.Text.{ascii, decimal}
 use Rattle.usage.specs.Clean.{Struck}
 use Rattle.cleaning.specs.Entry.{struckOf, cleanedFile}
-use Rattle.console.specs.Printed.{unlessRefused}
+use Rattle.printing.specs.Text.{unlessRefused}
 -- "The caller names the reading": by a word.
-pub use Rattle.console.specs.Reading.{readingOf}
+pub use Rattle.readings.specs.Reading.{readingOf}
 
 -- "Kinds: 1 location no permitted stream from the start leads to, 2 rule of such a location, 3 other rule that decides no event in any state such a stream
 -- leads to."

@@ -9,8 +9,8 @@ use Rattle.policy.specs.Check.{refusalUnder}
 use Rattle.policy.specs.CheckLaws.{under-none}
 use Rattle.policy.specs.Frame.{frame, longest}
 use Rattle.cleaning.specs.Entry.{struckOf, cleanedFile}
-use Rattle.console.specs.FileFront.{refusal-front}
-use Rattle.console.specs.Printed.{unlessRefused}
+use Rattle.frames.specs.FileFront.{refusal-front}
+use Rattle.printing.specs.Text.{unlessRefused}
 use Rattle.listing.specs.Listed.{lines, leftLine, noneRefused, written, printed}
 
 module _ (front rest : List ℕ) (long : 5975 ≤ length front) (reading : ℕ) where

@@ -12,7 +12,7 @@ use Rattle.usage.specs.Clean.{Struck}
 use Rattle.cleaning.specs.Entry.{cleanedOf, struckOf, cleanedFile}
 use Rattle.cleaning.specs.Laws.{Lists, Leaves}
 use Rattle.cleaning.specs.Theorems.{cleans}
-use Rattle.console.specs.Text.{refusedLine}
+use Rattle.printing.specs.Text.{refusedLine}
 use Rattle.listing.specs.Listed.{lines, leftLine, written, printed}
 
 -- One list alone says what is struck, and one policy alone is left (cleaning: `lists-one`, `leaves-one`).

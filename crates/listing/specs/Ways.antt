@@ -24,8 +24,7 @@ use Rattle.cleaning.specs.Promise.{CleanPromise}
 use Rattle.cleaning.specs.Sizes.{room}
 use Rattle.cleaning.specs.declared.Lengths.{Lengths}
 use Rattle.cleaning.specs.declared.Cleaned.the-variants as Cleaned
-use Rattle.console.specs.Text.{refusedLine}
-use Rattle.console.specs.Printed.{unlessRefused}
+use Rattle.printing.specs.Text.{refusedLine, unlessRefused}
 use Rattle.listing.specs.Listed.{entryLine, lines, bytesLines, leftLine, noneRefused, written, printed}
 
 -- The list's bytes say the lines of its entries.

@@ -5,13 +5,13 @@ use crate::lines::put_left;
 use crate::lines::put_list;
 use cleaning::Cleaned;
 use cleaning::clean;
-use console::put_refused;
 use policy::limits::FILE;
 use policy::limits::LOCATIONS;
 use policy::limits::RULES;
+use printing::put_refused;
 ghost use mathlib.Core.Path.{_≡_};
 ghost use lib.ListN.{length};
-ghost use Rattle.console.specs.Reply.{Replied};
+ghost use Rattle.printing.specs.Reply.{Replied};
 ghost use Rattle.listing.specs.Listed.{written, printed};
 
 // The list at the most, three bytes for each of 64 locations and 256 rules; and the text, a line of 66 bytes for each of them and one of 32.

@@ -19,7 +19,7 @@ use Rattle.stepping.specs.Laid.{laid-well, laid-limits, laid-section}
 use Rattle.explaining.specs.Reasons.{Reason, countOf, SaysWhy, by-rule, by-none, by-ticks, by-rests, SaysIn, most-rests, most-ticks, at-once, Given, forwarded, edited, Explained}
 use Rattle.asks.specs.Words.{asks}
 use Rattle.asks.specs.Short.{each-at}
-use Rattle.console.specs.Framed.{part-between}
+use Rattle.frames.specs.Framed.{part-between}
 use Rattle.sentences.specs.Text.{noRule, asksOf, reasonLine, Named, reason-short}
 
 module _ (reading : ℕ) (f : List ℕ) where

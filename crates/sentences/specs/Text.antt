@@ -17,7 +17,7 @@ use Rattle.asks.specs.Turns.{three-length}
 use Rattle.asks.specs.Short.{asks-short}
 use Rattle.enforcer.specs.Entries.{byteOf}
 use Rattle.stepping.specs.Tick.{ReleasedTick}
-use Rattle.console.specs.Text.{eventLine}
+use Rattle.printing.specs.Text.{eventLine}
 use Rattle.explaining.specs.Reasons.{Reason, kept, rule, unmatched, ticks, rests, countOf}
 use Rattle.explaining.specs.EachHalf.{Reasons}
 

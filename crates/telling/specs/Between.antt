@@ -6,7 +6,7 @@ use Rattle.policy.specs.Rules.{Policy, Place}
 use Rattle.stepping.specs.Tick.{Progress, ran}
 use Rattle.stepping.specs.Ticks.{ran-on}
 use Rattle.enforcer.specs.Entries.{eventOf, byteOf}
-use Rattle.console.specs.Text.{eventLine}
+use Rattle.printing.specs.Text.{eventLine}
 use Rattle.explaining.specs.EachHalf.{Reasons}
 use Rattle.sentences.specs.Text.{reasonLines, tickText}
 use Rattle.telling.specs.Told.{Told, nothing, one}

@@ -25,11 +25,11 @@ use Rattle.stepping.specs.Laid.{laid-well, laid-place, placeIn-stateOf}
 use Rattle.enforcer.specs.States.{Granted, marks-granted, state-granted}
 use Rattle.trimming.specs.Table.{marksOf}
 use Rattle.prepare.specs.declared.Summary.{Summary}
-use Rattle.console.specs.Text.{verdictLine, refusedLine}
-use Rattle.console.specs.Frame.{policyPart, eventsPart}
+use Rattle.printing.specs.Text.{verdictLine, refusedLine}
+use Rattle.frames.specs.Frame.{policyPart, eventsPart}
 use Rattle.console.specs.Outcome.{lent, outcome}
 use Rattle.console.specs.OutcomeLaws.{Passes, Enforces}
-use Rattle.console.specs.Reply.{Replied, replied-one}
+use Rattle.printing.specs.Reply.{Replied, replied-one}
 use Rattle.console.specs.Scratch.{start-is}
 use Rattle.telling.specs.Asked.{Asked}
 use Rattle.telling.specs.Told.{Told, told-one, ToldFrom}

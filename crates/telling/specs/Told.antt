@@ -15,7 +15,7 @@ use Rattle.stepping.specs.Tick as Spec
 use Rattle.enforcer.specs.Entries.{eventOf}
 use Rattle.stepping.specs.State.{place}
 use Rattle.stepping.specs.declared.state.State.{State}
-use Rattle.console.specs.Text.{eventLine}
+use Rattle.printing.specs.Text.{eventLine}
 use Rattle.texts.specs.Wrote.{Wrote}
 use Rattle.texts.specs.WroteLaws.{wrote-none, wrote-then}
 use Rattle.explaining.specs.Reasons.{Explained, explained-one}

@@ -1,15 +1,15 @@
 // The whole reply to an input.
 use crate::tell::tell;
-use console::EVENTS;
 use console::MARKS;
-use console::events_in;
 use console::outcome;
-use console::policy_in;
-use console::put_refused;
-use console::put_verdict;
 use counting::count;
+use frames::EVENTS;
+use frames::events_in;
+use frames::policy_in;
 use policy::Layout;
 use prepare::Prepared;
+use printing::put_refused;
+use printing::put_verdict;
 ghost use mathlib.Core.Path.{_≡_};
 ghost use mathlib.Core.Bool.{true};
 ghost use Prim.Native.Nat.{_+_, _*_, _≤_};

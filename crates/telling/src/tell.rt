@@ -1,6 +1,6 @@
 // A line for each tick, and its reasons.
-use console::put_tick;
 use policy::Layout;
+use printing::put_tick;
 use sentences::put_reasons;
 use stepping::State;
 use stepping::own_of;

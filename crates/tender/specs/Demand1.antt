@@ -103,7 +103,7 @@ pub use Rattle.groovepawn.specs.Text.{
 }
 -- The program `enforce`: `console::respond` writes the text `printed input`, and returns how many bytes it is.
 pub use Rattle.console.specs.Printed.{printed}
-pub use Rattle.console.specs.Reply.{Replied, replied-one}
+pub use Rattle.printing.specs.Reply.{Replied, replied-one}
 -- The program `wave`: `viewer::respond` writes the text `shown reading input` likewise.
 pub use Rattle.viewer.specs.Shown.{shown}
 -- The program `why`: `telling::respond` writes a text that it `Prints` for the reading and the input, of which there is one, and returns how many bytes it is.

@@ -32,13 +32,13 @@ use Rattle.prepare.specs.declared.Summary.{Summary}
 use Rattle.prepare.specs.Enforces.{leads-start, leads-ready, never-stuck, ran-enforces}
 use Rattle.prepare.specs.Enforcing.{AsPrepared, MarkedPlace}
 use Rattle.texts.specs.Text.{decimal}
-use Rattle.console.specs.Text.{verdictLine, refusedLine}
+use Rattle.printing.specs.Text.{verdictLine, refusedLine, unlessRefused, lineOr}
 use Rattle.texts.specs.Decimal.{valueFrom, reads-back}
-use Rattle.console.specs.Frame.{countRefusal, policyFrameRefusal, policyPart, eventsFrameRefusal, eventsPart}
+use Rattle.frames.specs.Frame.{countRefusal, policyFrameRefusal, policyPart, eventsFrameRefusal, eventsPart}
 use Rattle.console.specs.Outcome.{lent, eventsRefusal, outcome}
 use Rattle.console.specs.OutcomeLaws.{lent-length}
-use Rattle.console.specs.Printed.{unlessRefused, lineOr, ranOver, summaryLines, printed}
-use Rattle.console.specs.Reply.{Replied, replied-front}
+use Rattle.console.specs.Printed.{ranOver, summaryLines, printed}
+use Rattle.printing.specs.Reply.{Replied, replied-front}
 use Rattle.tender.specs.Granted.{well-formed, judged, given-passed, given-goes-on, state-ready, ready-state, run-ready}
 use Rattle.tender.specs.Demand2.{ReleasedFor}
 use Rattle.tender.specs.Demand2Shown.{releases, as-many}

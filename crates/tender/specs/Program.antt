@@ -2,8 +2,8 @@
 use mathlib.Core.Path.{_≡_, refl}
 use mathlib.Core.List.{[], _∷_, _++_}
 use Rattle.texts.specs.Text.{ascii, digits, decimal}
-use Rattle.console.specs.Text.{verdictLine, refusedLine, tickLine, tickLines}
-use Rattle.console.specs.Frame.{countRefusal}
+use Rattle.printing.specs.Text.{verdictLine, refusedLine, tickLine, tickLines}
+use Rattle.frames.specs.Frame.{countRefusal}
 use Rattle.console.specs.Outcome.{lent, eventsRefusal, outcome}
 use Rattle.console.specs.Printed.{printed}
 use Rattle.tender.specs.Samples.{T}

@@ -8,8 +8,8 @@ use borrow.Author.Tests.{lt-leb}
 use Rattle.policy.specs.Check.{refusalOf}
 use Rattle.policy.specs.Frame.{frame, longest}
 use Rattle.wording.specs.Writer.{textOfFile}
-use Rattle.console.specs.Printed.{unlessRefused}
-use Rattle.console.specs.FileFront.{refusal-front}
+use Rattle.printing.specs.Text.{unlessRefused}
+use Rattle.frames.specs.FileFront.{refusal-front}
 use Rattle.translating.specs.ToFile.{compiled, fileOf, lineOf, written, printed}
 use Rattle.translating.specs.ToText.{printed as shown}
 

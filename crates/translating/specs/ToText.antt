@@ -3,7 +3,7 @@ use mathlib.Core.List.{List}
 use Prim.Native.Nat.{ℕ}
 use Rattle.policy.specs.Check.{refusalOf}
 use Rattle.wording.specs.Writer.{textOfFile}
-use Rattle.console.specs.Printed.{unlessRefused}
+use Rattle.printing.specs.Text.{unlessRefused}
 
 -- The text of a file that passes its check, or the line of a refusal as `enforce` prints it.
 unfoldable pub printed : List ℕ → List ℕ

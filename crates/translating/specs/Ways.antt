@@ -21,8 +21,7 @@ use Rattle.compiling.specs.declared.reader.ReadText.{ReadText}
 use Rattle.showing.specs.Entry.{writtenOver, writeRefusal}
 use Rattle.showing.specs.Promise.{WriteTextPromise}
 use Rattle.showing.specs.declared.writer.Written.{Written}
-use Rattle.console.specs.Text.{refusedLine}
-use Rattle.console.specs.Printed.{unlessRefused}
+use Rattle.printing.specs.Text.{refusedLine, unlessRefused}
 use Rattle.translating.specs.ToFile.{stoppedLine, compiledLine, compiled, fileOf, lineOf, written, printed}
 use Rattle.translating.specs.ToText.{printed as shown}
 

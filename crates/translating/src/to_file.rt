@@ -8,7 +8,7 @@ ghost use mathlib.Core.Path.{_≡_};
 ghost use Prim.Native.Nat.{_≤_};
 ghost use lib.ListN.{length};
 ghost use Rattle.texts.specs.Wrote.{Wrote};
-ghost use Rattle.console.specs.Reply.{Replied};
+ghost use Rattle.printing.specs.Reply.{Replied};
 ghost use Rattle.translating.specs.ToFile.{stoppedLine, compiledLine, written, printed};
 
 // The longest text that is read.

@@ -1,9 +1,9 @@
 // What `show` decides: the text that it prints.
-use console::put_refused;
+use printing::put_refused;
 use showing::write;
 ghost use mathlib.Core.Path.{_≡_};
 ghost use lib.ListN.{length};
-ghost use Rattle.console.specs.Reply.{Replied};
+ghost use Rattle.printing.specs.Reply.{Replied};
 ghost use Rattle.translating.specs.ToText.{printed};
 
 // The longest text of a policy file.

@@ -2,9 +2,9 @@
 -- prints it. The input is that of `enforce`, and so are its checks and their order, after that of the reading.
 use mathlib.Core.List.{List}
 use Prim.Native.Nat.{ℕ}
-use Rattle.console.specs.Frame.{policyPart, eventsPart}
+use Rattle.frames.specs.Frame.{policyPart, eventsPart}
 use Rattle.console.specs.Outcome.{lent, ranUnder, outcome}
-use Rattle.console.specs.Printed.{unlessRefused, lineOr}
+use Rattle.printing.specs.Text.{unlessRefused, lineOr}
 use Rattle.drawing.specs.Entry.{textOf, writeRefusal}
 
 -- The writer has room for the longest text.

@@ -9,11 +9,10 @@ use Rattle.streams.specs.Answer.{refused, answer}
 use Rattle.streams.specs.AnswerLaws.{given-only}
 use Rattle.prepare.specs.declared.Summary.{Summary}
 use Rattle.texts.specs.Wrote.{Wrote}
-use Rattle.console.specs.Text.{refusedLine}
-use Rattle.console.specs.Frame.{policyPart, eventsPart}
+use Rattle.printing.specs.Text.{refusedLine, unlessRefused}
+use Rattle.frames.specs.Frame.{policyPart, eventsPart}
 use Rattle.console.specs.Outcome.{lent, outcome}
 use Rattle.console.specs.OutcomeLaws.{Enforces, lent-length}
-use Rattle.console.specs.Printed.{unlessRefused}
 use Rattle.drawing.specs.Entry.{textOf, writtenOver, writeRefusal, writeOf, writtenOut}
 use Rattle.waves.specs.Promise.{WritePromise}
 use Rattle.waves.specs.declared.writer.Written.{Written}

@@ -1,15 +1,15 @@
 // What `wave` decides on slices: the input of `enforce`, and the file for a wave viewer.
-use console::EVENTS;
 use console::MARKS;
-use console::events_in;
 use console::outcome;
-use console::policy_in;
-use console::put_refused;
+use frames::EVENTS;
+use frames::events_in;
+use frames::policy_in;
 use prepare::Prepared;
+use printing::put_refused;
 use waves::Written;
 ghost use mathlib.Core.Path.{_≡_};
 ghost use lib.ListN.{length};
-ghost use Rattle.console.specs.Reply.{Replied};
+ghost use Rattle.printing.specs.Reply.{Replied};
 ghost use Rattle.viewer.specs.Shown.{fileOrLine, shown};
 
 // The text at the most: 16,384 events with a change of every signal at each.

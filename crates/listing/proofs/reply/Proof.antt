@@ -12,7 +12,7 @@ use Rattle.cleaning.specs.declared.Cleaned.{Cleaned}
 use Rattle.cleaning.specs.declared.Cleaned.the-variants as Cleaned
 use Rattle.texts.specs.Wrote.{Wrote}
 use Rattle.texts.specs.WroteLaws.{wrote-none, wrote-then}
-use Rattle.console.specs.Reply.{replied}
+use Rattle.printing.specs.Reply.{replied}
 use Rattle.listing.specs.Ways.{refused-way, GoesOut, given-way}
 use Rattle.listing.proofs.reply.Statement.{statement}
 use Rattle.listing.proofs.reply.Tie as tie

@@ -8,9 +8,9 @@ use lib.Seq.{length-take-le}
 use denote.Ref.{now}
 use borrow.Author.Needs.{needs}
 use Rattle.prepare.specs.Promise.{preparedSaid}
-use Rattle.console.specs.Framed.{events-few}
+use Rattle.frames.specs.Framed.{events-few}
 use Rattle.console.specs.OutcomeLaws.{Enforces}
-use Rattle.console.specs.Reply.{replied}
+use Rattle.printing.specs.Reply.{replied}
 use Rattle.viewer.specs.Ways.{shown-refused, shown-file}
 use Rattle.viewer.proofs.view.Statement.{statement}
 use Rattle.viewer.proofs.view.Tie as tie

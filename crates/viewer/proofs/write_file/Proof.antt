@@ -8,8 +8,8 @@ use Rattle.waves.specs.Promise.{WritePromise}
 use Rattle.waves.specs.declared.writer.Written.{Written}
 use Rattle.waves.specs.declared.writer.Written.the-variants as Written
 use Rattle.texts.specs.Wrote.{Wrote}
-use Rattle.console.specs.Text.{refusedLine}
-use Rattle.console.specs.Reply.{replied}
+use Rattle.printing.specs.Text.{refusedLine}
+use Rattle.printing.specs.Reply.{replied}
 use Rattle.viewer.specs.Ways.{file-written, file-refused}
 use Rattle.viewer.proofs.write_file.Statement.{statement}
 use Rattle.viewer.proofs.write_file.Tie as tie

@@ -8,8 +8,8 @@ use borrow.Author.Needs.{needs}
 use Rattle.stepping.specs.Code.{startState}
 use Rattle.enforcer.specs.Promises.{RunPromise}
 use Rattle.stepping.specs.declared.state.State.{State}
-use Rattle.console.specs.Frame.{eventsPart, eventsFrameRefusal}
-use Rattle.console.specs.Framed.{events-few}
+use Rattle.frames.specs.Frame.{eventsPart, eventsFrameRefusal}
+use Rattle.frames.specs.Framed.{events-few}
 use Rattle.console.specs.OutcomeLaws.{events-refused, events-ran}
 use Rattle.console.proofs.checks.enforce_events.Statement.{statement}
 use Rattle.console.proofs.checks.enforce_events.Tie as tie

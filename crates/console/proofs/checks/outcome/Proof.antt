@@ -10,7 +10,7 @@ use Rattle.policy.specs.Check.{readingRefusal}
 use Rattle.prepare.specs.Promise.{PreparePromise}
 use Rattle.prepare.specs.declared.Prepared.{Prepared}
 use Rattle.prepare.specs.declared.Prepared.the-variants as Prepared
-use Rattle.console.specs.Frame.{policyPart, inputRefusal}
+use Rattle.frames.specs.Frame.{policyPart, inputRefusal}
 use Rattle.console.specs.OutcomeLaws.{prepared-marks, prepares, input-refused, prepare-refuses, events-refuse, events-released}
 use Rattle.console.proofs.checks.outcome.Statement.{statement}
 use Rattle.console.proofs.checks.outcome.Tie as tie

@@ -8,8 +8,8 @@ use denote.Ref.{now}
 use borrow.Author.Needs.{needs}
 use Rattle.prepare.specs.Promise.{preparedSaid}
 use Rattle.texts.specs.WroteLaws.{wrote-then}
-use Rattle.console.specs.Framed.{events-few}
-use Rattle.console.specs.Reply.{replied}
+use Rattle.frames.specs.Framed.{events-few}
+use Rattle.printing.specs.Reply.{replied}
 use Rattle.console.specs.OutcomeLaws.{Enforces, printed-refused, printed-lines}
 use Rattle.console.proofs.reply.reply.Statement.{statement}
 use Rattle.console.proofs.reply.reply.Tie as tie

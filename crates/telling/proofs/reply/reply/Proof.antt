@@ -9,10 +9,10 @@ use denote.Ref.{now}
 use borrow.Author.Needs.{needs}
 use Rattle.prepare.specs.Promise.{preparedSaid}
 use Rattle.texts.specs.WroteLaws.{wrote-then}
-use Rattle.console.specs.Framed.{events-few}
+use Rattle.frames.specs.Framed.{events-few}
 use Rattle.console.specs.OutcomeLaws.{Enforces}
-use Rattle.console.specs.Reply.{replied}
-use Rattle.console.specs.Text.{refusedLine, verdictLine}
+use Rattle.printing.specs.Reply.{replied}
+use Rattle.printing.specs.Text.{refusedLine, verdictLine}
 use Rattle.telling.specs.Prints.{refuses, enforced-startable, enforced-tells}
 use Rattle.telling.proofs.reply.reply.Statement.{statement}
 use Rattle.telling.proofs.reply.reply.Tie as tie

@@ -5,7 +5,7 @@ use denote.Ref.{now}
 use borrow.Author.Needs.{needs}
 use Rattle.texts.specs.WroteLaws.{wrote-then}
 use Rattle.explaining.specs.CodeReasons.{bothSaid}
-use Rattle.console.specs.Lines.{line-short}
+use Rattle.printing.specs.Lines.{line-short}
 use Rattle.telling.specs.Asked.{released-small}
 use Rattle.sentences.specs.Named.{explained-named}
 use Rattle.telling.specs.Told.{told-tick}

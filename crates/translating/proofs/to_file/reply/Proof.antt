@@ -6,7 +6,7 @@ use denote.Ref.{now}
 use borrow.Author.Needs.{needs}
 use Rattle.texts.specs.Wrote.{Wrote}
 use Rattle.texts.specs.WroteLaws.{wrote-none}
-use Rattle.console.specs.Reply.{replied}
+use Rattle.printing.specs.Reply.{replied}
 use Rattle.translating.specs.Ways.{too-long, stopped-way, read-way}
 use Rattle.translating.proofs.to_file.reply.Statement.{statement}
 use Rattle.translating.proofs.to_file.reply.Tie as tie

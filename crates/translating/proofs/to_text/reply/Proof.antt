@@ -5,8 +5,8 @@ use Prim.Native.Nat.{ℕ}
 use denote.Ref.{now}
 use borrow.Author.Needs.{needs}
 use Rattle.texts.specs.Wrote.{Wrote}
-use Rattle.console.specs.Text.{refusedLine}
-use Rattle.console.specs.Reply.{replied}
+use Rattle.printing.specs.Text.{refusedLine}
+use Rattle.printing.specs.Reply.{replied}
 use Rattle.translating.specs.Ways.{refused-way, shown-way}
 use Rattle.translating.proofs.to_text.reply.Statement.{statement}
 use Rattle.translating.proofs.to_text.reply.Tie as tie
