@@ -11,7 +11,6 @@ use words::names::find_name;
 use words::numbers::number_of;
 ghost use mathlib.Core.Path.{_≡_};
 ghost use Prim.Native.Nat.{ℕ, _≤_, _<_};
-ghost use lib.ListN.{length};
 ghost use Rattle.wording.specs.Names.{find, known};
 ghost use Rattle.words.specs.Spans.{spans, NamesIn};
 ghost use Rattle.wording.specs.Reader.{Scope, arrow, sign, atLeast, atMost, gone, onReset, wordAt};

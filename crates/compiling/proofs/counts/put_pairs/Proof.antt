@@ -15,6 +15,10 @@ Inv-loop out₀ at clocks ceilings next₀ i₀ out next i =
 abbrev μ-loop : tie.MeasureT-loop
 μ-loop out₀ at clocks ceilings next₀ i₀ out next i = clocks - i
 
+-- Earlier places in the code.
+abbrev start : tie.At-loop Inv-loop μ-loop → tie.Start Inv-loop μ-loop
+start c = c .before .before
+
 loop-holds : tie.Need-loop-holds Inv-loop μ-loop
 loop-holds c = (omega arith, omega arith, under-start _ _ _)
 
@@ -22,13 +26,13 @@ loop-again : tie.Need-loop-again Inv-loop μ-loop
 loop-again c =
     let p = c .before .before .put-bytes in
     let l = c .before .before .before .before .before .before .before .before .loop in
-    let a = c .before .before .before .before .before .before .before .before .before .before .args in
+    let a = start (c .before .before .before .before .before .before .before .before) .args in
     (omega arith, omega (arith, p .ensures .next, l .inv .1), under-on (omega arith) (l .inv .2) (pairs-turn (a .t3) (a .clocks) (l .i) (omega arith) (omega arith) (c .before .before .before .before .before .before .high-byte .ensures) (c .before .before .before .before .before .low-byte .ensures)) (p .ensures) (p .kept .0))
 
 returns : tie.Need-returns Inv-loop μ-loop
 returns c =
     let l = c .before .loop in
-    let a = c .before .before .before .args in
+    let a = start (c .before) .args in
     (rw (← pairs-start (a .t3) (a .clocks)) (under-all (l .inv .2) (pairs-end (a .t3) (a .clocks) (l .i) (omega arith))), omega arith)
 
 pub put-pairs-spec : {M : Type 1} → statement M

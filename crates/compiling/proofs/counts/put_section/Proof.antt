@@ -11,9 +11,13 @@ use Rattle.texts.specs.WroteLaws.{wrote-then}
 use Rattle.compiling.proofs.counts.put_section.Statement.{statement}
 use Rattle.compiling.proofs.counts.put_section.Tie as tie
 
+-- Earlier places in the code.
+abbrev start : tie.After-put-bytes → tie.Start
+start c = c .before .before .before .before .before
+
 returns : tie.Need-returns
 returns c =
-    let a = c .before .before .before .before .before .before .before .before .before .before .before .before .args in
+    let a = start (c .before .before .before .before .before .before .before) .args in
     let p = c .before .before .before .before .before .before .before .put-bytes in
     let q = c .before .before .put-bytes2 in
     let e : a .from + a .count - a .from ≡ a .count = omega arith in

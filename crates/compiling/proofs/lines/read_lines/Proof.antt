@@ -89,13 +89,13 @@ add-t21 : tie.Need-add-t21 Inv-loop μ-loop
 add-t21 c = omega (arith, start (at-loop (at-line (c .before .before .before .before .before .before .before .before))) .good .0)
 
 add-passed : tie.Need-add-passed Inv-loop μ-loop
-add-passed c = let e = at-line (c .before .before .before .before .before .before .before .before .before .before .before .before .before .before) in let l = at-loop e in omega (arith, l .loop .inv .0, l .loop .inv .1, e .before .loop-test .taken, start l .good .0)
+add-passed c = let e = at-line (at-read (c .before .before .before .before)) in let l = at-loop e in omega (arith, l .loop .inv .0, l .loop .inv .1, e .before .loop-test .taken, start l .good .0)
 
 add-count : tie.Need-add-count Inv-loop μ-loop
-add-count c = let r = c .before .before .before .before .before .before .before .before .before .before .before .before .before .before in omega (arith, at-loop (at-line r) .loop .inv .3, r .read-line .ensures .0 .one)
+add-count c = let r = at-read (c .before .before .before .before) in omega (arith, at-loop (at-line r) .loop .inv .3, r .read-line .ensures .0 .one)
 
 next-line-requires : tie.Need-next-line-requires Inv-loop μ-loop
-next-line-requires c κs = c .before .before .before .before .before .before .before .before .before .before .before .before .before .before .before .before .before .before .line-end .ensures .within
+next-line-requires c κs = at-line (at-read (c .before .before .before .before)) .line-end .ensures .within
 
 -- The next line begins further on.
 on : (c : tie.After-next-line Inv-loop μ-loop) →

@@ -9,6 +9,10 @@ use Rattle.declarations.specs.Table.{draftOf, at-form, at-unknown, at-fa
 use Rattle.declarations.proofs.table.at_line.Statement.{statement}
 use Rattle.declarations.proofs.table.at_line.Tie as tie
 
+-- Earlier places in the code.
+abbrev start : tie.After-find-name → tie.Start
+start c = c .before .before .before .before .before .before .before
+
 returns : tie.Need-returns
 returns c =
     let s = c .before .before .before .before .before in
@@ -22,7 +26,7 @@ find-name-requires c κs = let s = c .before .before .before .before .before .be
 
 returns-2 : tie.Need-returns-2
 returns-2 c =
-    let s = c .before .before .before .before .before .before .before .before in
+    let s = start (c .before) in
     let a = s .args in
     let v = part (now (a .text)) (a .few .start) (a .few .end - a .few .start) in
     let w = part (now (a .text)) (a .few .from) (a .few .to - a .few .from) in
@@ -30,7 +34,7 @@ returns-2 c =
 
 returns-3 : tie.Need-returns-3
 returns-3 c =
-    let s = c .before .before .before .before .before .before .before .before .before .before in
+    let s = start (c .before .before .before) in
     let a = s .args in
     let v = part (now (a .text)) (a .few .start) (a .few .end - a .few .start) in
     let w = part (now (a .text)) (a .few .from) (a .few .to - a .few .from) in
@@ -38,7 +42,7 @@ returns-3 c =
 
 returns-4 : tie.Need-returns-4
 returns-4 c =
-    let s = c .before .before .before .before .before .before .before .before .before .before in
+    let s = start (c .before .before .before) in
     let a = s .args in
     let v = part (now (a .text)) (a .few .start) (a .few .end - a .few .start) in
     let w = part (now (a .text)) (a .few .from) (a .few .to - a .few .from) in
@@ -47,7 +51,7 @@ returns-4 c =
 
 returns-5 : tie.Need-returns-5
 returns-5 c =
-    let s = c .before .before .before .before .before .before .before .before .before in
+    let s = start (c .before .before) in
     let a = s .args in
     let v = part (now (a .text)) (a .few .start) (a .few .end - a .few .start) in
     let w = part (now (a .text)) (a .few .from) (a .few .to - a .few .from) in

@@ -1,5 +1,5 @@
 -- `leading::pass::row` meets its contract. The loop's invariant: the rules still to come find, from what is left and found, what all rules find.
-use mathlib.Core.Path.{_≡_, ap, _∙_}
+use mathlib.Core.Path.{ap, _∙_}
 use native.Mathlib.Omega.{arith}
 use borrow.Author.Needs.{needs}
 use denote.Ref.{now}
