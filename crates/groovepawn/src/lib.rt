@@ -72,9 +72,7 @@ pub(crate) fn summary_word(prepared: Prepared) -> u64
     ensures { λ r. ⌜ r ≡ summaryWord (preparedSaid prepared) ⌝ }
 {
     match prepared {
-        Prepared::Gives(s) => s.verdict as u64 * 256
-            + s.states as u64 * 65536
-            + s.live as u64 * 1099511627776,
+        Prepared::Gives(s) => packing::pack_summary(s.verdict, s.states, s.live),
         Prepared::Refused(n) => n as u64,
     }
 }

@@ -1,4 +1,5 @@
 // Policies as text, for a tool in C: a text compiled into its policy file, a file shown as text, and where the rules and the names of a text stand in it.
+use packing::pack_place;
 use pointing::NameAt;
 ghost use mathlib.Core.Path.{_≡_};
 ghost use Rattle.pointing.specs.Short.{Shaped};
@@ -10,7 +11,7 @@ pub extern "C" fn groovepawn_text_read(text: &[u8], file: &mut [u8]) -> u64
     ensures { λ r. ⌜ TextReadCall (now (text .entry)) (now (file .entry)) r (now (file .exit)) ⌝ }
 {
     let read = compiling::read(text, file);
-    read.refusal as u64 + read.line as u64 % 4294967296 * 256 + read.length as u64 * 1099511627776
+    pack_place(read.refusal, read.line, read.length)
 }
 
 // Refusals: 1 to 9, 14.
@@ -41,7 +42,7 @@ fn name_word(found: NameAt) -> u64
     } else {
         found.line
     };
-    found.refusal as u64 + at as u64 % 4294967296 * 256 + found.length as u64 * 1099511627776
+    pack_place(found.refusal, at, found.length)
 }
 
 // The inputs first, then the outputs. Refusals as for a rule.
