@@ -3,9 +3,12 @@
 mod bay_calls;
 mod check_call;
 mod clean_call;
+mod index_calls;
+mod join_call;
 mod meter_calls;
 mod second;
 mod text_calls;
+mod ticks_call;
 mod viewer;
 mod why_call;
 
@@ -20,11 +23,10 @@ use enforcer::Output;
 use enforcer::input_half;
 use enforcer::output_half;
 use enforcer::run;
-use index::build;
-use indexed::early_refusal;
-use indexed::input_indexed;
-use indexed::output_indexed;
-use join::Joined;
+pub use index_calls::groovepawn_index;
+pub use index_calls::groovepawn_input_indexed;
+pub use index_calls::groovepawn_output_indexed;
+pub use join_call::groovepawn_join;
 pub use meter_calls::groovepawn_meter_input;
 pub use meter_calls::groovepawn_meter_new;
 pub use meter_calls::groovepawn_meter_output;
@@ -40,9 +42,7 @@ pub use text_calls::groovepawn_text_name_of_location;
 pub use text_calls::groovepawn_text_name_of_signal;
 pub use text_calls::groovepawn_text_read;
 pub use text_calls::groovepawn_text_write;
-use ticks::Conversion;
-use ticks::Milliseconds;
-use ticks::Rounding;
+pub use ticks_call::groovepawn_ticks;
 pub use viewer::groovepawn_wave_read;
 pub use viewer::groovepawn_wave_write;
 pub use why_call::groovepawn_why;
@@ -53,9 +53,8 @@ ghost use Rattle.enforcer.specs.Promises.{answerSaid, OutputPromise};
 ghost use Rattle.prepare.specs.declared.Summary.{Summary};
 ghost use Rattle.prepare.specs.Promise.{preparedSaid};
 ghost use Rattle.groovepawn.specs.Bounds.{Small};
-ghost use Rattle.groovepawn.specs.Indexed.{oddIndexed, IndexCall, InputIndexedCall, OutputIndexedCall};
 ghost use Rattle.groovepawn.specs.Words.{answerWord, summaryWord};
-ghost use Rattle.groovepawn.specs.Calls.{PrepareCall, InputCall, OutputCall, RunCall, JoinCall, TicksCall};
+ghost use Rattle.groovepawn.specs.Calls.{PrepareCall, InputCall, OutputCall, RunCall};
 
 pub(crate) fn answer_word(answer: HalfAnswer) -> u32
     ensures { λ r. ⌜ r ≡ answerWord (answerSaid answer) ⌝ }
@@ -157,98 +156,4 @@ pub extern "C" fn groovepawn_run(
     let after = ran.state;
     put_state(state, after);
     ran.refusal as u64 + ran.count as u64 % 72057594037927936 * 256
-}
-
-// What is refused where the state is not five numbers.
-fn odd_indexed(reading: u8, file: &[u8], index: &[u16], marks: &[u8]) -> u8
-    ensures { λ r. ⌜ r ≡ oddIndexed reading (now (file .entry)) (now (index .entry)) (now (marks .entry)) ⌝ }
-{
-    let r = early_refusal(
-        reading,
-        file,
-        policy::check_under(reading, file),
-        index,
-        marks,
-    );
-    if r != 0 {
-        return r;
-    }
-    16
-}
-
-// Refusals: 1 to 9, 14.
-#[no_mangle]
-pub extern "C" fn groovepawn_index(file: &[u8], index: &mut [u16]) -> u32
-    ensures { λ r. ⌜ IndexCall (now (file .entry)) (now (index .entry)) r (now (index .exit)) ⌝ }
-{
-    build(file, index) as u32
-}
-
-// Refusals: 22, 1 to 9, 28, 10, 16, 15, 17.
-#[no_mangle]
-pub extern "C" fn groovepawn_input_indexed(
-    reading: u8,
-    file: &[u8],
-    index: &[u16],
-    marks: &[u8],
-    state: &[u16],
-    x: u8,
-) -> u32
-    ensures { λ r. ⌜ InputIndexedCall reading (now (file .entry)) (now (index .entry)) (now (marks .entry)) (now (state .entry)) x r ⌝ }
-{
-    if state.len() != STATE_NUMBERS {
-        return odd_indexed(reading, file, index, marks) as u32;
-    }
-    answer_word(input_indexed(reading, file, index, marks, state_of(state), x))
-}
-
-// Refusals: 22, 1 to 9, 28, 10, 16, 15, 17. With a refusal the state stays.
-#[no_mangle]
-pub extern "C" fn groovepawn_output_indexed(
-    reading: u8,
-    file: &[u8],
-    index: &[u16],
-    marks: &[u8],
-    state: &mut [u16],
-    x: u8,
-    y: u8,
-) -> u32
-    ensures { λ r. ⌜ OutputIndexedCall reading (now (file .entry)) (now (index .entry)) (now (marks .entry)) (now (state .entry)) x y r (now (state .exit)) ⌝ }
-{
-    if state.len() != STATE_NUMBERS {
-        return odd_indexed(reading, file, index, marks) as u32;
-    }
-    let given = state_of(state);
-    let output = output_indexed(reading, file, index, marks, given, x, y);
-    let next = output.state;
-    put_state(state, next);
-    let answer = output.answer;
-    answer_word(answer)
-}
-
-// Refusals: 1 to 9 of the first file, then of the second, 12, 13, 14.
-#[no_mangle]
-pub extern "C" fn groovepawn_join(a: &[u8], b: &[u8], out: &mut [u8]) -> u64
-    ensures { λ r. ⌜ JoinCall (now (a .entry)) (now (b .entry)) (now (out .entry)) r (now (out .exit)) ⌝ }
-{
-    match join::join(a, b, out) {
-        Joined::Length(n) => n as u64 * 256,
-        Joined::Refused(n) => n as u64,
-    }
-}
-
-// Refusals: 18, 19.
-#[no_mangle]
-pub extern "C" fn groovepawn_ticks(milliseconds: u32, tick_length: u32, up: u8) -> u32
-    ensures { λ r. ⌜ TicksCall milliseconds «tick_length» up r ⌝ }
-{
-    let rounding = if up == 0 {
-        Rounding::Down
-    } else {
-        Rounding::Up
-    };
-    match Milliseconds(milliseconds).to_ticks(Milliseconds(tick_length), rounding) {
-        Conversion::Gives(t) => t.count() * 256,
-        Conversion::Refused(n) => n as u32,
-    }
 }

@@ -1,10 +1,10 @@
--- `groovepawn::odd_indexed` meets its contract: 22, 1 to 9, 28 and 10 come first, then 16.
+-- `groovepawn::index_calls::odd_indexed` meets its contract: 22, 1 to 9, 28 and 10 come first, then 16.
 use mathlib.Core.Path.{sym, _∙_}
 use Rattle.streams.specs.AnswerLaws.{first-refused}
 use Rattle.groovepawn.specs.Indexed.{oddIndexed}
 use borrow.Author.Needs.{needs}
-use Rattle.groovepawn.proofs.odd_indexed.Statement.{statement}
-use Rattle.groovepawn.proofs.odd_indexed.Tie as tie
+use Rattle.groovepawn.proofs.index_calls.odd_indexed.Statement.{statement}
+use Rattle.groovepawn.proofs.index_calls.odd_indexed.Tie as tie
 
 early-refusal-requires : tie.Need-early-refusal-requires
 early-refusal-requires c κs = c .check-under .ensures

@@ -1,4 +1,4 @@
--- `groovepawn::groovepawn_join` meets its contract: the answer of the join in one number, and its slice.
+-- `groovepawn::join_call::groovepawn_join` meets its contract: the answer of the join in one number, and its slice.
 use mathlib.Core.Path.{_≡_, sym, _∙_}
 use native.Mathlib.Omega.{arith}
 use denote.Ref.{now}
@@ -7,8 +7,8 @@ use Rattle.join.specs.Entry.{joinOf}
 use Rattle.groovepawn.specs.Words.{joinWord}
 use Rattle.groovepawn.specs.Bounds.{joined-short}
 use borrow.Author.Needs.{needs}
-use Rattle.groovepawn.proofs.groovepawn_join.Statement.{statement}
-use Rattle.groovepawn.proofs.groovepawn_join.Tie as tie
+use Rattle.groovepawn.proofs.join_call.groovepawn_join.Statement.{statement}
+use Rattle.groovepawn.proofs.join_call.groovepawn_join.Tie as tie
 
 -- The length is that of the entry.
 given : (c : tie.After-n) →

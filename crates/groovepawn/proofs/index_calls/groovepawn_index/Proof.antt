@@ -1,7 +1,7 @@
--- `groovepawn::groovepawn_index` meets its contract: the refusal of the entry in one number, and its slice.
+-- `groovepawn::index_calls::groovepawn_index` meets its contract: the refusal of the entry in one number, and its slice.
 use borrow.Author.Needs.{needs}
-use Rattle.groovepawn.proofs.groovepawn_index.Statement.{statement}
-use Rattle.groovepawn.proofs.groovepawn_index.Tie as tie
+use Rattle.groovepawn.proofs.index_calls.groovepawn_index.Statement.{statement}
+use Rattle.groovepawn.proofs.index_calls.groovepawn_index.Tie as tie
 
 returns : tie.Need-returns
 returns c = record { said = c .before .before .build .ensures .refuses; index = c .before .before .build .ensures .writes }

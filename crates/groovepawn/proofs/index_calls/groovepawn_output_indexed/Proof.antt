@@ -1,9 +1,9 @@
--- `groovepawn::groovepawn_output_indexed` meets its contract: the answer and the state of the output half with an index for five numbers, and a refusal for any other state.
+-- `groovepawn::index_calls::groovepawn_output_indexed` meets its contract: the answer and the state of the output half with an index for five numbers, and a refusal for any other state.
 use borrow.Author.Tests.{eq-eqb, ne-eqb}
 use Rattle.groovepawn.specs.Indexed.{outputIndexedWord, outputIndexedState}
 use borrow.Author.Needs.{needs}
-use Rattle.groovepawn.proofs.groovepawn_output_indexed.Statement.{statement}
-use Rattle.groovepawn.proofs.groovepawn_output_indexed.Tie as tie
+use Rattle.groovepawn.proofs.index_calls.groovepawn_output_indexed.Statement.{statement}
+use Rattle.groovepawn.proofs.index_calls.groovepawn_output_indexed.Tie as tie
 
 returns : tie.Need-returns
 unfolding outputIndexedWord outputIndexedState

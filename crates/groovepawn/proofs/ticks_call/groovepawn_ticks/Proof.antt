@@ -1,4 +1,4 @@
--- `groovepawn::groovepawn_ticks` meets its contract: the answer of the conversion, rounded as asked, in one number.
+-- `groovepawn::ticks_call::groovepawn_ticks` meets its contract: the answer of the conversion, rounded as asked, in one number.
 use mathlib.Core.Path.{_≡_, subst}
 use mathlib.Core.Logic.{⊎-elim}
 use Prim.Native.Nat.{_≤_}
@@ -8,8 +8,8 @@ use Rattle.ticks.specs.Conversion.{upwards, Converted}
 use Rattle.ticks.specs.Laws.{converted-within}
 use Rattle.groovepawn.specs.Words.{isUp, ticksWord}
 use borrow.Author.Needs.{needs}
-use Rattle.groovepawn.proofs.groovepawn_ticks.Statement.{statement}
-use Rattle.groovepawn.proofs.groovepawn_ticks.Tie as tie
+use Rattle.groovepawn.proofs.ticks_call.groovepawn_ticks.Statement.{statement}
+use Rattle.groovepawn.proofs.ticks_call.groovepawn_ticks.Tie as tie
 
 -- The rounding is the one asked for, and no conversion gives more than 1,000 ticks.
 rounds : (c : tie.Joined1) → upwards (c .if1 .rounding) ≡ isUp (c .before .args .up)

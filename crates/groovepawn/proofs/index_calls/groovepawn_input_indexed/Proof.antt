@@ -1,9 +1,9 @@
--- `groovepawn::groovepawn_input_indexed` meets its contract: the answer of the input half with an index for five numbers, and a refusal for any other state.
+-- `groovepawn::index_calls::groovepawn_input_indexed` meets its contract: the answer of the input half with an index for five numbers, and a refusal for any other state.
 use borrow.Author.Tests.{eq-eqb, ne-eqb}
 use Rattle.groovepawn.specs.Indexed.{inputIndexedWord}
 use borrow.Author.Needs.{needs}
-use Rattle.groovepawn.proofs.groovepawn_input_indexed.Statement.{statement}
-use Rattle.groovepawn.proofs.groovepawn_input_indexed.Tie as tie
+use Rattle.groovepawn.proofs.index_calls.groovepawn_input_indexed.Statement.{statement}
+use Rattle.groovepawn.proofs.index_calls.groovepawn_input_indexed.Tie as tie
 
 returns : tie.Need-returns
 unfolding inputIndexedWord
