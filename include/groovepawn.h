@@ -49,9 +49,9 @@
  * state, groovepawn_input and groovepawn_run never give 17.
  *
  * Stack. Each function says what it was seen to use, in the archive as it is compiled for x86-64 (tools/stack.c); these are readings and no promise.
- * It is less than 2.5 KiB for each but these, which are tools and no part of a station's loop: groovepawn_clean (67,530 bytes), groovepawn_why
- * (1,247,920), groovepawn_why_run (3,280), groovepawn_text_read (7,904), groovepawn_text_line_of_rule (7,968),
- * groovepawn_text_name_of_signal (8,064), groovepawn_text_name_of_clock (8,064), groovepawn_text_name_of_location (8,064). No heap and
+ * It is less than 2.5 KiB for each but these, which are tools and no part of a station's loop: groovepawn_clean (67,522 bytes), groovepawn_why
+ * (1,247,904), groovepawn_why_run (3,264), groovepawn_text_read (7,336), groovepawn_text_line_of_rule (7,400),
+ * groovepawn_text_name_of_signal (7,496), groovepawn_text_name_of_clock (7,496), groovepawn_text_name_of_location (7,496). No heap and
  * no global data.
  */
 #ifndef GROOVEPAWN_H
@@ -191,7 +191,7 @@ uint64_t groovepawn_check(const uint8_t *file, size_t file_len);
 
 /*
  * Checks the policy and writes one mark for each state, under the reading named.
- * Refusals in this order: 22, 1 to 9, 10, 11. Stack: 1,434 bytes.
+ * Refusals in this order: 22, 1 to 9, 10, 11. Stack: 1,410 bytes.
  * Returns refusal | verdict << 8 | states << 16 | live << 40: how many states there are and how many are live.
  * Verdict 0: every state that some permitted stream from the start leads to is live. Verdict 1: the start is live and one such state is not.
  * Refusal 22 and refusals 1 to 10 leave marks as it was. Refusal 11 leaves it as success does.
@@ -337,7 +337,7 @@ uint32_t groovepawn_meter_output(uint8_t reading, const uint8_t *file, size_t fi
 /*
  * The second engine: what groovepawn_prepare answers and writes, for every policy and both readings, and on large tables faster. It works in five
  * slices that the caller lends, each with an entry for each state or more. They may hold anything, and what they hold afterwards is not said.
- * Refusals in this order: 22, 1 to 9, 10, 23 (a work slice has fewer entries than there are states), 11. Stack: 2,400 bytes.
+ * Refusals in this order: 22, 1 to 9, 10, 23 (a work slice has fewer entries than there are states), 11. Stack: 2,416 bytes.
  * Returns what groovepawn_prepare returns. With 22, 1 to 10 and 23 neither the marks nor the work slices are written; 11 leaves the marks as success
  * does.
  */
@@ -357,7 +357,7 @@ uint64_t groovepawn_prepare_fast(uint8_t reading, const uint8_t *file, size_t fi
  *   3  another rule that decides no event in any state that such a stream leads to
  *
  * A tool, and no part of a station's loop. Refusals in this order: 22, 1 to 9, 14 (either slice is too short; both are then left as given).
- * Stack: 67,530 bytes, for a small policy too.
+ * Stack: 67,522 bytes, for a small policy too.
  * Returns refusal | length << 8 | length of the list << 32. Bytes past both lengths stay. 5,974 bytes are always enough for cleaned, and 957 for
  * struck.
  */
@@ -379,7 +379,7 @@ uint64_t groovepawn_clean(uint8_t reading, const uint8_t *file, size_t file_len,
  * number, if some output is no violation; else the reason for the output 0. Each number is exact: some permitted stream has it, and none has more.
  * A tool, and no part of a station's loop: it prepares the policy anew and goes over all states.
  * Refusals in this order: 22, 1 to 9, 10, 16, 20 (a byte for a state is not the mark of groovepawn_prepare under this reading), 15. 17 never comes.
- * Stack: 1,247,920 bytes, for a small policy too.
+ * Stack: 1,247,904 bytes, for a small policy too.
  * Returns refusal | input's kind << 8 | its number << 16 | output's kind << 32 | its number << 40.
  */
 GROOVEPAWN_LOOK_AT_ANSWER
@@ -394,7 +394,7 @@ uint64_t groovepawn_why(uint8_t reading, const uint8_t *file, size_t file_len, c
  * They may hold anything, and what they hold afterwards is not said.
  * A tool, and no part of a station's loop: it prepares the policy anew and goes over all states.
  * Refusals in this order: 22, 1 to 9, 10, 23 (a work slice has fewer entries than there are states), 14 (reasons has fewer than there are events),
- * 16, 20, 15. 17 never comes. Stack: 3,280 bytes.
+ * 16, 20, 15. 17 never comes. Stack: 3,264 bytes.
  * Returns refusal | events << 8, the number of all events; with a refusal it is 0, and state and reasons stay as given. The work slices are not
  * written with 22, 1 to 10, 23, 14 and 16. Entries past the events stay.
  */
@@ -408,7 +408,7 @@ uint64_t groovepawn_why_run(uint8_t reading, const uint8_t *file, size_t file_le
 /*
  * The file of a policy that is written as text (docs/POLICY-TEXT.md). A text has no reading: its file is read under either.
  * Refusals: the first line that breaks a rule gives 4, 7 or one of 30 to 34; then, with line 0, in this order: 2 (no location), 9, 14 (the slice for
- * the file is too short). A tool, and no part of a station's loop. Stack: 7,904 bytes.
+ * the file is too short). A tool, and no part of a station's loop. Stack: 7,336 bytes.
  * Returns refusal | line << 8 | length << 40: the line of the refusal, counted from 1, or how many bytes of file the policy takes; the other bytes
  * stay. 5,974 bytes are always enough. With a refusal the length is 0, and file stays as given.
  */
@@ -428,7 +428,7 @@ uint64_t groovepawn_text_write(const uint8_t *file, size_t file_len, uint8_t *te
 /*
  * The line of a rule, counted from 0 as in the file, so that a reason of groovepawn_why or an entry of groovepawn_clean leads back to its line.
  * Refusals: as groovepawn_text_read, but for 14; then, with line 0, 35 (the text has no such rule). A tool, and no part of a station's loop.
- * Stack: 7,968 bytes.
+ * Stack: 7,400 bytes.
  * Returns refusal | line << 8: the line of the refusal or of the rule, counted from 1. Nothing is written.
  */
 GROOVEPAWN_LOOK_AT_ANSWER
@@ -436,7 +436,7 @@ uint64_t groovepawn_text_line_of_rule(const uint8_t *text, size_t text_len, uint
 
 /*
  * Where a text declares the name of a signal, the inputs first and then the outputs, counted from 0 as in the file.
- * Refusals: as groovepawn_text_line_of_rule, 35 where the text has no such signal. A tool, and no part of a station's loop. Stack: 8,064 bytes.
+ * Refusals: as groovepawn_text_line_of_rule, 35 where the text has no such signal. A tool, and no part of a station's loop. Stack: 7,496 bytes.
  * Returns refusal | place << 8 | length << 40: the line of the refusal, with the length 0; or the byte of the text at which the name begins, counted
  * from 0, and how many bytes it has, at most 16. A signal that has its letter alone has no name: both are then 0. Nothing is written.
  */
@@ -444,13 +444,13 @@ GROOVEPAWN_LOOK_AT_ANSWER
 uint64_t groovepawn_text_name_of_signal(const uint8_t *text, size_t text_len, uint32_t signal);
 
 /*
- * The same for a clock, which always has a name. Stack: 8,064 bytes.
+ * The same for a clock, which always has a name. Stack: 7,496 bytes.
  */
 GROOVEPAWN_LOOK_AT_ANSWER
 uint64_t groovepawn_text_name_of_clock(const uint8_t *text, size_t text_len, uint32_t clock);
 
 /*
- * The same for a location, which always has a name. Stack: 8,064 bytes.
+ * The same for a location, which always has a name. Stack: 7,496 bytes.
  */
 GROOVEPAWN_LOOK_AT_ANSWER
 uint64_t groovepawn_text_name_of_location(const uint8_t *text, size_t text_len, uint32_t location);
