@@ -17,12 +17,12 @@ os.chdir(os.path.join(os.path.dirname(os.path.abspath(__file__)), ".."))
 
 
 def first_error(log):
-    """The first error of a log, without the path before it."""
+    """The first error of a log, without the path before it. Of a function that is proved without a proof file, a note says what does not hold."""
     for line in open(log, errors="replace"):
-        at = line.find(": error: ")
-        if at >= 0:
-            place = re.search(r"/((?:src|specs|proofs)/.*)$", line[:at])
-            return f"{place[1] if place else line[:at]}: {line[at + 9 :].rstrip()}"
+        found = re.match(r"(.*?): error: (.*)", line) or re.match(r"note: (.*?): (it is not proved that .*)", line)
+        if found:
+            place = re.search(r"/((?:src|specs|proofs)/.*)$", found[1])
+            return f"{place[1] if place else found[1]}: {found[2].rstrip()}"
     return None
 
 
