@@ -61,7 +61,7 @@ build() {
     local arm=(--specs=rdimon.specs -nostartfiles -T cross/bare/arm.ld cross/bare/arm_start.c)
     local link=(-Wl,--gc-sections)
     case $target in
-    x86_64-linux) gcc "${flags[@]}" "$@" "$lib" -pthread -o "$program" ;;
+    x86_64-linux) gcc "${flags[@]}" "$@" "$lib" -pthread -Wl,-z,now -o "$program" ;;
     aarch64-linux) aarch64-linux-gnu-gcc "${flags[@]}" -static "$@" "$lib" -pthread -o "$program" ;;
     armv7-linux) arm-linux-gnueabihf-gcc "${flags[@]}" -static "$@" "$lib" -pthread -o "$program" ;;
     riscv64-linux) riscv64-linux-gnu-gcc "${flags[@]}" -static "$@" "$lib" -pthread -o "$program" ;;
