@@ -1,4 +1,6 @@
 // Several bays over one policy and one set of marks, their states in one list. What the entries answer stands in specs/.
+#![tactic(auto)]
+
 mod bays;
 mod odd;
 

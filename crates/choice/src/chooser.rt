@@ -7,7 +7,7 @@ ghost use Rattle.choice.specs.Said.{choice_said};
 
 use crate::table::NEAREST_FIRST;
 
-#[derive(Drop)]
+#[derive(Clone, Copy)]
 pub enum Choice {
     Value(u8),
     Nothing,

@@ -1,4 +1,6 @@
 // Sets of values below sixteen, and the value of a set that is nearest to a wanted one. A bit a value: what they are stands in specs/.
+#![tactic(auto)]
+
 mod chooser;
 mod sets;
 mod table;

@@ -1,4 +1,6 @@
 // Cleans a policy file, and prints what goes: `clean READING POLICY CLEANED`. The cleaned policy is written to the file named last.
+#![tactic(auto)]
+
 use libc::STDERR_FILENO;
 
 fn main() {

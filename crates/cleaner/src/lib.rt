@@ -1,4 +1,6 @@
 // What `clean` does with files: reads the policy, writes the cleaned one whole or not at all, and prints what goes.
+#![tactic(auto)]
+
 use files::{read_file, write_file};
 use libc::STDOUT_FILENO;
 use policy::limits::FILE;

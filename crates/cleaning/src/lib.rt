@@ -1,4 +1,6 @@
 // A policy without what is of no use. Locations that no permitted stream from the start leads to go, and so do rules that decide no event there. What clean answers stands in specs/.
+#![tactic(auto)]
+
 mod list;
 mod rules;
 
@@ -23,13 +25,13 @@ use usage::enter::enter;
 use usage::use_rules;
 
 // How many bytes were written: of the policy, and of the list of what was struck.
-#[derive(Drop)]
+#[derive(Clone, Copy)]
 pub struct Lengths {
     pub cleaned: usize,
     pub struck: usize,
 }
 
-#[derive(Drop)]
+#[derive(Clone, Copy)]
 pub enum Cleaned {
     Gives(Lengths),
     Refused(u8),

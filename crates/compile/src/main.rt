@@ -1,4 +1,6 @@
 // Compiles a policy's text into its file, and prints how long that is: `compile TEXT FILE`. The policy is written to the file named last.
+#![tactic(auto)]
+
 use libc::STDERR_FILENO;
 
 fn main() {

@@ -1,4 +1,6 @@
 // A policy's text compiled into its file.
+#![tactic(auto)]
+
 mod counts;
 mod line;
 pub mod lines;

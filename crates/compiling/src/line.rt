@@ -18,7 +18,7 @@ use words::firsts::{few_words, word_in};
 use words::keywords::keyword;
 
 // A refusal, or 0 and what the lines with one more have said. `rule` is 1 where the line is a rule, which `parsed` holds, else 0.
-#[derive(Drop)]
+#[derive(Clone, Copy)]
 pub struct Taken {
     pub refusal: u8,
     pub rule: usize,

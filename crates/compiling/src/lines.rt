@@ -11,7 +11,7 @@ use declarations::table::Table;
 use words::words::line_end;
 
 // A refusal and its line; or 0, and what all lines have said, with how many rules, which take the first `used` bytes that are kept.
-#[derive(Drop)]
+#[derive(Clone, Copy)]
 pub(crate) struct Said {
     pub(crate) refusal: u8,
     pub(crate) line: usize,

@@ -14,7 +14,7 @@ use words::names::NAMES;
 const ALL_RULES: usize = 5888;
 
 // A refusal and the line that it stands in, 0 for the file's own; or 0 and the length written.
-#[derive(Drop)]
+#[derive(Clone, Copy)]
 pub struct ReadText {
     pub refusal: u8,
     pub line: usize,
@@ -44,7 +44,7 @@ fn file_length(signals: usize, clocks: usize, places: usize, count: usize) -> us
 }
 
 // The answer; and whether the text is a policy's, with room for its file or without.
-#[derive(Drop)]
+#[derive(Clone, Copy)]
 pub struct Judged {
     pub read: ReadText,
     pub good: bool,

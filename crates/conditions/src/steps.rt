@@ -4,7 +4,7 @@ ghost use Rattle.wording.specs.Reader.{at_least_of, at_most_of, on_bound, on_sig
 ghost use Rattle.conditions.specs.Steps.{begun_of, step_said, Masked};
 
 // What the words so far have said. `part` numbers what may come next, and `clock` is the clock that it speaks of.
-#[derive(Drop)]
+#[derive(Clone, Copy)]
 pub struct Parsed {
     pub part: u8,
     pub clock: usize,
@@ -17,7 +17,7 @@ pub struct Parsed {
 }
 
 // A refusal, or 0 and what the words with one more have said.
-#[derive(Drop)]
+#[derive(Clone, Copy)]
 pub struct Step {
     pub refusal: u8,
     pub parsed: Parsed,

@@ -1,4 +1,6 @@
 // What `enforce` decides on slices: the checks on its input, in their order, and the text that it prints.
+#![tactic(auto)]
+
 mod checks;
 mod reply;
 

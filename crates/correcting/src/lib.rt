@@ -1,4 +1,6 @@
 // One tick: the nearest values that lead on are chosen, the input first.
+#![tactic(auto)]
+
 mod arrive;
 mod choose;
 pub mod tick;

@@ -19,7 +19,7 @@ use policy::{Layout, Own};
 use stepping::{Here, State, here_by};
 
 // What a tick releases and the state after it; or that nothing may stand, with the state before it.
-#[derive(Drop)]
+#[derive(Clone, Copy)]
 pub struct Ticked {
     pub state: State,
     pub released: bool,

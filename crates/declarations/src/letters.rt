@@ -7,7 +7,7 @@ ghost use Rattle.wording.specs.Reader.{letter};
 use words::names::is_capital;
 
 // A refusal, or 0 and the letter.
-#[derive(Drop)]
+#[derive(Clone, Copy)]
 pub(crate) struct Tag {
     pub(crate) refusal: u8,
     pub(crate) value: u8,

@@ -1,4 +1,6 @@
 // The lines that declare signals, clocks and locations, and what they have said so far.
+#![tactic(auto)]
+
 pub mod clockline;
 mod fresh;
 mod letters;

@@ -13,7 +13,7 @@ use words::names::{LOCATION_NAMES, find_name};
 
 // Beside the table stand the places of the names, in `starts` and `lengths`, and a byte for each location in `left`: they would be nearly all of it, and
 // it goes by value. A source of 64 is none.
-#[derive(Drop)]
+#[derive(Clone, Copy)]
 pub struct Table {
     pub tags: [u8; 8],
     pub ceilings: [u16; 4],
@@ -26,7 +26,7 @@ pub struct Table {
 }
 
 // A refusal, or 0 and what the lines with one more have said.
-#[derive(Drop)]
+#[derive(Clone, Copy)]
 pub struct Lined {
     pub refusal: u8,
     pub table: Table,

@@ -1,4 +1,6 @@
 // A stream drawn as the text of a Value Change Dump.
+#![tactic(auto)]
+
 mod lengths;
 mod lines;
 mod text;

@@ -1,4 +1,6 @@
 // Reads a policy and events from standard input, and prints what the enforcer releases.
+#![tactic(auto)]
+
 use libc::{STDIN_FILENO, STDOUT_FILENO};
 
 fn main() {

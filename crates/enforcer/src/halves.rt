@@ -15,14 +15,14 @@ use leading::{input_reaches, inputs_of, outputs_of};
 use policy::{Checked, Layout, Own};
 use stepping::{State, here_by, own_of};
 
-#[derive(Drop)]
+#[derive(Clone, Copy)]
 pub enum HalfAnswer {
     Value(u8),
     Refused(u8),
 }
 
 // What the output half hands back: where it refuses, the state it was given.
-#[derive(Drop)]
+#[derive(Clone, Copy)]
 pub struct Output {
     pub answer: HalfAnswer,
     pub state: State,

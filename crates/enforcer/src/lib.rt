@@ -1,4 +1,6 @@
 // A state, one tick and many. What they answer stands in specs/.
+#![tactic(auto)]
+
 mod halves;
 mod lent;
 mod runs;

@@ -17,7 +17,7 @@ use policy::Layout;
 use stepping::State;
 
 // How many events were released and the state after them, with the refusal's number or 0.
-#[derive(Drop)]
+#[derive(Clone, Copy)]
 pub struct Ran {
     pub refusal: u8,
     pub count: usize,

@@ -22,7 +22,7 @@ use policy::{Layout, Own};
 use stepping::{Here, State, here_by, own_of};
 
 // The reasons for a tick, the halves that it releases, and the state after it.
-#[derive(Drop)]
+#[derive(Clone, Copy)]
 pub struct Told {
     pub reasons: Reasons,
     pub x: u8,

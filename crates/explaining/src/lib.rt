@@ -1,4 +1,6 @@
 // The reason for each half of one event, by its rule and by the counts.
+#![tactic(auto)]
+
 pub mod halves;
 mod reason;
 mod tell;

@@ -5,7 +5,7 @@ ghost use Rattle.explaining.specs.Better.{better};
 ghost use Rattle.explaining.specs.CodeReasons.{reason_said};
 
 // Kept: the half is not edited. The number is that of a rule, from 0, or how many ticks, or how many events at rest.
-#[derive(Drop)]
+#[derive(Clone, Copy)]
 pub enum Reason {
     Kept,
     Rule(usize),
@@ -15,7 +15,7 @@ pub enum Reason {
 }
 
 // For the input, and for the output.
-#[derive(Drop)]
+#[derive(Clone, Copy)]
 pub struct Reasons {
     pub input: Reason,
     pub output: Reason,

@@ -1,4 +1,6 @@
 // Files read whole, and written whole or not at all.
+#![tactic(auto)]
+
 ghost use Rattle.io.specs.Counts.{IsPrefixLen};
 
 use texts::put_bytes;

@@ -1,4 +1,6 @@
 // The frame of what `enforce` reads: a count and the policy, a count and the events.
+#![tactic(auto)]
+
 ghost use Rattle.std.specs.Prelude.{◌≡◌, ◌<◌, ◌^◌};
 ghost use Rattle.frames.specs.Frame.{count_refusal, policy_frame_refusal, policy_part, events_frame_refusal, events_part, input_refusal};
 

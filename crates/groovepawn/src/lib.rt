@@ -1,5 +1,7 @@
 // The entries for a controller in C: each answer is one number, a state five. They are the location and then the four clock values.
 // What each call promises stands in specs/.
+#![tactic(auto)]
+
 mod bay_calls;
 mod check_call;
 mod clean_call;

@@ -7,7 +7,7 @@ ghost use Rattle.index.specs.Sections.{Sections};
 use policy::limits::{BOUND_SIZE, RULE_HEAD};
 use policy::{Layout, rules_below};
 
-#[derive(Drop)]
+#[derive(Clone, Copy)]
 pub struct Entry {
     pub first: usize,
     pub number: usize,

@@ -1,4 +1,6 @@
 // The index of a file's rules: for each location its first rule and how many it has. What the numbers are stands in specs/.
+#![tactic(auto)]
+
 mod ends;
 mod entry;
 

@@ -1,4 +1,6 @@
 // The halves that use an index. For every input they answer what the present halves do; any other index is refused by 28. What they answer stands in specs/.
+#![tactic(auto)]
+
 ghost use Rattle.std.specs.Prelude.{◌≡◌};
 ghost use Rattle.policy.specs.Layout.{checked_under};
 ghost use Rattle.indexed.specs.Entries.{early_refusal};

@@ -1,4 +1,6 @@
 // Two policies are joined into one. What the join answers stands in specs/.
+#![tactic(auto)]
+
 mod counts;
 
 ghost use Rattle.std.specs.Prelude.{◌≡◌, ◌+◌, ◌≤◌, ◌<◌, ◌^◌, length};
@@ -13,7 +15,7 @@ use policy::limits::RULES;
 use policy::{Layout, check};
 
 // The length written, or the refusal's number.
-#[derive(Drop)]
+#[derive(Clone, Copy)]
 pub enum Joined {
     Length(usize),
     Refused(u8),

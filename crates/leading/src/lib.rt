@@ -1,4 +1,6 @@
 // Where the rules of a state's location lead: which events take it to a marked state.
+#![tactic(auto)]
+
 mod lead;
 mod pass;
 mod reach;

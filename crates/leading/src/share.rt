@@ -16,7 +16,7 @@ use policy::bytes::byte_within;
 use stepping::Here;
 
 // What a rule takes of what is left: with the inputs that agree with the care bits and the value, the outputs in the set. `some`: that is something; else the three are 0.
-#[derive(Drop)]
+#[derive(Clone, Copy)]
 pub struct Share {
     pub some: bool,
     pub care: usize,

@@ -1,4 +1,6 @@
 // What `clean` decides on slices: the policy that it writes, and the lines that it prints.
+#![tactic(auto)]
+
 mod lines;
 
 ghost use Rattle.std.specs.Prelude.{◌≡◌, length};
@@ -16,7 +18,7 @@ pub const LIST: usize = 3 * (LOCATIONS + RULES);
 pub const TEXT: usize = 66 * (LOCATIONS + RULES) + 32;
 
 // How many bytes there are: of the cleaned policy, and of the text.
-#[derive(Drop)]
+#[derive(Clone, Copy)]
 pub struct Outcome {
     pub cleaned: usize,
     pub text: usize,

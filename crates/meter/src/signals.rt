@@ -8,7 +8,7 @@ ghost use Rattle.meter.specs.Signals.{signals_in};
 use policy::{input_weight, output_weight};
 
 // What each adds to a value: 1, 2, 4 or 8, or 0 where there is no such signal.
-#[derive(Drop)]
+#[derive(Clone, Copy)]
 pub(crate) struct Signals {
     pub pulse: u8,
     pub dispense: u8,

@@ -1,4 +1,6 @@
 // Several numbers packed into one: each has its bits, and none reaches into those of the next.
+#![tactic(auto)]
+
 ghost use Rattle.std.specs.Prelude.{◌≡◌, ◌+◌, ◌*◌, ◌%◌, ◌^◌, ◌<◌};
 
 // A verdict from bit 8 on, a number of states from bit 16 on, and one of live states from bit 40 on.

@@ -1,4 +1,6 @@
 // All words of one rule: read, held against the ceilings, stored as the bytes of a file.
+#![tactic(auto)]
+
 pub mod arms;
 pub mod chosen;
 pub mod ended;

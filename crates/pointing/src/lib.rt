@@ -1,4 +1,6 @@
 // Where the rules and the names of a policy's text stand in it, for tools.
+#![tactic(auto)]
+
 mod nameat;
 mod ruleat;
 

@@ -11,7 +11,7 @@ use words::keywords::keyword;
 use words::words::line_end;
 
 // A refusal and its line, 0 for the file's own and for 35; or 0 and where the name stands: no byte for none.
-#[derive(Drop)]
+#[derive(Clone, Copy)]
 pub struct NameAt {
     pub refusal: u8,
     pub line: usize,

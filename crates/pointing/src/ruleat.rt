@@ -12,7 +12,7 @@ use words::keywords::keyword;
 use words::words::line_end;
 
 // A refusal and its line, 0 for the file's own and for 35; or 0 and the line of the rule.
-#[derive(Drop)]
+#[derive(Clone, Copy)]
 pub struct RuleAt {
     pub refusal: u8,
     pub line: usize,

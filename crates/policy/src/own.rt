@@ -7,7 +7,7 @@ use crate::bytes::byte_within;
 use crate::limits::{BOUND_SIZE, RULE_HEAD};
 
 // Where a location's own rules start in the rule section, and how many they are.
-#[derive(Drop)]
+#[derive(Clone, Copy)]
 pub struct Own {
     pub start: usize,
     pub count: usize,

@@ -9,7 +9,7 @@ use crate::limits::{BOUND_SIZE, CLOCKS, NO_UPPER_BOUND, RULE_HEAD, RULES, VIOLAT
 use crate::sections::section_refusal;
 
 // How much the sections before the rules hold.
-#[derive(Drop)]
+#[derive(Clone, Copy)]
 pub struct Shape {
     pub inputs: usize,
     pub outputs: usize,

@@ -1,4 +1,6 @@
 // The lines that the programs print: a refusal, a verdict, a line for each tick.
+#![tactic(auto)]
+
 ghost use Rattle.std.specs.Prelude.{◌≡◌, ◌++◌, ◌+◌, ◌*◌, ◌/◌, ◌%◌, ◌^◌, ◌≤◌, ◌<◌, length};
 ghost use Rattle.texts.specs.Text.{decimal};
 ghost use Rattle.printing.specs.Text.{spaced, refused_line, verdict_line, halves, event_line, tick_lines};

@@ -1,4 +1,6 @@
 // The readings of a deadline: which numbers name one, and the one that a program is told by its words.
+#![tactic(auto)]
+
 ghost use Rattle.std.specs.Prelude.{◌≡◌, ◌||◌, eqb};
 ghost use Rattle.readings.specs.Reading.{reading_of, reading_told};
 

@@ -6,7 +6,7 @@ use crate::refusals::refusal;
 use explaining::{Reasons, reasons};
 use stepping::State;
 
-#[derive(Drop)]
+#[derive(Clone, Copy)]
 pub enum WhyAnswer {
     Gives(Reasons),
     Refused(u8),

@@ -1,4 +1,6 @@
 // Why a half of an event was edited.
+#![tactic(auto)]
+
 mod entry;
 mod refusals;
 mod runs;

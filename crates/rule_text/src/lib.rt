@@ -1,4 +1,6 @@
 // The line of a rule as text, and the numbers and names in it.
+#![tactic(auto)]
+
 mod limits;
 mod rule;
 mod signals;

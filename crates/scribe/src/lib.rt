@@ -1,4 +1,6 @@
 // What `compile` and `show` do with files: the file of a text is written whole or not at all, and what there is to say is printed.
+#![tactic(auto)]
+
 use files::{read_file, write_file};
 use libc::{STDERR_FILENO, STDOUT_FILENO};
 use policy::limits::FILE;

@@ -1,4 +1,6 @@
 // A reason as a line of text.
+#![tactic(auto)]
+
 mod asked;
 mod lines;
 

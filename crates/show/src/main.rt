@@ -1,4 +1,6 @@
 // Prints the text of a policy file: `show FILE`.
+#![tactic(auto)]
+
 use libc::STDERR_FILENO;
 
 fn main() {

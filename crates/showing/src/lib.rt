@@ -1,4 +1,6 @@
 // A policy file shown as text.
+#![tactic(auto)]
+
 mod declared;
 mod lines;
 mod writer;

@@ -13,7 +13,7 @@ use texts::put_bytes;
 const LONGEST: usize = 39420;
 
 // A refusal, or 0 and the length written.
-#[derive(Drop)]
+#[derive(Clone, Copy)]
 pub struct Written {
     pub refusal: u8,
     pub length: usize,

@@ -9,7 +9,7 @@ use policy::Layout;
 use policy::limits::{BOUND_SIZE, RULE_HEAD};
 
 // The rules that are ahead: where the first of them stands in the file, and how many there are.
-#[derive(Drop)]
+#[derive(Clone, Copy)]
 pub struct RulesAhead {
     pub at: usize,
     pub ahead: usize,

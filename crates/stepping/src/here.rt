@@ -15,7 +15,7 @@ use policy::limits::{BOUND_SIZE, RULE_HEAD};
 use policy::{Layout, Own, own_rules};
 
 // A state, and what is worked out for it once: the rules of its location, and the state that their bounds see.
-#[derive(Drop)]
+#[derive(Clone, Copy)]
 pub struct Here {
     pub own: Own,
     pub seen: State,

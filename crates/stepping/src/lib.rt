@@ -1,4 +1,6 @@
 // A state, and one step of it by the rule that decides an event.
+#![tactic(auto)]
+
 mod ahead;
 pub mod five;
 mod here;

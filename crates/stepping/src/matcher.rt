@@ -11,7 +11,7 @@ use policy::bytes::{byte_within, pair_within};
 use policy::limits::{BOUND_SIZE, RULE_HEAD};
 
 // The number of a rule among those that were looked through, the first being 0.
-#[derive(Drop)]
+#[derive(Clone, Copy)]
 pub enum Found {
     Rule(usize),
     Nothing,

@@ -14,14 +14,14 @@ use policy::bytes::byte_within;
 use policy::limits::VIOLATION;
 
 // What an event does: the state after it, or a violation and the state before it.
-#[derive(Drop)]
+#[derive(Clone, Copy)]
 pub struct Step {
     pub permitted: bool,
     pub state: State,
 }
 
 // The rule that decides an event, by where it stands in the file.
-#[derive(Drop)]
+#[derive(Clone, Copy)]
 pub enum DecidedBy {
     At(usize),
     Nothing,

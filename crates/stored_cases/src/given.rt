@@ -4,7 +4,7 @@ use crate::parts;
 use crate::parts::{ABSENT, PARTS};
 
 // What a record does not have is 0. `has_state`: it gives a state, or what stands in its place.
-#[derive(Drop)]
+#[derive(Clone, Copy)]
 pub struct Given {
     pub reading: u8,
     pub word: u32,

@@ -8,14 +8,14 @@ use crate::parts::ABSENT;
 pub const STRING: usize = 65600;
 
 // The piece that is being read: how many bytes it has yet to make, each its own or all the same one.
-#[derive(Drop)]
+#[derive(Clone, Copy)]
 struct Pieces {
     left: u8,
     repeats: bool,
     next: Cursor,
 }
 
-#[derive(Drop)]
+#[derive(Clone, Copy)]
 struct Made {
     byte: u8,
     pieces: Pieces,

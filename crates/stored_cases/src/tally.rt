@@ -4,7 +4,7 @@ use crate::parts::{ANSWER, KINDS, PARTS};
 use libc::STDOUT_FILENO;
 
 // A record: its number, its kind, and the part that came out different, or `PARTS`.
-#[derive(Drop)]
+#[derive(Clone, Copy)]
 pub struct Found {
     pub number: u32,
     pub kind: u8,
@@ -12,7 +12,7 @@ pub struct Found {
 }
 
 // `first` is the first record that came out different, if one did.
-#[derive(Drop)]
+#[derive(Clone, Copy)]
 pub struct Tally {
     different: u64,
     first: Found,

@@ -17,7 +17,7 @@ use sentences::put_reasons;
 use stepping::{State, own_of};
 
 // The tick that is told next: its number, the state before it, and where its text begins.
-#[derive(Drop)]
+#[derive(Clone, Copy)]
 pub struct NextTick {
     pub number: usize,
     pub state: State,

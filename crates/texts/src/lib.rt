@@ -1,4 +1,6 @@
 // Bytes and numbers written into a text.
+#![tactic(auto)]
+
 ghost use Rattle.std.specs.Prelude.{[], ◌∷◌, ◌++◌, ◌+◌, ◌≤◌, ◌<◌, length};
 ghost use Rattle.texts.specs.Text.{digit, decimal};
 ghost use Rattle.texts.specs.Wrote.{Wrote};

@@ -1,21 +1,23 @@
 // Milliseconds and ticks: a number of one never stands for the other.
+#![tactic(auto)]
+
 ghost use Rattle.std.specs.Prelude.{◌≡◌, ◌<◌};
 ghost use Rattle.ticks.specs.Conversion.{rounded, upwards, Converted};
 
-#[derive(Drop)]
+#[derive(Clone, Copy)]
 pub struct Milliseconds(pub u32);
 
 // Made by the conversion alone.
-#[derive(Drop)]
+#[derive(Clone, Copy)]
 pub struct Ticks(u32);
 
-#[derive(Drop)]
+#[derive(Clone, Copy)]
 pub enum Rounding {
     Down,
     Up,
 }
 
-#[derive(Drop)]
+#[derive(Clone, Copy)]
 pub enum Conversion {
     Gives(Ticks),
     Refused(u8),

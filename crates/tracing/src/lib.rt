@@ -1,4 +1,6 @@
 // The stream that the text of a Value Change Dump shows, traced back line by line.
+#![tactic(auto)]
+
 mod next;
 mod read;
 mod store;

@@ -5,7 +5,7 @@ ghost use Rattle.tracing.specs.Next.{NextRead};
 use crate::read::{read_event, read_time};
 
 // No line that may stand there; the closing time; a time, its event, and the position after its changes.
-#[derive(Drop)]
+#[derive(Clone, Copy)]
 pub enum Next {
     Nothing,
     Closes(usize),

@@ -5,14 +5,14 @@ ghost use Rattle.drawing.specs.Values.{line_of};
 ghost use Rattle.tracing.specs.Read.{NumberRead, TimeRead, LinesRead, EventRead};
 
 // A number, and the position after it.
-#[derive(Drop)]
+#[derive(Clone, Copy)]
 pub struct Number {
     pub value: usize,
     pub next: usize,
 }
 
 // Whether a time line stands there, its time, and the position after it.
-#[derive(Drop)]
+#[derive(Clone, Copy)]
 pub struct Time {
     pub good: bool,
     pub time: usize,
@@ -20,7 +20,7 @@ pub struct Time {
 }
 
 // Which signals have a line there, what the lines say, and the position after them.
-#[derive(Drop)]
+#[derive(Clone, Copy)]
 pub struct Lines {
     pub shown: u8,
     pub values: u8,

@@ -9,7 +9,7 @@ use crate::store::{fill, put};
 use drawing::put_opening;
 
 // How many events the text has, if it is a stream's.
-#[derive(Drop)]
+#[derive(Clone, Copy)]
 pub enum StreamRead {
     Nothing,
     Events(usize),

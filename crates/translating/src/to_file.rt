@@ -18,7 +18,7 @@ pub const LINE: usize = 38;
 const TOO_LONG: u8 = 33;
 
 // How many bytes there are: of the policy file, and of the line.
-#[derive(Drop)]
+#[derive(Clone, Copy)]
 pub struct Outcome {
     pub file: usize,
     pub line: usize,

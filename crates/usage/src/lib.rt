@@ -1,4 +1,6 @@
 // What of a policy is of use: a flag for each rule and each location.
+#![tactic(auto)]
+
 mod asked;
 pub mod enter;
 mod flags;

@@ -1,5 +1,7 @@
 // Puts the stored cases to the entries for a controller in C, and counts what comes out different. It writes how many there were of each kind.
 // Then the same for a file of wrong expectations, all of which must come out different.
+#![tactic(auto)]
+
 mod bodies;
 mod calls;
 mod records;

@@ -1,4 +1,6 @@
 // What `wave` decides on slices: the input of `enforce`, and the file for a wave viewer.
+#![tactic(auto)]
+
 ghost use Rattle.std.specs.Prelude.{◌≡◌, length};
 ghost use Rattle.printing.specs.Reply.{Replied};
 ghost use Rattle.viewer.specs.Shown.{file_or_line, shown};

@@ -1,4 +1,6 @@
 // Reads what `enforce` reads, and writes what the enforcer releases as a file for wave viewers: `wave [READING]`.
+#![tactic(auto)]
+
 use libc::{STDIN_FILENO, STDOUT_FILENO};
 
 fn main() {

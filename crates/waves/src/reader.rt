@@ -7,7 +7,7 @@ use crate::tags::tags_of;
 use tracing::{StreamRead, read_stream};
 
 // How many events are given, or the refusal's number.
-#[derive(Drop)]
+#[derive(Clone, Copy)]
 pub enum Taken {
     Count(usize),
     Refused(u8),

@@ -2,7 +2,7 @@
 ghost use Rattle.waves.specs.Tags.{TagsPromise};
 
 // The refusal's number; or 0, and where the tags of the inputs end, which start at 1, and from where to where those of the outputs stand.
-#[derive(Drop)]
+#[derive(Clone, Copy)]
 pub struct Tags {
     pub refusal: u8,
     pub inputs_end: usize,

@@ -10,7 +10,7 @@ use drawing::{put_text, text_length};
 use tracing::ones;
 
 // The length written, or the refusal's number.
-#[derive(Drop)]
+#[derive(Clone, Copy)]
 pub enum Written {
     Length(usize),
     Refused(u8),

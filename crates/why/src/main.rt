@@ -1,4 +1,6 @@
 // Reads what `enforce` reads, and prints what it prints, with a reason after each edited half: `why [READING]`.
+#![tactic(auto)]
+
 use libc::{STDIN_FILENO, STDOUT_FILENO};
 
 fn main() {

@@ -13,7 +13,7 @@ pub fn word_in(text: &[u8], end: usize, at: usize) -> Span
 }
 
 // How many words there are, 3 for more than two, and where the first two stand.
-#[derive(Drop)]
+#[derive(Clone, Copy)]
 pub struct Few {
     pub count: usize,
     pub start: usize,

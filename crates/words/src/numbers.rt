@@ -4,7 +4,7 @@ ghost use Rattle.streams.specs.Answer.{answer};
 ghost use Rattle.words.specs.Counted.{number_of};
 
 // A refusal, or 0 and the number.
-#[derive(Drop)]
+#[derive(Clone, Copy)]
 pub struct Number {
     pub refusal: u8,
     pub value: u16,

@@ -70,7 +70,7 @@ fn run_end(line: &[u8], at: usize, k: u8) -> usize
 }
 
 // Where a word stands in its line: its first byte and the one after its last.
-#[derive(Drop)]
+#[derive(Clone, Copy)]
 pub struct Span {
     pub start: usize,
     pub end: usize,

@@ -1,4 +1,6 @@
 // Cleans and compiles stored files as `clean` and `compile` do, and prints in hex what then stands in the files; and shows some as `show` does.
+#![tactic(auto)]
+
 ghost use Rattle.std.specs.Prelude.{◌<◌};
 
 use libc::STDOUT_FILENO;

@@ -7,7 +7,7 @@ use Rattle.policy.proofs.check.Tie as tie
 
 returns : tie.Need-returns
 unfolding checked_of checked_under refusal_under reading_refusal
-returns c = record { said = c.check-under.ensures }
+returns c = record { said = c.check_under.ensures }
 
 pub check_spec : {M : Type 1} → statement M
 check_spec = tie.close (tie.spec (λ c κs. search rules) returns)

@@ -19,180 +19,159 @@ use Rattle.policy.proofs.check_under.Statement.{statement}
 use Rattle.policy.proofs.check_under.Tie as tie
 
 -- the reading and the file, once there is a reading, and after each section that is not refused
-abbrev reading_of : tie.Else1 → ℕ
-reading_of c = c.before.before.before.args.reading
+abbrev reading_of : tie.Else-not-is_reading → ℕ
+reading_of c = c.args.reading
 
-abbrev fileOf : tie.Else1 → List ℕ
-fileOf c = c.before.before.before.args.file.now
+abbrev fileOf : tie.Else-not-is_reading → List ℕ
+fileOf c = c.args.file.now
 
-abbrev since1 : tie.Else2 → tie.Else1
+abbrev since1 : tie.Else-r-ne0 → tie.Else-not-is_reading
 since1 c = c.before.before
 
-abbrev since2 : tie.Else3 → tie.Else1
+abbrev since2 : tie.Else-r-ne0-2 → tie.Else-not-is_reading
 since2 c = since1 c.before.before.before
 
-abbrev since3 : tie.Else4 → tie.Else1
+abbrev since3 : tie.Else-r-ne0-3 → tie.Else-not-is_reading
 since3 c = since2 c.before.before.before
 
-abbrev since4 : tie.Else5 → tie.Else1
+abbrev since4 : tie.Else-r-ne0-4 → tie.Else-not-is_reading
 since4 c = since3 c.before.before.before.before
 
-abbrev since5 : tie.Else6 → tie.Else1
+abbrev since5 : tie.Else-r-ne0-5 → tie.Else-not-is_reading
 since5 c = since4 c.before.before.before
 
-abbrev file1 : tie.Else2 → List ℕ
+abbrev file1 : tie.Else-r-ne0 → List ℕ
 file1 c = fileOf (since1 c)
 
-abbrev file2 : tie.Else3 → List ℕ
+abbrev file2 : tie.Else-r-ne0-2 → List ℕ
 file2 c = fileOf (since2 c)
 
-abbrev file3 : tie.Else4 → List ℕ
+abbrev file3 : tie.Else-r-ne0-3 → List ℕ
 file3 c = fileOf (since3 c)
 
-abbrev file4 : tie.Else5 → List ℕ
+abbrev file4 : tie.Else-r-ne0-4 → List ℕ
 file4 c = fileOf (since4 c)
 
-abbrev file5 : tie.Else6 → List ℕ
+abbrev file5 : tie.Else-r-ne0-5 → List ℕ
 file5 c = fileOf (since5 c)
 
 -- there is a reading, so the refusal is the file's
-read : (c : tie.Else1) → refusal_under (reading_of c) (fileOf c) ≡ refusal_of (fileOf c)
-read c = named _ _ (sym c.before.is-reading.ensures ∙ not-false _ c.if1.false)
+read : (c : tie.Else-not-is_reading) → refusal_under (reading_of c) (fileOf c) ≡ refusal_of (fileOf c)
+read c = named _ _ (sym c.is_reading.ensures ∙ c.if-not-is_reading.false)
 
 -- the section's refusal is none, and the file's is what is left
-past1 : (c : tie.Else2) → Past (file1 c) (inputs_refusal (file1 c)) (after_inputs (file1 c))
-past1 c = past_here _ _ _ (from_inputs _) c.before.inputs-refusal.ensures c.if2.false
+past1 : (c : tie.Else-r-ne0) → Past (file1 c) (inputs_refusal (file1 c)) (after_inputs (file1 c))
+past1 c = past_here _ _ _ (from_inputs _) c.inputs_refusal-r.ensures c.if-r-ne0.false
 
-past2 : (c : tie.Else3) → Past (file2 c) (outputs_refusal (file2 c)) (after_outputs (file2 c))
-past2 c = past_here _ _ _ (past1 c.before.before.before).left c.before.outputs-refusal.ensures c.if3.false
+past2 : (c : tie.Else-r-ne0-2) → Past (file2 c) (outputs_refusal (file2 c)) (after_outputs (file2 c))
+past2 c = past_here _ _ _ (past1 c.before.before.before).left c.outputs_refusal-r.ensures c.if-r-ne0-2.false
 
-past3 : (c : tie.Else4) → Past (file3 c) (clocks_refusal (file3 c)) (after_clocks (file3 c))
-past3 c = past_here _ _ _ (past2 c.before.before.before).left c.before.clocks-refusal.ensures c.if4.false
+past3 : (c : tie.Else-r-ne0-3) → Past (file3 c) (clocks_refusal (file3 c)) (after_clocks (file3 c))
+past3 c = past_here _ _ _ (past2 c.before.before.before).left c.clocks_refusal-r.ensures c.if-r-ne0-3.false
 
-past4 : (c : tie.Else5) → Past (file4 c) (locations_refusal (file4 c)) (after_locations (file4 c))
-past4 c = past_here _ _ _ (past3 c.before.before.before.before).left c.before.locations-refusal.ensures c.if5.false
+past4 : (c : tie.Else-r-ne0-4) → Past (file4 c) (locations_refusal (file4 c)) (after_locations (file4 c))
+past4 c = past_here _ _ _ (past3 c.before.before.before.before).left c.locations_refusal-r.ensures c.if-r-ne0-4.false
 
-past5 : (c : tie.Else6) → Past (file5 c) (rules_section_refusal (file5 c)) (after_rules (file5 c))
-past5 c = past_here _ _ _ (past4 c.before.before.before).left c.before.rules-section-refusal.ensures c.if6.false
+past5 : (c : tie.Else-r-ne0-5) → Past (file5 c) (rules_section_refusal (file5 c)) (after_rules (file5 c))
+past5 c = past_here _ _ _ (past4 c.before.before.before).left c.rules_section_refusal-r.ensures c.if-r-ne0-5.false
 
 -- how much the sections before the rules hold
-abbrev shape_at : tie.After-byte-at4 → Shape
+abbrev shape_at : tie.After-byte_at-locations → Shape
 shape_at c =
-    let k = c.before.before.before.before in
     record {
-      inputs = k.before.before.before.before.before.before.byte_at.result;
-      outputs = k.before.before.before.byte-at2.result;
-      clocks = k.byte-at3.result;
-      locations = c.byte-at4.result;
-      ceilings = c.before.before.before.ceilings-of.result;
+      inputs = c.byte_at-inputs.result;
+      outputs = c.byte_at-outputs.result;
+      clocks = c.byte_at-clocks.result;
+      locations = c.byte_at-locations.result;
+      ceilings = c.ceilings_of-ceilings.result;
     }
 
-shape : (c : tie.After-byte-at4) → ShapeOf (file4 c.before) (shape_at c)
+shape : (c : tie.After-byte_at-locations) → ShapeOf (file4 c.before) (shape_at c)
 shape c =
-    let k = c.before.before.before.before in
-    let o = k.before.before.before in
-    let i = o.before.before.before in
-    shape_read _ i.byte_at.ensures.0 o.byte-at2.ensures.0 k.byte-at3.ensures.0 c.byte-at4.ensures.0
-    c.before.before.before.ceilings-of.ensures (past1 i.before).none (past2 o.before).none (past3 k.before).none
+    shape_read _ c.byte_at-inputs.ensures.0 c.byte_at-outputs.ensures.0 c.byte_at-clocks.ensures.0 c.byte_at-locations.ensures.0
+    c.ceilings_of-ceilings.ensures (past1 c.before.before.before.before.before.before.before.before.before.before.before).none (past2 c.before.before.before.before.before.before.before.before).none (past3 c.before.before.before.before.before).none
 
 -- the end of the rules, and the number of states
-rules_size : (c : tie.After-pair-at) → c.pair-at.result * rule_size (shape_at c.before.before.before).clocks ≤ 65535 * 1027
+rules_size : (c : tie.After-pair_at-rules) → c.pair_at-rules.result * rule_size (shape_at c.before.before.before).clocks ≤ 65535 * 1027
 rules_size c = mul-le-mul {n₂ = 65535} {m₂ = 1027} (omega arith) (omega arith)
 
-end : (c : tie.After-pair-at) →
+end : (c : tie.After-pair_at-rules) →
     let s = shape_at c.before.before.before in
-    count_at s + 2 + c.pair-at.result * rule_size s.clocks ≡ rules_end (file5 c.before)
-end c = rules-end _ _ (shape c.before.before.before) c.pair-at.ensures.0
+    count_at s + 2 + c.pair_at-rules.result * rule_size s.clocks ≡ rules_end (file5 c.before)
+end c = rules-end _ _ (shape c.before.before.before) c.pair_at-rules.ensures.0
 
-left6 : (c : tie.Else7) → refusal_of (file5 c.before.before) ≡ after_end (file5 c.before.before)
-left6 c = (past5 c.before.before).left ∙ ends_late _ c.if7.false (end c.before)
+left6 : (c : tie.Else-rules_end-file) → refusal_of (file5 c.before.before) ≡ after_end (file5 c.before.before)
+left6 c = (past5 c.before.before).left ∙ ends_late _ c.if-rules_end-file.false (end c.before)
 
-states : (c : tie.After-states-of) → c.states-of.result ≡ states_in (file5 c.before.before.before)
-states c = c.states-of.ensures ∙ states_read _ _ (shape c.before.before.before.before.before)
+states : (c : tie.After-states_of-states) → c.states_of-states.result ≡ states_in (file5 c.before.before.before)
+states c = c.states_of-states.ensures ∙ states_read _ _ (shape c.before.before.before.before.before)
 
-returns : tie.Need-returns
-returns c = let i = c.before in not_named _ _ (sym i.before.is-reading.ensures ∙ not-true _ i.if1.true) c.refused.ensures
+returns : tie.Need-returns-then-not-is_reading
+returns c = not_named _ _ (sym c.is_reading.ensures ∙ c.if-not-is_reading.true) c.refused.ensures
 
-returns-2 : tie.Need-returns-2
+returns-2 : tie.Need-returns-then-r-ne0
 returns-2 c =
-    refused_here _ _ (read c.before.before.before) _ _ (from_inputs _) c.before.before.inputs-refusal.ensures c.before.if2.true c.refused2.ensures
+    refused_here _ _ (read c.before.before.before) _ _ (from_inputs _) c.inputs_refusal-r.ensures c.if-r-ne0.true c.refused-then-r-ne0.ensures
 
-outputs-refusal-requires : tie.Need-outputs-refusal-requires
-outputs-refusal-requires c κs = ((past1 c.before).none, c.byte_at.ensures.0, outputs-at _ c.byte_at.ensures.0)
+outputs-refusal-requires : tie.Need-outputs_refusal-r-requires
+outputs-refusal-requires c κs = ((past1 c.before).none, c.byte_at-inputs.ensures.0, outputs-at _ c.byte_at-inputs.ensures.0)
 
-returns-3 : tie.Need-returns-3
+returns-3 : tie.Need-returns-then-r-ne0-2
 returns-3 c =
-    let o = c.before.before in
-    refused_here _ _ (read (since1 o.before.before)) _ _ (past1 o.before.before).left o.outputs-refusal.ensures c.before.if3.true c.refused3.ensures
+    refused_here _ _ (read (since1 c.before.before.before.before)) _ _ (past1 c.before.before.before.before).left c.outputs_refusal-r.ensures c.if-r-ne0-2.true c.refused-then-r-ne0-2.ensures
 
-clocks-refusal-requires : tie.Need-clocks-refusal-requires
-clocks-refusal-requires c κs = (omega arith, clocks-at _ c.before.before.before.byte_at.ensures.0 c.byte-at2.ensures.0)
+clocks-refusal-requires : tie.Need-clocks_refusal-r-requires
+clocks-refusal-requires c κs = (omega arith, clocks-at _ c.byte_at-inputs.ensures.0 c.byte_at-outputs.ensures.0)
 
-returns-4 : tie.Need-returns-4
+returns-4 : tie.Need-returns-then-r-ne0-3
 returns-4 c =
-    let o = c.before.before in
-    refused_here _ _ (read (since2 o.before.before)) _ _ (past2 o.before.before).left o.clocks-refusal.ensures c.before.if4.true c.refused4.ensures
+    refused_here _ _ (read (since2 c.before.before.before.before)) _ _ (past2 c.before.before.before.before).left c.clocks_refusal-r.ensures c.if-r-ne0-3.true c.refused-then-r-ne0-3.ensures
 
-ceilings-of-requires : tie.Need-ceilings-of-requires
+ceilings-of-requires : tie.Need-ceilings_of-ceilings-requires
 ceilings-of-requires c κs =
-    let o = c.before.before.before in
-    (omega arith, clocks_few _ o.before.before.before.byte_at.ensures.0 o.byte-at2.ensures.0 c.byte-at3.ensures.0 (past3 c.before).none)
+    (omega arith, clocks_few _ c.byte_at-inputs.ensures.0 c.byte_at-outputs.ensures.0 c.byte_at-clocks.ensures.0 (past3 c.before).none)
 
-locations-refusal-requires : tie.Need-locations-refusal-requires
+locations-refusal-requires : tie.Need-locations_refusal-r-requires
 locations-refusal-requires c κs =
-    let k = c.before in
-    let o = k.before.before.before in
-    (omega arith, locations-at _ o.before.before.before.byte_at.ensures.0 o.byte-at2.ensures.0 k.byte-at3.ensures.0)
+    (omega arith, locations-at _ c.byte_at-inputs.ensures.0 c.byte_at-outputs.ensures.0 c.byte_at-clocks.ensures.0)
 
-returns-5 : tie.Need-returns-5
+returns-5 : tie.Need-returns-then-r-ne0-4
 returns-5 c =
-    let o = c.before.before in
-    refused_here _ _ (read (since3 o.before.before.before)) _ _ (past3 o.before.before.before).left o.locations-refusal.ensures c.before.if5.true c.refused5.ensures
+    refused_here _ _ (read (since3 c.before.before.before.before.before)) _ _ (past3 c.before.before.before.before.before).left c.locations_refusal-r.ensures c.if-r-ne0-4.true c.refused-then-r-ne0-4.ensures
 
-rules-section-refusal-requires : tie.Need-rules-section-refusal-requires
+rules-section-refusal-requires : tie.Need-rules_section_refusal-r-requires
 rules-section-refusal-requires c κs = (omega (arith, (shape c).shaped), count-at _ _ (shape c), shape c)
 
-returns-6 : tie.Need-returns-6
+returns-6 : tie.Need-returns-then-r-ne0-5
 returns-6 c =
-    let o = c.before.before in
-    refused_here _ _ (read (since4 o.before.before)) _ _ (past4 o.before.before).left o.rules-section-refusal.ensures c.before.if6.true c.refused6.ensures
+    refused_here _ _ (read (since4 c.before.before.before.before)) _ _ (past4 c.before.before.before.before).left c.rules_section_refusal-r.ensures c.if-r-ne0-5.true c.refused-then-r-ne0-5.ensures
 
-mul-rules-end-2 : tie.Need-overflow-mul-rules-end-2
+mul-rules-end-2 : tie.Need-overflow_mul-rules_end-2
 mul-rules-end-2 c = omega (arith, rules_size c)
 
-add-rules-end-2 : tie.Need-overflow-add-rules-end-2
+add-rules-end-2 : tie.Need-overflow_add-rules_end-2
 add-rules-end-2 c = omega (arith, rules_size c)
 
-returns-7 : tie.Need-returns-7
+returns-7 : tie.Need-returns-then-rules_end-file
 returns-7 c =
-    let e = (past5 c.before.before.before).left ∙ ends_early _ c.before.if7.true (end c.before.before) in
-    refused_by _ _ (read (since5 c.before.before.before)) e (λ z. omega arith) c.refused7.ensures
+    let e = (past5 c.before.before.before).left ∙ ends_early _ c.if-rules_end-file.true (end c.before.before) in
+    refused_by _ _ (read (since5 c.before.before.before)) e (λ z. omega arith) c.refused-then-rules_end-file.ensures
 
-states-of-requires : tie.Need-states-of-requires
+states-of-requires : tie.Need-states_of-states-requires
 states-of-requires c κs =
-    let s = c.before.before.before.before in
-    let small = ceilings_small _ _ (shape s) (past3 s.before.before.before.before.before).none in
-    ((shape s).shaped.clocks, omega (arith, locations_fit _ (past4 s.before).none, (shape s).locations), small)
+    let small = ceilings_small _ _ (shape c.before.before.before.before) (past3 c.before.before.before.before.before.before.before.before.before).none in
+    ((shape c.before.before.before.before).shaped.clocks, omega (arith, locations_fit _ (past4 c.before.before.before.before.before).none, (shape c.before.before.before.before).locations), small)
 
-returns-8 : tie.Need-returns-8
+returns-8 : tie.Need-returns-then-states-gt-STATES
 returns-8 c =
-    let e = left6 c.before.before.before ∙ too_many _ c.before.if8.true (states c.before.before) in
-    refused_by _ _ (read (since5 c.before.before.before.before.before)) e (λ z. omega arith) c.refused8.ensures
+    let e = left6 c.before.before.before ∙ too_many _ c.if-states-gt-STATES.true (states c.before.before) in
+    refused_by _ _ (read (since5 c.before.before.before.before.before)) e (λ z. omega arith) c.refused-then-states-gt-STATES.ensures
 
-returns-9 : tie.Need-returns-9
+returns-9 : tie.Need-returns
 returns-9 c =
-    let p = c.before.before.before in
-    let e = left6 c.before.before ∙ not_too_many _ c.if8.false (states c.before) in
-    let l = layout_read _ _ (shape p.before.before.before) _ p.pair-at.ensures.0 c.before.states-of.ensures in
-    passed_by _ _ (read (since5 p.before)) e l
+    let e = left6 c.before.before ∙ not_too_many _ c.if-states-gt-STATES.false (states c.before) in
+    let l = layout_read _ _ (shape c.before.before.before.before.before.before) _ c.pair_at-rules.ensures.0 c.states_of-states.ensures in
+    passed_by _ _ (read (since5 c.before.before.before.before)) e l
 
 pub check_under_spec : {M : Type 1} → statement M
-check_under_spec =
-    tie.close
-    (tie.spec
-    (λ c κs. search rules) (λ c κs. search rules) returns (λ c κs. search rules) (λ c κs. search rules) returns-2 (λ c κs. search rules)
-    (λ c. search rules) outputs-refusal-requires (λ c κs. search rules) returns-3 (λ c κs. search rules) (λ c. search rules) (λ c. search rules)
-    clocks-refusal-requires (λ c κs. search rules) returns-4 (λ c κs. search rules) (λ c. search rules) ceilings-of-requires (λ c. search rules)
-    (λ c. search rules) (λ c. search rules) locations-refusal-requires (λ c κs. search rules) returns-5 (λ c κs. search rules) (λ c. search rules)
-    (λ c. search rules) rules-section-refusal-requires (λ c κs. search rules) returns-6 (λ c κs. search rules) (λ c. search rules) (λ c. search rules)
-    (λ c. search rules) mul-rules-end-2 add-rules-end-2 (λ c κs. search rules) returns-7 states-of-requires (λ c κs. search rules) returns-8 returns-9)
+check_under_spec = tie.close (tie.spec (λ c κs. search rules) (λ c κs. search rules) returns (λ c κs. search rules) (λ c κs. search rules) returns-2 (λ c κs. search rules) (λ c. search rules) outputs-refusal-requires (λ c κs. search rules) returns-3 (λ c κs. search rules) (λ c. search rules) (λ c. search rules) clocks-refusal-requires (λ c κs. search rules) returns-4 (λ c κs. search rules) (λ c. search rules) ceilings-of-requires (λ c. search rules) (λ c. search rules) (λ c. search rules) locations-refusal-requires (λ c κs. search rules) returns-5 (λ c κs. search rules) (λ c. search rules) (λ c. search rules) rules-section-refusal-requires (λ c κs. search rules) returns-6 (λ c κs. search rules) (λ c. search rules) (λ c. search rules) (λ c. search rules) mul-rules-end-2 add-rules-end-2 (λ c κs. search rules) returns-7 states-of-requires (λ c κs. search rules) returns-8 returns-9)

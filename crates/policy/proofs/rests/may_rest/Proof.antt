@@ -23,16 +23,15 @@ module _ (f : List ℕ) where
   rests_by reading location at h e =
       ap (λ (b : ℕ). eqb b 0) (byte_part f (locations_at f + 1) (location_count f) location at (omega arith) h)
 
-sub-byte-at : tie.Need-overflow-sub-byte-at
-sub-byte-at c = omega (arith, bytes_before c.before.before.args.file.now)
+sub-byte-at : tie.Need-overflow_sub-layout
+sub-byte-at c = omega (arith, bytes_before c.args.file.now)
 
-sub-byte-at-2 : tie.Need-overflow-sub-byte-at-2
-sub-byte-at-2 c = omega (arith, bytes_before c.before.before.before.args.file.now)
+sub-byte-at-2 : tie.Need-overflow_sub-layout-2
+sub-byte-at-2 c = omega (arith, bytes_before c.args.file.now)
 
 returns : tie.Need-returns
 returns c =
-    let s = c.before.before.before.before in
-    ap (λ (b : ℕ). eqb b 0) c.byte_at.ensures.0 ∙ sym (rests_by s.args.file.now s.args.layout.reading s.args.location _ (omega arith) (rw (s.requires.0, s.requires.1)))
+    ap (λ (b : ℕ). eqb b 0) c.byte_at.ensures.0 ∙ sym (rests_by c.args.file.now c.args.layout.reading c.args.location _ (omega arith) (rw (c.requires.0, c.requires.1)))
 
 pub may_rest_spec : {M : Type 1} → statement M
 may_rest_spec = tie.close (tie.spec sub-byte-at sub-byte-at-2 (λ c. search rules) (λ c κs. search rules) returns)

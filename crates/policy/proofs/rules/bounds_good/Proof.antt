@@ -14,77 +14,67 @@ use Rattle.policy.proofs.RuleLaws.{bounds_left, bounds_turn, bounds_end}
 use Rattle.policy.proofs.rules.bounds_good.Statement.{statement}
 use Rattle.policy.proofs.rules.bounds_good.Tie as tie
 
-abbrev invariant-loop : tie.invariant-loop
+abbrev invariant-loop : tie.invariant-loop-i
 invariant-loop section at clocks ceilings i₀ i =
     (i ≤ clocks) × (bounds_left section at ceilings clocks i ≡ bounds_good (take clocks ceilings) (bounds_from section at clocks))
 
-abbrev decreases-loop : tie.decreases-loop
+abbrev decreases-loop : tie.decreases-loop-i
 decreases-loop section at clocks ceilings i₀ i = clocks - i
 
 -- all bounds, as the bound that a turn reads and those after it
 abbrev all : tie.Start invariant-loop decreases-loop → Bool
-all s = bounds_good (take s.args.clocks s.args.t3) (bounds_from s.args.section.now s.args.at s.args.clocks)
+all s = bounds_good (take s.args.clocks s.args.ceilings) (bounds_from s.args.section.now s.args.at s.args.clocks)
 
-turn : (c : tie.After-pair-within2 invariant-loop decreases-loop) →
-    let h = c.before.before.before in
-    let s = h.before.before in
-    let rest = bounds_left s.args.section.now s.args.at s.args.t3 s.args.clocks (h.loop.i + 1) in
-    all s ≡ bound_good (get_or s.args.t3 h.loop.i 0) (record { low = c.before.pair-within.result; high = c.pair-within2.result }) && rest
+turn : (c : tie.After-pair_within-high invariant-loop decreases-loop) →
+    let rest = bounds_left c.args.section.now c.args.at c.args.ceilings c.args.clocks (c.loop-i.i + 1) in
+    all c.before.before.before.before.before ≡ bound_good (get_or c.args.ceilings c.loop-i.i 0) (record { low = c.pair_within-low.result; high = c.pair_within-high.result }) && rest
 turn c =
-    let h = c.before.before.before in
-    let s = h.before.before in
     let next =
-    bounds_turn s.args.section.now s.args.at s.args.t3 s.args.clocks h.loop.i (omega arith)
-    c.before.before.loop-test.true in
-    simp (c.before.pair-within.ensures.0, c.pair-within2.ensures.0) (sym h.loop.invariant.1 ∙ next)
+    bounds_turn c.args.section.now c.args.at c.args.ceilings c.args.clocks c.loop-i.i (omega arith)
+    c.loop-i-test.true in
+    simp (c.pair_within-low.ensures.0, c.pair_within-high.ensures.0) (sym c.loop-i.invariant.1 ∙ next)
 
-loop-holds : tie.Need-loop-init invariant-loop decreases-loop
+loop-holds : tie.Need-loop-i-init invariant-loop decreases-loop
 loop-holds c = (search rules, rw (mul-zero, add-zero, sub-zero))
 
-returns : tie.Need-returns invariant-loop decreases-loop
+returns : tie.Need-returns-then-high-low invariant-loop decreases-loop
 unfolding bound_good
-returns c = sym (turn c.before ∙ simp (lt-leb _ _ c.if1.true))
+returns c = sym (turn c.before ∙ simp (lt-leb _ _ c.if-high-low.true))
 
-returns-2 : tie.Need-returns-2 invariant-loop decreases-loop
+returns-2 : tie.Need-returns-then-ceiling-low invariant-loop decreases-loop
 unfolding bound_good
-returns-2 c = sym (turn c.before.before ∙ simp (le-leb _ _ c.before.if1.false, lt-leb _ _ c.if2.true))
+returns-2 c = sym (turn c.before.before ∙ simp (le-leb _ _ c.if-high-low.false, lt-leb _ _ c.if-ceiling-low.true))
 
-returns-3 : tie.Need-returns-3 invariant-loop decreases-loop
+returns-3 : tie.Need-returns-then-high invariant-loop decreases-loop
 unfolding bound_good
 returns-3 c =
     sym
     (turn c.before.before.before.before
     ∙ simp (
-      le-leb _ _ c.before.before.before.if1.false,
-      le-leb _ _ c.before.before.if2.false,
-      le-ltb _ _ c.before.if3.true,
-      ne_eqb _ _ c.if4.true,
+      le-leb _ _ c.if-high-low.false,
+      le-leb _ _ c.if-ceiling-low.false,
+      le-ltb _ _ c.if-ceiling-high.true,
+      ne_eqb _ _ c.if-high.true,
     ))
 
-loop-again : tie.Need-loop-preserved invariant-loop decreases-loop
+loop-again : tie.Need-loop-i-preserved invariant-loop decreases-loop
 unfolding bound_good
 loop-again c =
-    let low = le-leb _ _ c.before.before.if1.false in
-    let under = le-leb _ _ c.before.if2.false in (
+    let low = le-leb _ _ c.if-high-low.false in
+    let under = le-leb _ _ c.if-ceiling-low.false in (
       search rules,
       sym
           (turn c.before.before.before
           ∙ ⊎_elim
-          (λ w. simp (low, under, le-ltb _ _ w.0.taken, eq-eqb _ _ w.1.left))
-          (λ w. simp (low, under, lt-ltb _ _ w.left))
-          c.if3.branch),
+          (λ w. simp (low, under, le-ltb _ _ w.if-ceiling-high.true, eq-eqb _ _ w.if-high.false))
+          (λ w. simp (low, under, lt-ltb _ _ w.if-ceiling-high.false))
+          c.if-ceiling-high.branch-raw),
     )
 
-returns-4 : tie.Need-returns-4 invariant-loop decreases-loop
+returns-4 : tie.Need-returns invariant-loop decreases-loop
 returns-4 c =
-    let s = c.before.before.before in
-    let end = bounds_end s.args.section.now s.args.at s.args.t3 s.args.clocks c.before.loop.i c.loop-test.false in
-    sym end ∙ c.before.loop.invariant.1
+    let end = bounds_end c.args.section.now c.args.at c.args.ceilings c.args.clocks c.loop-i.i c.loop-i-test.false in
+    sym end ∙ c.loop-i.invariant.1
 
 pub bounds_good_spec : {M : Type 1} → statement M
-bounds_good_spec =
-    tie.close
-    (tie.spec
-    invariant-loop decreases-loop loop-holds (λ c. search rules) (λ c. search rules) (λ c κs. search rules) (λ c. search rules) (λ c. search rules)
-    (λ c. search rules) (λ c. search rules) (λ c κs. search rules) (λ c. search rules) (λ c. search rules) (λ c. search rules) returns returns-2
-    returns-3 (λ c. search rules) (λ c. search rules) loop-again returns-4)
+bounds_good_spec = tie.close (tie.spec invariant-loop decreases-loop loop-holds (λ c. search rules) (λ c. search rules) (λ c κs. search rules) (λ c. search rules) (λ c. search rules) (λ c. search rules) (λ c. search rules) (λ c κs. search rules) (λ c. search rules) (λ c. search rules) (λ c. search rules) returns returns-2 returns-3 (λ c. search rules) (λ c. search rules) loop-again returns-4)

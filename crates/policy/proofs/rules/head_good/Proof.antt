@@ -42,81 +42,75 @@ left2 s = inputs s && left3 s
 abbrev left1 : tie.Start → Bool
 left1 s = ltb (byte_at s.args.section.now s.args.at) s.args.shape.locations && left2 s
 
-abbrev start1 : tie.Else1 → tie.Start
+abbrev start1 : tie.Else-source-before → tie.Start
 start1 c = c.before.before.before
 
-abbrev start2 : tie.Else2 → tie.Start
+abbrev start2 : tie.Else-shape-source → tie.Start
 start2 c = start1 c.before.before
 
-abbrev start3 : tie.Else3 → tie.Start
+abbrev start3 : tie.Else-not-mask_good → tie.Start
 start3 c = start2 c.before.before.before.before
 
-abbrev start4 : tie.Else4 → tie.Start
+abbrev start4 : tie.Else-not-mask_good-2 → tie.Start
 start4 c = start3 c.before.before.before.before
 
-abbrev start5 : tie.Else5 → tie.Start
+abbrev start5 : tie.Else-shape-byte_within → tie.Start
 start5 c = start4 c.before.before.before
 
-inputs_told : (c : tie.After-mask-good) → inputs (start2 c.before.before.before) ≡ c.mask-good.result
+inputs_told : (c : tie.After-mask_good) → inputs (start2 c.before.before.before) ≡ c.mask_good.result
 inputs_told c = cc
 
-outputs_told : (c : tie.After-mask-good2) → outputs (start3 c.before.before.before) ≡ c.mask-good2.result
+outputs_told : (c : tie.After-mask_good-2) → outputs (start3 c.before.before.before) ≡ c.mask_good-2.result
 outputs_told c = cc
 
-past1 : (c : tie.Else1) → whole (start1 c) ≡ left1 (start1 c)
+past1 : (c : tie.Else-source-before) → whole (start1 c) ≡ left1 (start1 c)
 unfolding head_good rule_from
-past1 c = simp (← c.before.byte-within.ensures.0, le-leb _ _ c.if1.false)
+past1 c = simp (← c.byte_within-source.ensures.0, le-leb _ _ c.if-source-before.false)
 
-past2 : (c : tie.Else2) → whole (start2 c) ≡ left2 (start2 c)
+past2 : (c : tie.Else-shape-source) → whole (start2 c) ≡ left2 (start2 c)
 past2 c =
-    let c1 = c.before.before in past1 c1 ∙ simp (← c1.before.byte-within.ensures.0, lt-ltb _ _ c.if2.false)
+    past1 c.before.before ∙ simp (← c.byte_within-source.ensures.0, lt-ltb _ _ c.if-shape-source.false)
 
-past3 : (c : tie.Else3) → whole (start3 c) ≡ left3 (start3 c)
+past3 : (c : tie.Else-not-mask_good) → whole (start3 c) ≡ left3 (start3 c)
 past3 c =
-    past2 c.before.before.before.before ∙ simp (inputs_told c.before ∙ not-false _ c.if3.false)
+    past2 c.before.before.before.before ∙ simp (inputs_told c.before ∙ c.if-not-mask_good.false)
 
-past4 : (c : tie.Else4) → whole (start4 c) ≡ left4 (start4 c)
+past4 : (c : tie.Else-not-mask_good-2) → whole (start4 c) ≡ left4 (start4 c)
 past4 c =
-    past3 c.before.before.before.before ∙ simp (outputs_told c.before ∙ not-false _ c.if4.false)
+    past3 c.before.before.before.before ∙ simp (outputs_told c.before ∙ c.if-not-mask_good-2.false)
 
-past5 : (c : tie.Else5) → whole (start5 c) ≡ left5 (start5 c)
+past5 : (c : tie.Else-shape-byte_within) → whole (start5 c) ≡ left5 (start5 c)
 past5 c =
     past4 c.before.before.before
-    ∙ simp (← c.before.byte-within6.ensures.0, lt-ltb _ _ (rw (one_shl _ (start5 c).requires.0.1.clocks) at c.if5.false))
+    ∙ simp (← c.byte_within-5.ensures.0, lt-ltb _ _ (rw (one_shl _ (start5 c).requires.0.1.clocks) at c.if-shape-byte_within.false))
 
-returns : tie.Need-returns
+returns : tie.Need-returns-then-source-before
 unfolding head_good rule_from
-returns c = simp (← c.before.byte-within.ensures.0, lt-leb _ _ c.if1.true)
+returns c = simp (← c.byte_within-source.ensures.0, lt-leb _ _ c.if-source-before.true)
 
-returns-2 : tie.Need-returns-2
+returns-2 : tie.Need-returns-then-shape-source
 returns-2 c =
-    let c1 = c.before.before in sym (past1 c1 ∙ simp (← c1.before.byte-within.ensures.0, le-ltb _ _ c.if2.true))
+    sym (past1 c.before.before ∙ simp (← c.byte_within-source.ensures.0, le-ltb _ _ c.if-shape-source.true))
 
-returns-3 : tie.Need-returns-3
+returns-3 : tie.Need-returns-then-not-mask_good
 returns-3 c =
-    sym (past2 c.before.before.before.before ∙ simp (inputs_told c.before ∙ not-true _ c.if3.true))
+    sym (past2 c.before.before.before.before ∙ simp (inputs_told c.before ∙ c.if-not-mask_good.true))
 
-returns-4 : tie.Need-returns-4
+returns-4 : tie.Need-returns-then-not-mask_good-2
 returns-4 c =
-    sym (past3 c.before.before.before.before ∙ simp (outputs_told c.before ∙ not-true _ c.if4.true))
+    sym (past3 c.before.before.before.before ∙ simp (outputs_told c.before ∙ c.if-not-mask_good-2.true))
 
-returns-5 : tie.Need-returns-5
+returns-5 : tie.Need-returns-then-shape-byte_within
 returns-5 c =
-    let c4 = c.before.before.before in
-    sym (past4 c4 ∙ simp (← c.before.byte-within6.ensures.0, le-ltb _ _ (rw (one_shl _ (start4 c4).requires.0.1.clocks) at c.if5.true)))
+    sym (past4 c.before.before.before ∙ simp (← c.byte_within-5.ensures.0, le-ltb _ _ (rw (one_shl _ (start4 c.before.before.before).requires.0.1.clocks) at c.if-shape-byte_within.true)))
 
-returns-6 : tie.Need-returns-6
+returns-6 : tie.Need-returns-then-target-shape
 returns-6 c =
-    sym (past5 c.before.before.before ∙ simp (← c.before.before.byte-within7.ensures.0, lt-ltb _ _ c.if6.true))
+    sym (past5 c.before.before.before ∙ simp (← c.byte_within-target.ensures.0, lt-ltb _ _ c.if-target-shape.true))
 
-returns-7 : tie.Need-returns-7
+returns-7 : tie.Need-returns
 returns-7 c =
-    sym (past5 c.before.before.before ∙ simp (← c.before.before.byte-within7.ensures.0, le-ltb _ _ c.if6.false))
+    sym (past5 c.before.before.before ∙ simp (← c.byte_within-target.ensures.0, le-ltb _ _ c.if-target-shape.false))
 
 pub head_good_spec : {M : Type 1} → statement M
-head_good_spec =
-    tie.close
-    (tie.spec
-    (λ c κs. search rules) returns returns-2 (λ c. search rules) (λ c κs. search rules) (λ c. search rules) (λ c κs. search rules)
-    (λ c κs. search rules) returns-3 (λ c. search rules) (λ c κs. search rules) (λ c. search rules) (λ c κs. search rules) (λ c κs. search rules)
-    returns-4 (λ c. search rules) (λ c. search rules) (λ c κs. search rules) returns-5 (λ c. search rules) (λ c κs. search rules) returns-6 returns-7)
+head_good_spec = tie.close (tie.spec (λ c κs. search rules) returns returns-2 (λ c. search rules) (λ c κs. search rules) (λ c. search rules) (λ c κs. search rules) (λ c κs. search rules) returns-3 (λ c. search rules) (λ c κs. search rules) (λ c. search rules) (λ c κs. search rules) (λ c κs. search rules) returns-4 (λ c. search rules) (λ c. search rules) (λ c κs. search rules) returns-5 (λ c. search rules) (λ c κs. search rules) returns-6 returns-7)

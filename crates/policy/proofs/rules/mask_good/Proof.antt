@@ -6,13 +6,13 @@ use Rattle.policy.proofs.RuleLaws.{one_shl}
 use Rattle.policy.proofs.rules.mask_good.Statement.{statement}
 use Rattle.policy.proofs.rules.mask_good.Tie as tie
 
-returns : tie.Need-returns
+returns : tie.Need-returns-then-care-signals
 unfolding mask_good
-returns c = simp (lt-ltb _ _ (rw (one_shl _ c.before.requires) at c.if1.true))
+returns c = simp (lt-ltb _ _ (rw (one_shl _ c.requires) at c.if-care-signals.true))
 
-returns-2 : tie.Need-returns-2
+returns-2 : tie.Need-returns-else-care-signals
 unfolding mask_good
-returns-2 c = simp (le-ltb _ _ (rw (one_shl _ c.before.requires) at c.if1.false))
+returns-2 c = simp (le-ltb _ _ (rw (one_shl _ c.requires) at c.if-care-signals.false))
 
 pub mask_good_spec : {M : Type 1} → statement M
 mask_good_spec = tie.close (tie.spec (λ c. search rules) returns returns-2)

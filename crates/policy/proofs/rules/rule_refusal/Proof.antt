@@ -16,31 +16,29 @@ use Rattle.policy.proofs.rules.rule_refusal.Tie as tie
 clocks : (s : tie.Start) → length (take s.args.shape.clocks s.args.shape.ceilings) ≡ s.args.shape.clocks
 clocks s =
     let cs = s.args.shape.ceilings in
-    let four : length (map (λ (c : ℕ). c) cs) ≡ 4 = s.well-formed.1.1.0.1.1.1.1.1.1.0.1.0.1 in
-    length-take-le s.args.shape.clocks cs (omega (arith, length-map cs (λ (c : ℕ). c)))
+    let four : length cs ≡ 4 = s.well_formed.1.1.0.1.1.1.1.1.1.0.1.0.1 in
+    length-take-le s.args.shape.clocks cs (omega arith)
 
-returns : tie.Need-returns
+returns : tie.Need-returns-then-not-head_good
 unfolding rule_refusal
-returns c = simp (clocks c.before.before.before, sym c.before.head-good.ensures ∙ not-true _ c.if1.true)
+returns c = simp (clocks c.before.before.before, sym c.head_good.ensures ∙ c.if-not-head_good.true)
 
-returns-2 : tie.Need-returns-2
+returns-2 : tie.Need-returns-then-bounds_good
 unfolding rule_refusal rule_from
 returns-2 c =
-    let passed = c.before.before.before in
     simp (
-      clocks passed.before.before.before,
-      sym passed.before.head-good.ensures ∙ not-false _ passed.if1.false,
-      sym c.before.bounds-good.ensures ∙ c.if2.true,
+      clocks c.before.before.before.before.before.before,
+      sym c.head_good.ensures ∙ c.if-not-head_good.false,
+      sym c.bounds_good.ensures ∙ c.if-bounds_good.true,
     )
 
-returns-3 : tie.Need-returns-3
+returns-3 : tie.Need-returns-else-bounds_good
 unfolding rule_refusal rule_from
 returns-3 c =
-    let passed = c.before.before.before in
     simp (
-      clocks passed.before.before.before,
-      sym passed.before.head-good.ensures ∙ not-false _ passed.if1.false,
-      sym c.before.bounds-good.ensures ∙ c.if2.false,
+      clocks c.before.before.before.before.before.before,
+      sym c.head_good.ensures ∙ c.if-not-head_good.false,
+      sym c.bounds_good.ensures ∙ c.if-bounds_good.false,
     )
 
 pub rule_refusal_spec : {M : Type 1} → statement M

@@ -14,38 +14,34 @@ use Rattle.policy.proofs.sections.inputs_refusal.Statement.{statement}
 use Rattle.policy.proofs.sections.inputs_refusal.Tie as tie
 
 -- the section's refusal, and that of its contents
-counted : (c : tie.After-section-refusal) →
-    let f = c.before.before.before.args.file.now in
-    c.section-refusal.result ≡ section_refusal f 0 1 (input_count f) 0 4 1
+counted : (c : tie.After-section_refusal-r) →
+    let f = c.args.file.now in
+    c.section_refusal-r.result ≡ section_refusal f 0 1 (input_count f) 0 4 1
 counted c = cc
 
-judged : (c : tie.After-tags-good) →
-    c.tags-good.result ≡ tags_good [] (input_tags c.before.before.before.before.before.before.before.args.file.now)
-judged c = c.tags-good.ensures ∙ rw add-sub_cancel_left (cc)
+judged : (c : tie.After-tags_good) →
+    c.tags_good.result ≡ tags_good [] (input_tags c.args.file.now)
+judged c = c.tags_good.ensures ∙ rw add-sub_cancel_left (cc)
 
-fits : (c : tie.Else1) → 1 + c.before.before.byte_at.result * 1 ≤ length c.before.before.before.before.args.file.now
-fits c = (section_fits _ _ _ _ _ _ _ (sym c.before.section-refusal.ensures ∙ c.if1.false)).2
+fits : (c : tie.Else-r-ne0) → 1 + c.byte_at-n.result * 1 ≤ length c.args.file.now
+fits c = (section_fits _ _ _ _ _ _ _ (sym c.section_refusal-r.ensures ∙ c.if-r-ne0.false)).2
 
-returns : tie.Need-returns
+returns : tie.Need-returns-then-r-ne0
 unfolding inputs_refusal
-returns c = rw (← counted c.before, first_refused _ _ c.if1.true)
+returns c = rw (← counted c.before, first_refused _ _ c.if-r-ne0.true)
 
-part-tags-good-end : tie.Need-slice-bounds-tags-good-end
-part-tags-good-end c = omega (arith, fits c.before)
+part-tags-good-end : tie.Need-slice_bounds-tags_good-end-2
+part-tags-good-end c = omega (arith, fits c)
 
-returns-2 : tie.Need-returns-2
+returns-2 : tie.Need-returns-then-tags_good
 unfolding inputs_refusal
 returns-2 c =
-    let e = c.before.before.before.before in rw (← counted e.before, e.if1.false, ← judged c.before, c.if2.true)
+    rw (← counted c.before.before.before.before, c.if-r-ne0.false, ← judged c.before, c.if-tags_good.true)
 
-returns-3 : tie.Need-returns-3
+returns-3 : tie.Need-returns-else-tags_good
 unfolding inputs_refusal
 returns-3 c =
-    let e = c.before.before.before.before in rw (← counted e.before, e.if1.false, ← judged c.before, c.if2.false)
+    rw (← counted c.before.before.before.before, c.if-r-ne0.false, ← judged c.before, c.if-tags_good.false)
 
 pub inputs_refusal_spec : {M : Type 1} → statement M
-inputs_refusal_spec =
-    tie.close
-    (tie.spec
-    (λ c κs. search rules) (λ c κs. search rules) returns (λ c. search rules) (λ c. search rules) (λ c. search rules) (λ c. search rules)
-    part-tags-good-end (λ c κs. search rules) returns-2 returns-3)
+inputs_refusal_spec = tie.close (tie.spec (λ c κs. search rules) (λ c κs. search rules) returns (λ c. search rules) (λ c. search rules) (λ c. search rules) (λ c. search rules) part-tags-good-end (λ c κs. search rules) returns-2 returns-3)

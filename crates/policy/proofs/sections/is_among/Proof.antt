@@ -9,27 +9,22 @@ use Rattle.policy.proofs.Laws.{among_turn, among_end}
 use Rattle.policy.proofs.sections.is_among.Statement.{statement}
 use Rattle.policy.proofs.sections.is_among.Tie as tie
 
-abbrev invariant-loop : tie.invariant-loop
+abbrev invariant-loop : tie.invariant-loop-i
 invariant-loop t tags i₀ i = (i ≤ length tags) × (among t (drop i tags) ≡ among t tags)
 
-abbrev decreases-loop : tie.decreases-loop
+abbrev decreases-loop : tie.decreases-loop-i
 decreases-loop t tags i₀ i = length tags - i
 
-returns : tie.Need-returns invariant-loop decreases-loop
+returns : tie.Need-returns-then-tags-i invariant-loop decreases-loop
 returns c =
-    let l = c.before.before.before in
-    rw (← l.loop.invariant.1, among_turn _ _ _ c.before.before.loop-test.true, eq-eqb _ _ c.if1.true)
+    rw (← c.loop-i.invariant.1, among_turn _ _ _ c.loop-i-test.true, eq-eqb _ _ c.if-tags-i.true)
 
-loop-again : tie.Need-loop-preserved invariant-loop decreases-loop
+loop-again : tie.Need-loop-i-preserved invariant-loop decreases-loop
 loop-again c =
-    let l = c.before.before.before in
-    (search rules, rw (← l.loop.invariant.1, among_turn _ _ _ c.before.before.loop-test.true, ne_eqb _ _ c.if1.false))
+    (search rules, rw (← c.loop-i.invariant.1, among_turn _ _ _ c.loop-i-test.true, ne_eqb _ _ c.if-tags-i.false))
 
-returns-2 : tie.Need-returns-2 invariant-loop decreases-loop
-returns-2 c = rw (← c.before.loop.invariant.1, among_end _ _ _ c.loop-test.false)
+returns-2 : tie.Need-returns invariant-loop decreases-loop
+returns-2 c = rw (← c.loop-i.invariant.1, among_end _ _ _ c.loop-i-test.false)
 
 pub is_among_spec : {M : Type 1} → statement M
-is_among_spec =
-    tie.close
-    (tie.spec
-    invariant-loop decreases-loop (λ c. search rules) (λ c. search rules) returns (λ c. search rules) (λ c. search rules) loop-again returns-2)
+is_among_spec = tie.close (tie.spec invariant-loop decreases-loop (λ c. search rules) (λ c. search rules) returns (λ c. search rules) (λ c. search rules) loop-again returns-2)

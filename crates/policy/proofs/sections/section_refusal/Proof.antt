@@ -9,48 +9,46 @@ use Rattle.policy.proofs.sections.section_refusal.Statement.{statement}
 use Rattle.policy.proofs.sections.section_refusal.Tie as tie
 
 -- a count within its limits times the size of an item fits
-area : (c : tie.Else3) → c.before.before.before.args.n * c.before.before.before.args.size ≤ 65536 * 65536
+area : (c : tie.Else-high-n) → c.args.n * c.args.size ≤ 65536 * 65536
 area c = mul-le-mul {n₂ = 65536} {m₂ = 65536} (omega arith) (omega arith)
 
-returns : tie.Need-returns
+returns : tie.Need-returns-then-file-at
 unfolding section_refusal
-returns c = simp (lt-leb _ _ c.if1.true)
+returns c = simp (lt-leb _ _ c.if-file-at.true)
 
-returns-2 : tie.Need-returns-2
+returns-2 : tie.Need-returns-then-n-low
 unfolding section_refusal
-returns-2 c = simp (le-leb _ _ c.before.if1.false, lt-leb _ _ c.if2.true)
+returns-2 c = simp (le-leb _ _ c.if-file-at.false, lt-leb _ _ c.if-n-low.true)
 
-returns-3 : tie.Need-returns-3
+returns-3 : tie.Need-returns-then-high-n
 unfolding section_refusal
 returns-3 c =
-    simp (le-leb _ _ c.before.before.if1.false, le-leb _ _ c.before.if2.false, lt-leb _ _ c.if3.true)
+    simp (le-leb _ _ c.if-file-at.false, le-leb _ _ c.if-n-low.false, lt-leb _ _ c.if-high-n.true)
 
-mul-if4 : tie.Need-overflow-mul-if4
+mul-if4 : tie.Need-overflow_mul-n
 mul-if4 c = omega (arith, area c)
 
-add-if4-2 : tie.Need-overflow-add-if4-2
+add-if4-2 : tie.Need-overflow_add-at-3
 add-if4-2 c = omega (arith, area c)
 
-returns-4 : tie.Need-returns-4
+returns-4 : tie.Need-returns-then-file-at-2
 unfolding section_refusal
 returns-4 c =
-    let g = c.before in
     simp (
-      le-leb _ _ g.before.before.if1.false,
-      le-leb _ _ g.before.if2.false,
-      le-leb _ _ g.if3.false,
-      lt-leb _ _ c.if4.true,
+      le-leb _ _ c.if-file-at.false,
+      le-leb _ _ c.if-n-low.false,
+      le-leb _ _ c.if-high-n.false,
+      lt-leb _ _ c.if-file-at-2.true,
     )
 
-returns-5 : tie.Need-returns-5
+returns-5 : tie.Need-returns
 unfolding section_refusal
 returns-5 c =
-    let g = c.before in
     simp (
-      le-leb _ _ g.before.before.if1.false,
-      le-leb _ _ g.before.if2.false,
-      le-leb _ _ g.if3.false,
-      le-leb _ _ c.if4.false,
+      le-leb _ _ c.if-file-at.false,
+      le-leb _ _ c.if-n-low.false,
+      le-leb _ _ c.if-high-n.false,
+      le-leb _ _ c.if-file-at-2.false,
     )
 
 pub section_refusal_spec : {M : Type 1} → statement M

@@ -10,39 +10,34 @@ use Rattle.policy.proofs.Laws.{states_more}
 use Rattle.policy.proofs.sections.states_of.Statement.{statement}
 use Rattle.policy.proofs.sections.states_of.Tie as tie
 
-abbrev invariant-loop : tie.invariant-loop
+abbrev invariant-loop : tie.invariant-loop-i
 invariant-loop clocks locations ceilings states₀ i₀ states i = (i ≤ clocks) × (states ≡ states_of ceilings i locations)
 
-abbrev decreases-loop : tie.decreases-loop
+abbrev decreases-loop : tie.decreases-loop-i
 decreases-loop clocks locations ceilings states₀ i₀ states i = clocks - i
 
-loop-holds : tie.Need-loop-init invariant-loop decreases-loop
+loop-holds : tie.Need-loop-i-init invariant-loop decreases-loop
 unfolding states_of
 loop-holds c = search rules
 
-add-states : tie.Need-overflow-add-states invariant-loop decreases-loop
-add-states c = omega (arith, c.before.before.requires.2 c.before.loop.i c.loop-test.true)
+add-states : tie.Need-overflow_add-states invariant-loop decreases-loop
+add-states c = omega (arith, c.requires.2 c.loop-i.i c.loop-i-test.true)
 
-mul-states-2 : tie.Need-overflow-mul-states-2 invariant-loop decreases-loop
+mul-states-2 : tie.Need-overflow_mul-states invariant-loop decreases-loop
 mul-states-2 c =
-    let a = c.before.before in
-    let i = c.before.loop.i in
+    let i = c.loop-i.i in
     omega (
       arith,
-      ap (λ (s : ℕ). s * (get_or a.args.t1 i 0 + 1)) c.before.loop.invariant.1,
-      states_more a.args.t1 i a.args.locations,
-      states_fit a.args.t1 {k = i + 1} {l = a.args.locations} (λ j h. a.requires.2 j (omega arith)) a.requires.1 (omega arith),
+      ap (λ (s : ℕ). s * (get_or c.args.ceilings i 0 + 1)) c.loop-i.invariant.1,
+      states_more c.args.ceilings i c.args.locations,
+      states_fit c.args.ceilings {k = i + 1} {l = c.args.locations} (λ j h. c.requires.2 j (omega arith)) c.requires.1 (omega arith),
     )
 
-loop-again : tie.Need-loop-preserved invariant-loop decreases-loop
-loop-again c = (search rules, rw (c.before.loop.invariant.1, states_more))
+loop-again : tie.Need-loop-i-preserved invariant-loop decreases-loop
+loop-again c = (search rules, rw (c.loop-i.invariant.1, states_more))
 
 returns : tie.Need-returns invariant-loop decreases-loop
-returns c = let e : c.before.loop.i ≡ c.before.before.args.clocks = omega arith in cc
+returns c = let e : c.loop-i.i ≡ c.args.clocks = omega arith in cc
 
 pub states_of_spec : {M : Type 1} → statement M
-states_of_spec =
-    tie.close
-    (tie.spec
-    invariant-loop decreases-loop loop-holds (λ c. search rules) (λ c. search rules) (λ c. search rules) add-states mul-states-2 (λ c. search rules)
-    (λ c. search rules) loop-again returns)
+states_of_spec = tie.close (tie.spec invariant-loop decreases-loop loop-holds (λ c. search rules) (λ c. search rules) (λ c. search rules) add-states mul-states-2 (λ c. search rules) (λ c. search rules) loop-again returns)

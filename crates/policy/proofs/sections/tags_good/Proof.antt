@@ -12,81 +12,68 @@ use Rattle.policy.proofs.Laws.{tags_turn, tags_end}
 use Rattle.policy.proofs.sections.tags_good.Statement.{statement}
 use Rattle.policy.proofs.sections.tags_good.Tie as tie
 
-abbrev invariant-loop : tie.invariant-loop
+abbrev invariant-loop : tie.invariant-loop-i
 invariant-loop before tags i₀ i = (i ≤ length tags) × (tags_good (before ++ take i tags) (drop i tags) ≡ tags_good before tags)
 
-abbrev decreases-loop : tie.decreases-loop
+abbrev decreases-loop : tie.decreases-loop-i
 decreases-loop before tags i₀ i = length tags - i
 
-loop-holds : tie.Need-loop-init invariant-loop decreases-loop
+loop-holds : tie.Need-loop-i-init invariant-loop decreases-loop
 loop-holds c = (search rules, rw append-nil)
 
-returns : tie.Need-returns invariant-loop decreases-loop
+returns : tie.Need-returns-then-t-lt65 invariant-loop decreases-loop
 returns c =
-    let l = c.before.before in
-    rw (← l.before.loop.invariant.1, tags_turn _ _ _ l.loop-test.true, lt-leb _ _ c.if1.true)
+    rw (← c.loop-i.invariant.1, tags_turn _ _ _ c.loop-i-test.true, lt-leb _ _ c.if-t-lt65.true)
 
-returns-2 : tie.Need-returns-2 invariant-loop decreases-loop
+returns-2 : tie.Need-returns-then-t-gt90 invariant-loop decreases-loop
 returns-2 c =
-    let l = c.before.before.before in
     rw (
-      ← l.before.loop.invariant.1,
-      tags_turn _ _ _ l.loop-test.true,
-      le-leb _ _ c.before.if1.false,
-      lt-leb _ _ c.if2.true,
+      ← c.loop-i.invariant.1,
+      tags_turn _ _ _ c.loop-i-test.true,
+      le-leb _ _ c.if-t-lt65.false,
+      lt-leb _ _ c.if-t-gt90.true,
     )
 
-returns-3 : tie.Need-returns-3 invariant-loop decreases-loop
+returns-3 : tie.Need-returns-then-is_among invariant-loop decreases-loop
 returns-3 c =
-    let g = c.before.before in
-    let l = g.before.before.before in
     rw (
-      ← l.before.loop.invariant.1,
-      tags_turn _ _ _ l.loop-test.true,
-      le-leb _ _ g.before.if1.false,
-      le-leb _ _ g.if2.false,
-      sym c.before.is_among.ensures ∙ c.if3.true,
+      ← c.loop-i.invariant.1,
+      tags_turn _ _ _ c.loop-i-test.true,
+      le-leb _ _ c.if-t-lt65.false,
+      le-leb _ _ c.if-t-gt90.false,
+      sym c.is_among.ensures ∙ c.if-is_among.true,
     )
 
-slice-aggregate-is-among : tie.Need-slice-aggregate-is-among invariant-loop decreases-loop
+slice-aggregate-is-among : tie.Need-slice_bounds-is_among-end invariant-loop decreases-loop
 slice-aggregate-is-among c = sym (length-take-le _ _ (omega arith))
 
-returns-4 : tie.Need-returns-4 invariant-loop decreases-loop
+returns-4 : tie.Need-returns-then-is_among-2 invariant-loop decreases-loop
 returns-4 c =
-    let w = c.before.before.before in
-    let g = w.before.before in
-    let l = g.before.before.before in
     rw (
-      ← l.before.loop.invariant.1,
-      tags_turn _ _ _ l.loop-test.true,
-      le-leb _ _ g.before.if1.false,
-      le-leb _ _ g.if2.false,
-      sym w.before.is_among.ensures ∙ w.if3.false,
-      sym c.before.is-among2.ensures ∙ c.if4.true,
+      ← c.loop-i.invariant.1,
+      tags_turn _ _ _ c.loop-i-test.true,
+      le-leb _ _ c.if-t-lt65.false,
+      le-leb _ _ c.if-t-gt90.false,
+      sym c.is_among.ensures ∙ c.if-is_among.false,
+      sym c.is_among-in-loop-i.ensures ∙ c.if-is_among-2.true,
     )
 
-loop-again : tie.Need-loop-preserved invariant-loop decreases-loop
+loop-again : tie.Need-loop-i-preserved invariant-loop decreases-loop
 loop-again c =
-    let w = c.before.before.before in
-    let g = w.before.before in
-    let l = g.before.before.before in (
+    (
       search rules,
       rw (
-        ← l.before.loop.invariant.1,
-        tags_turn _ _ _ l.loop-test.true,
-        le-leb _ _ g.before.if1.false,
-        le-leb _ _ g.if2.false,
-        sym w.before.is_among.ensures ∙ w.if3.false,
-        sym c.before.is-among2.ensures ∙ c.if4.false,
+        ← c.loop-i.invariant.1,
+        tags_turn _ _ _ c.loop-i-test.true,
+        le-leb _ _ c.if-t-lt65.false,
+        le-leb _ _ c.if-t-gt90.false,
+        sym c.is_among.ensures ∙ c.if-is_among.false,
+        sym c.is_among-in-loop-i.ensures ∙ c.if-is_among-2.false,
       ),
     )
 
-returns-5 : tie.Need-returns-5 invariant-loop decreases-loop
-returns-5 c = rw (← c.before.loop.invariant.1, tags_end _ _ _ c.loop-test.false)
+returns-5 : tie.Need-returns invariant-loop decreases-loop
+returns-5 c = rw (← c.loop-i.invariant.1, tags_end _ _ _ c.loop-i-test.false)
 
 pub tags_good_spec : {M : Type 1} → statement M
-tags_good_spec =
-    tie.close
-    (tie.spec
-    invariant-loop decreases-loop loop-holds (λ c. search rules) returns returns-2 (λ c κs. search rules) returns-3 slice-aggregate-is-among (λ c κs. search rules)
-    returns-4 (λ c. search rules) (λ c. search rules) loop-again returns-5)
+tags_good_spec = tie.close (tie.spec invariant-loop decreases-loop loop-holds (λ c. search rules) returns returns-2 (λ c κs. search rules) returns-3 slice-aggregate-is-among (λ c κs. search rules) returns-4 (λ c. search rules) (λ c. search rules) loop-again returns-5)

@@ -6,7 +6,7 @@ use Rattle.policy.proofs.signals.input_weight.Tie as tie
 
 returns : tie.Need-returns
 unfolding input_weight
-returns c = c.weight-at.ensures
+returns c = c.weight_at.ensures
 
 pub input_weight_spec : {M : Type 1} → statement M
 input_weight_spec = tie.close (tie.spec (λ c κs. search rules) returns)

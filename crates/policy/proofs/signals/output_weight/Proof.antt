@@ -10,8 +10,8 @@ use Rattle.policy.proofs.signals.output_weight.Tie as tie
 returns : tie.Need-returns
 unfolding outputs_at output_weight
 returns c =
-    let a = c.before.before.before.args in
-    c.weight-at.ensures ∙ ap (λ (n : ℕ). weight_at a.file.now (1 + n) a.tag) c.before.byte_at.ensures.0
+    let a = c.args in
+    c.weight_at.ensures ∙ ap (λ (n : ℕ). weight_at a.file.now (1 + n) a.tag) c.byte_at-inputs.ensures.0
 
 pub output_weight_spec : {M : Type 1} → statement M
 output_weight_spec = tie.close (tie.spec (λ c κs. search rules) (λ c. search rules) (λ c κs. search rules) returns)
