@@ -12,76 +12,65 @@ use Rattle.index.proofs.Laws.{entry_same, other_length, other_entry, all_same}
 use Rattle.index.proofs.is_index.Statement.{statement}
 use Rattle.index.proofs.is_index.Tie as tie
 
-abbrev invariant-loop : tie.invariant-loop
+abbrev invariant-loop : tie.invariant-loop-location
 invariant-loop file layout index first₀ location₀ first location =
     (location ≤ 64) × (first ≡ lower location (rules_of file)) × (take (2 * location) index ≡ entries file location)
 
-abbrev decreases-loop : tie.decreases-loop
+abbrev decreases-loop : tie.decreases-loop-location
 decreases-loop file layout index first₀ location₀ first location = 64 - location
 
-returns : tie.Need-returns invariant-loop decreases-loop
-returns c = sym (other_length _ _ c.if1.true)
+returns : tie.Need-returns-then-index-ne-NUMBERS invariant-loop decreases-loop
+returns c = sym (other_length _ _ c.if-index-ne-NUMBERS.true)
 
-loop-holds : tie.Need-loop-init invariant-loop decreases-loop
+loop-holds : tie.Need-loop-location-init invariant-loop decreases-loop
 unfolding entries
 loop-holds c = (omega arith, sym (lower_none _), refl)
 
-shared-slice-read-t13 : tie.Need-shared-slice-read-t13 invariant-loop decreases-loop
-shared-slice-read-t13 c = let i = c.before in omega (arith, i.before.before.if1.false, i.loop-test.true)
+shared-slice-read-t13 : tie.Need-bounds-index-at invariant-loop decreases-loop
+shared-slice-read-t13 c = omega (arith, c.if-index-ne-NUMBERS.false, c.loop-location-test.true)
 
-cast-t14 : tie.Need-overflow-cast-t14 invariant-loop decreases-loop
-cast-t14 c = omega (arith, c.shared-slice-known3.given (2 * c.before.before.loop.location))
+cast-t14 : tie.Need-overflow_cast-given invariant-loop decreases-loop
+cast-t14 c = omega (arith, c.shared_slice_known-in-loop-location-1.given (2 * c.loop-location.location))
 
-shared-slice-read-t18 : tie.Need-shared-slice-read-t18 invariant-loop decreases-loop
-shared-slice-read-t18 c = let i = c.before.before in omega (arith, i.before.before.if1.false, i.loop-test.true)
+shared-slice-read-t18 : tie.Need-bounds-index-at-in-loop-location invariant-loop decreases-loop
+shared-slice-read-t18 c = omega (arith, c.if-index-ne-NUMBERS.false, c.loop-location-test.true)
 
-cast-t19 : tie.Need-overflow-cast-t19 invariant-loop decreases-loop
-cast-t19 c = omega (arith, c.shared-slice-known4.given (2 * c.before.before.before.loop.location + 1))
+cast-t19 : tie.Need-overflow_cast-given-in-loop-location invariant-loop decreases-loop
+cast-t19 c = omega (arith, c.shared_slice_known-in-loop-location-2-1.given (2 * c.loop-location.location + 1))
 
-is-entry-requires : tie.Need-is-entry-requires invariant-loop decreases-loop
+is-entry-requires : tie.Need-is_entry-requires invariant-loop decreases-loop
 is-entry-requires c κs =
-    let l = c.before.before.before in
-    (l.before.before.before.before.requires, l.loop.invariant.1, omega (arith, c.shared-slice-known4.given (2 * l.loop.location + 1)))
+    (c.requires, c.loop-location.invariant.1, omega (arith, c.shared_slice_known-in-loop-location-2-1.given (2 * c.loop-location.location + 1)))
 
-returns-2 : tie.Need-returns-2 invariant-loop decreases-loop
+returns-2 : tie.Need-returns-then-not-is_entry invariant-loop decreases-loop
 returns-2 c =
-    let e = c.before in
-    let i = e.before.before.before in
-    sym (other_entry _ _ i.before.loop.location i.loop-test.true (sym e.is-entry.ensures ∙ not-true _ c.if2.true))
+    sym (other_entry _ _ c.loop-location.location c.loop-location-test.true (sym c.is_entry.ensures ∙ c.if-not-is_entry.true))
 
 -- The numbers are the location's entry.
-same : (c : tie.Else2 invariant-loop decreases-loop) →
-    let l = c.before.before.before.before.before in
-    let a = l.before.before.before.before.args in
-    (get_or a.index.now (2 * l.loop.location) 0 ≡ (entry_of a.file.now l.loop.location).first)
-    × (get_or a.index.now (2 * l.loop.location + 1) 0 ≡ (entry_of a.file.now l.loop.location).number)
+same : (c : tie.Else-not-is_entry invariant-loop decreases-loop) →
+    let a = c.args in
+    (get_or a.index.now (2 * c.loop-location.location) 0 ≡ (entry_of a.file.now c.loop-location.location).first)
+    × (get_or a.index.now (2 * c.loop-location.location + 1) 0 ≡ (entry_of a.file.now c.loop-location.location).number)
 same c =
-    let k = (and-eq-true_iff _ _).0 (sym c.before.is-entry.ensures ∙ not-false _ c.if2.false) in
+    let k = (and-eq-true_iff _ _).0 (sym c.is_entry.ensures ∙ c.if-not-is_entry.false) in
     (eqb-true _ _ k.0, eqb-true _ _ k.1)
 
-add-first : tie.Need-overflow-add-first invariant-loop decreases-loop
+add-first : tie.Need-overflow_add-first invariant-loop decreases-loop
 add-first c =
-    let l = c.before.before.before.before.before.before in
-    let p = l.before.before.before.before.requires.passes in
-    omega (arith, (same c.before).1, entry_few _ p l.loop.location, lower_few _ p l.loop.location, l.loop.invariant.1)
+    let p = c.requires.passes in
+    omega (arith, (same c.before).1, entry_few _ p c.loop-location.location, lower_few _ p c.loop-location.location, c.loop-location.invariant.1)
 
-loop-again : tie.Need-loop-preserved invariant-loop decreases-loop
+loop-again : tie.Need-loop-location-preserved invariant-loop decreases-loop
 loop-again c =
-    let i = c.before.before.before.before.before in
-    let l = i.before in (
-      omega (arith, i.loop-test.true),
-      rw ((same c.before).1, l.loop.invariant.1) (sym (entry_next _ l.before.before.before.before.requires.passes l.loop.location)),
-      entry_same _ _ l.loop.location (omega (arith, l.before.if1.false, i.loop-test.true)) l.loop.invariant.2 (same c.before).0 (same c.before).1,
+    (
+      omega (arith, c.loop-location-test.true),
+      rw ((same c.before).1, c.loop-location.invariant.1) (sym (entry_next _ c.requires.passes c.loop-location.location)),
+      entry_same _ _ c.loop-location.location (omega (arith, c.if-index-ne-NUMBERS.false, c.loop-location-test.true)) c.loop-location.invariant.2 (same c.before).0 (same c.before).1,
     )
 
-returns-3 : tie.Need-returns-3 invariant-loop decreases-loop
+returns-3 : tie.Need-returns invariant-loop decreases-loop
 returns-3 c =
-    let l = c.before in
-    sym (all_same _ _ l.before.if1.false l.loop.location (omega (arith, l.loop.invariant.0, c.loop-test.false)) l.loop.invariant.2)
+    sym (all_same _ _ c.if-index-ne-NUMBERS.false c.loop-location.location (omega (arith, c.loop-location.invariant.0, c.loop-location-test.false)) c.loop-location.invariant.2)
 
 pub is_index_spec : {M : Type 1} → statement M
-is_index_spec =
-    tie.close
-    (tie.spec
-    invariant-loop decreases-loop returns loop-holds (λ c. omega arith) (λ c. omega arith) shared-slice-read-t13 cast-t14 (λ c. omega arith) (λ c. omega arith)
-    shared-slice-read-t18 cast-t19 is-entry-requires returns-2 add-first (λ c. omega arith) (λ c. omega arith) loop-again returns-3)
+is_index_spec = tie.close (tie.spec invariant-loop decreases-loop returns loop-holds (λ c. omega arith) (λ c. omega arith) shared-slice-read-t13 cast-t14 (λ c. omega arith) (λ c. omega arith) shared-slice-read-t18 cast-t19 is-entry-requires returns-2 add-first (λ c. omega arith) (λ c. omega arith) loop-again returns-3)

@@ -7,10 +7,8 @@ use Rattle.texts.proofs.put_about.Tie as tie
 
 returns : tie.Need-returns
 returns c =
-    let d = c.before.before.before.before.before.before in
-    let b = d.before.before.before.before in
-    let h = b.before.before.before.before.before.requires in
-    wrote_then (omega (arith, h)) (wrote_then (omega (arith, h)) b.put-bytes.ensures d.put-decimal.ensures) c.before.before.put-bytes2.ensures
+    let h = c.requires in
+    wrote_then (omega (arith, h)) (wrote_then (omega (arith, h)) c.put_bytes-number.ensures c.put_decimal-rest.ensures) c.put_bytes.ensures
 
 pub put_about_spec : {M : Type 1} → statement M
 put_about_spec = tie.close (tie.spec (λ c κs. search rules) (λ c κs. search rules) (λ c κs. search rules) (λ c. search rules) returns)

@@ -8,16 +8,15 @@ use Rattle.choice.specs.Table.{table}
 use Rattle.choice.proofs.chooser.nearest.Statement.{statement}
 use Rattle.choice.proofs.chooser.nearest.Tie as tie
 
-first-of-row-requires : tie.Need-first-of-row-requires
+first-of-row-requires : tie.Need-first_of_row-requires
 unfolding table
-first-of-row-requires c κs = (refl, omega arith, c.before.requires)
+first-of-row-requires c κs = (refl, omega arith, c.requires)
 
 returns : tie.Need-returns
 returns c =
-    let s = c.before.before in
-    let w = s.args.wanted in
+    let w = c.args.wanted in
     let e : w / 16 * 16 + w % 16 ≡ w = omega arith in
-    c.first-of-row.ensures ∙ sym (rw e at (nearest_high (has s.args.set) 4 (w / 16) (w % 16) s.args.n (omega arith) s.requires))
+    c.first_of_row.ensures ∙ sym (rw e at (nearest_high (has c.args.set) 4 (w / 16) (w % 16) c.args.n (omega arith) c.requires))
 
 pub nearest_spec : {M : Type 1} → statement M
 nearest_spec = tie.close (tie.spec first-of-row-requires returns)

@@ -6,7 +6,7 @@ use Rattle.choice.specs.After.{after}
 use Rattle.choice.proofs.sets.after.Statement.{statement}
 use Rattle.choice.proofs.sets.after.Tie as tie
 
-add-result : tie.Need-overflow-add-result
+add-result : tie.Need-overflow_add-result
 add-result c = omega (arith, or_lt 4 c.args.x c.args.care c.requires.1 c.requires.0)
 
 returns : tie.Need-returns

@@ -14,10 +14,10 @@ shift c =
     let l = pow-le-pow_right {n = 2} (omega arith) {i = c.args.n} {j = 16} (omega arith) in
     omega (arith, shl_exact {a = 1} 1 c.args.n 32 (omega arith) (omega arith), pow_pos c.args.n, l)
 
-sub-result : tie.Need-overflow-sub-result
+sub-result : tie.Need-overflow_sub-result
 sub-result c = omega (arith, shift c)
 
-cast-result-2 : tie.Need-overflow-cast-result-2
+cast-result-2 : tie.Need-overflow_cast-result-2
 cast-result-2 c = record { fits = omega (arith, shift c) }
 
 returns : tie.Need-returns

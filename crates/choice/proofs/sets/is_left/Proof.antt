@@ -7,38 +7,33 @@ use Rattle.choice.specs.After.{Idle, after_up, idle_start, idle_found, idle_more
 use Rattle.choice.proofs.sets.is_left.Statement.{statement}
 use Rattle.choice.proofs.sets.is_left.Tie as tie
 
-abbrev invariant-loop : tie.invariant-loop
+abbrev invariant-loop : tie.invariant-loop-x
 invariant-loop left inputs care value set x₀ x = Idle care value set left x
 
-abbrev decreases-loop : tie.decreases-loop
+abbrev decreases-loop : tie.decreases-loop-x
 decreases-loop left inputs care value set x₀ x = inputs - x
 
-loop-holds : tie.Need-loop-init invariant-loop decreases-loop
+loop-holds : tie.Need-loop-x-init invariant-loop decreases-loop
 loop-holds c = idle_start _ _ _ _ c.requires.2
 
-returns : tie.Need-returns invariant-loop decreases-loop
-returns c = let l = c.before.before.before in sym (idle_found _ _ _ _ l.loop.invariant c.before.before.loop-test.true c.if1.true)
+returns : tie.Need-returns-then-left-x-ne0 invariant-loop decreases-loop
+returns c = sym (idle_found _ _ _ _ c.loop-x.invariant c.loop-x-test.true c.if-left-x-ne0.true)
 
-after-requires : tie.Need-after-requires invariant-loop decreases-loop
-after-requires c κs = let s = c.before.before.before.before in (s.requires.1, omega arith)
+after-requires : tie.Need-after-x-requires invariant-loop decreases-loop
+after-requires c κs = (c.requires.1, omega arith)
 
-loop-less : tie.Need-loop-smaller invariant-loop decreases-loop
+loop-less : tie.Need-loop-x-smaller invariant-loop decreases-loop
 loop-less c =
-    let l = c.before.before.before.before in
-    let u : l.loop.x < 16 = omega arith in
-    omega (arith, after_up _ _ l.before.requires.1 u l.loop.invariant.here)
+    let u : c.loop-x.x < 16 = omega arith in
+    omega (arith, after_up _ _ c.requires.1 u c.loop-x.invariant.here)
 
-loop-again : tie.Need-loop-preserved invariant-loop decreases-loop
+loop-again : tie.Need-loop-x-preserved invariant-loop decreases-loop
 loop-again c =
-    let l = c.before.before.before.before in
-    let u : l.loop.x < 16 = omega arith in
-    rw c.after.ensures (idle_more _ _ _ _ l.before.requires.1 u l.loop.invariant c.before.if1.false)
+    let u : c.loop-x.x < 16 = omega arith in
+    rw c.after-x.ensures (idle_more _ _ _ _ c.requires.1 u c.loop-x.invariant c.if-left-x-ne0.false)
 
-returns-2 : tie.Need-returns-2 invariant-loop decreases-loop
-returns-2 c = let l = c.before.loop in sym (idle_done _ _ _ _ {x = l.x} (omega arith) l.invariant)
+returns-2 : tie.Need-returns invariant-loop decreases-loop
+returns-2 c = let l = c.loop-x in sym (idle_done _ _ _ _ {x = l.x} (omega arith) l.invariant)
 
 pub is_left_spec : {M : Type 1} → statement M
-is_left_spec =
-    tie.close
-    (tie.spec
-    invariant-loop decreases-loop loop-holds (λ c. search rules) (λ c. omega arith) returns after-requires loop-less loop-again returns-2)
+is_left_spec = tie.close (tie.spec invariant-loop decreases-loop loop-holds (λ c. search rules) (λ c. omega arith) returns after-requires loop-less loop-again returns-2)

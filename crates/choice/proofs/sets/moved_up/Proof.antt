@@ -11,14 +11,14 @@ use Rattle.choice.proofs.sets.moved_up.Tie as tie
 low : (s : tie.Start) → bit_and s.args.value s.args.care < 16
 low s = omega (arith, and_le_r s.args.value s.args.care)
 
-cast-result : tie.Need-overflow-cast-result
-cast-result c = record { fits = omega (arith, low c.before) }
+cast-result : tie.Need-overflow_cast-result
+cast-result c = record { fits = omega (arith, low c.before.before) }
 
-shl-result : tie.Need-overflow-shl-result
-shl-result c = omega (arith, low c.before)
+shl-result : tie.Need-overflow_shl-result
+shl-result c = omega (arith, low c.before.before)
 
 returns : tie.Need-returns
-returns c = let s = c.before in rw s.requires.0 (clear_outs s.args.care s.args.value s.requires.1 s.requires.2)
+returns c = rw c.requires.0 (clear_outs c.args.care c.args.value c.requires.1 c.requires.2)
 
 pub moved_up_spec : {M : Type 1} → statement M
 moved_up_spec = tie.close (tie.spec (λ c. search rules) (λ c. omega arith) cast-result shl-result returns)

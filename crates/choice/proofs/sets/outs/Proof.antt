@@ -5,7 +5,7 @@ use Rattle.choice.specs.Outs.{clear, outs_low}
 use Rattle.choice.proofs.sets.outs.Statement.{statement}
 use Rattle.choice.proofs.sets.outs.Tie as tie
 
-moved-up-requires : tie.Need-moved-up-requires
+moved-up-requires : tie.Need-moved_up-requires
 unfolding clear
 moved-up-requires c κs = (refl, omega arith, omega arith)
 

@@ -8,43 +8,36 @@ use Rattle.choice.specs.After.{Walked, after_up, walked_start, walked_more, walk
 use Rattle.choice.proofs.sets.take.Statement.{statement}
 use Rattle.choice.proofs.sets.take.Tie as tie
 
-abbrev invariant-loop : tie.invariant-loop
+abbrev invariant-loop : tie.invariant-loop-x
 invariant-loop left₀ inputs care value set x₀ left x = Walked care value (rest care value set left₀) inputs left₀ x left
 
-abbrev decreases-loop : tie.decreases-loop
+abbrev decreases-loop : tie.decreases-loop-x
 decreases-loop left₀ inputs care value set x₀ left x = inputs - x
 
-loop-holds : tie.Need-loop-init invariant-loop decreases-loop
+loop-holds : tie.Need-loop-x-init invariant-loop decreases-loop
 loop-holds c = walked_start _ _ _ _ _ (rest_still c.args.care c.args.value c.args.set c.args.left.now) c.requires.2
 
-after-requires : tie.Need-after-requires invariant-loop decreases-loop
-after-requires c κs = let s = c.before.before.before.before in (s.requires.1, omega arith)
+after-requires : tie.Need-after-x-requires invariant-loop decreases-loop
+after-requires c κs = (c.requires.1, omega arith)
 
-loop-less : tie.Need-loop-smaller invariant-loop decreases-loop
+loop-less : tie.Need-loop-x-smaller invariant-loop decreases-loop
 loop-less c =
-    let l = c.before.before.before.before in
-    let u : l.loop.x < 16 = omega arith in
-    omega (arith, after_up _ _ l.before.requires.1 u l.loop.invariant.here)
+    let u : c.loop-x.x < 16 = omega arith in
+    omega (arith, after_up _ _ c.requires.1 u c.loop-x.invariant.here)
 
-loop-again : tie.Need-loop-preserved invariant-loop decreases-loop
+loop-again : tie.Need-loop-x-preserved invariant-loop decreases-loop
 loop-again c =
-    let l = c.before.before.before.before in
-    let a = l.before.args in
-    let u : l.loop.x < 16 = omega arith in
-    let w = l.loop.invariant in
-    rw c.after.ensures
-    (walked_more _ _ _ _ _ (rest_still a.care a.value a.set a.left.now) l.before.requires.1 l.before.requires.0 c.before.before.before.loop-test.true
+    let a = c.args in
+    let u : c.loop-x.x < 16 = omega arith in
+    let w = c.loop-x.invariant in
+    rw c.after-x.ensures
+    (walked_more _ _ _ _ _ (rest_still a.care a.value a.set a.left.now) c.requires.1 c.requires.0 c.loop-x-test.true
     (omega arith) (rw (walked_now _ _ _ _ _ w, eq-eqb _ _ w.here) refl) w)
 
 returns : tie.Need-returns invariant-loop decreases-loop
 returns c =
-    let l = c.before in
-    let a = l.before.args in
-    walked_done _ _ _ _ _ (rest_still a.care a.value a.set a.left.now) {x = l.loop.x} (omega arith) l.loop.invariant
+    let a = c.args in
+    walked_done _ _ _ _ _ (rest_still a.care a.value a.set a.left.now) {x = c.loop-x.x} (omega arith) c.loop-x.invariant
 
 pub take_spec : {M : Type 1} → statement M
-take_spec =
-    tie.close
-    (tie.spec
-    invariant-loop decreases-loop loop-holds (λ c. search rules) (λ c. omega arith) (λ c. search rules) (λ c. omega arith) (λ c. search rules) (λ c. omega arith)
-    after-requires loop-less loop-again returns)
+take_spec = tie.close (tie.spec invariant-loop decreases-loop loop-holds (λ c. search rules) (λ c. omega arith) (λ c. search rules) (λ c. omega arith) (λ c. search rules) (λ c. omega arith) after-requires loop-less loop-again returns)

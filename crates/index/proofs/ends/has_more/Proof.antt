@@ -6,36 +6,32 @@ use Rattle.index.specs.Sections.{sections_limits, sections_passed, sections_with
 use Rattle.index.proofs.ends.has_more.Statement.{statement}
 use Rattle.index.proofs.ends.has_more.Tie as tie
 
-add-rule : tie.Need-overflow-add-rule
-add-rule c = let s = c.before in omega (arith, sections_passed s.requires.0 _ _ s.requires.1, s.requires.2)
+add-rule : tie.Need-overflow_add-rule
+add-rule c = omega (arith, sections_passed c.requires.0 _ _ c.requires.1, c.requires.2)
 
-returns : tie.Need-returns
-returns c = let s = c.before.before.before in sym (sections_past s.requires.0 _ _ s.requires.1 _ c.if1.true)
+returns : tie.Need-returns-then-layout-rule
+returns c = sym (sections_past c.requires.0 _ _ c.requires.1 _ c.if-layout-rule.true)
 
-mul-size : tie.Need-overflow-mul-size
-mul-size c = omega (arith, sections_limits c.before.before.before.before.requires.0)
+mul-size : tie.Need-overflow_mul-size
+mul-size c = omega (arith, sections_limits c.requires.0)
 
-add-size : tie.Need-overflow-add-size
-add-size c = omega (arith, sections_limits c.before.before.before.before.requires.0)
+add-size : tie.Need-overflow_add-size
+add-size c = omega (arith, sections_limits c.requires.0)
 
-mul-byte-within : tie.Need-overflow-mul-byte-within
-mul-byte-within c = let s = c.before.before.before.before in omega (arith, sections_within s.requires.0 (s.args.first + s.args.count) c.before.if1.false)
+mul-byte-within : tie.Need-overflow_mul-rule
+mul-byte-within c = omega (arith, sections_within c.requires.0 (c.args.first + c.args.count) c.if-layout-rule.false)
 
-add-byte-within : tie.Need-overflow-add-byte-within
+add-byte-within : tie.Need-overflow_add-layout
 add-byte-within c =
-    let e = c.before.before in
-    let s = e.before.before.before in omega (arith, sections_within s.requires.0 (s.args.first + s.args.count) e.if1.false)
+    omega (arith, sections_within c.requires.0 (c.args.first + c.args.count) c.if-layout-rule.false)
 
-byte-within-requires : tie.Need-byte-within-requires
+byte-within-requires : tie.Need-byte_within-requires
 byte-within-requires c κs =
-    let e = c.before.before in
-    let s = e.before.before.before in sections_within s.requires.0 (s.args.first + s.args.count) e.if1.false
+    sections_within c.requires.0 (c.args.first + c.args.count) c.if-layout-rule.false
 
-returns-2 : tie.Need-returns-2
+returns-2 : tie.Need-returns
 returns-2 c =
-    let e = c.before.before.before in
-    let s = e.before.before.before in
-    rw c.byte-within.ensures.0 (sections_more s.requires.0 _ _ s.requires.1 _ e.if1.false)
+    rw c.byte_within.ensures.0 (sections_more c.requires.0 _ _ c.requires.1 _ c.if-layout-rule.false)
 
 pub has_more_spec : {M : Type 1} → statement M
 has_more_spec = tie.close (tie.spec add-rule returns mul-size add-size mul-byte-within add-byte-within byte-within-requires returns-2)

@@ -4,25 +4,22 @@ use Rattle.index.proofs.Laws.{past_first, past_number, within_first, within_numb
 use Rattle.index.proofs.ends.is_entry.Statement.{statement}
 use Rattle.index.proofs.ends.is_entry.Tie as tie
 
-returns : tie.Need-returns
-returns c = let t = c.before.before in sym (past_first t.before.before.before.requires.0 _ _ t.if1.true c.if2.true)
+returns : tie.Need-returns-then-given-ne0
+returns c = sym (past_first c.requires.0 _ _ c.if-layout-location.true c.if-given-ne0.true)
 
-returns-2 : tie.Need-returns-2
-returns-2 c = let t = c.before.before in sym (past_number t.before.before.before.requires.0 _ _ t.if1.true c.if2.false)
+returns-2 : tie.Need-returns-then-layout-location
+returns-2 c = sym (past_number c.requires.0 _ _ c.if-layout-location.true c.if-given-ne0.false)
 
-returns-3 : tie.Need-returns-3
+returns-3 : tie.Need-returns-then-given-first
 returns-3 c =
-    let e = c.before.before in
-    let s = e.before.before.before in sym (within_first s.requires.0 _ _ e.if1.false s.requires.1 c.if3.true)
+    sym (within_first c.requires.0 _ _ c.if-layout-location.false c.requires.1 c.if-given-first.true)
 
-has-exactly-requires : tie.Need-has-exactly-requires
-has-exactly-requires c κs = c.before.before.before.before.before.requires
+has-exactly-requires : tie.Need-has_exactly-requires
+has-exactly-requires c κs = c.requires
 
-returns-4 : tie.Need-returns-4
+returns-4 : tie.Need-returns
 returns-4 c =
-    let e = c.before.before.before in
-    let s = e.before.before.before in
-    c.has-exactly.ensures ∙ sym (within_number s.requires.0 _ _ e.if1.false s.requires.1 c.before.if3.false)
+    c.has_exactly.ensures ∙ sym (within_number c.requires.0 _ _ c.if-layout-location.false c.requires.1 c.if-given-first.false)
 
 pub is_entry_spec : {M : Type 1} → statement M
 is_entry_spec = tie.close (tie.spec returns returns-2 returns-3 has-exactly-requires returns-4)
