@@ -49,8 +49,8 @@ loop-again c =
     let t = c.loop-i-test.true in
     let d = (is_entry c.before).0 in (
       omega arith,
-      ⊎_elim (λ w. left_passed _ _ _ h t d c.loop-i.invariant.1 (sym w.1.ensures ∙ w.2.left)) (λ w. left_out _ _ _ h t d c.loop-i.invariant.1 w.left)
-          c.if-value-n.branch,
+      ⊎_elim (λ w. left_passed _ _ _ h t d c.loop-i.invariant.1 (sym w.is_in.ensures ∙ w.if-is_in.false)) (λ w. left_out _ _ _ h t d c.loop-i.invariant.1 w.if-value-n.false)
+          c.if-value-n.branch-raw,
     )
 
 returns-2 : tie.Need-returns invariant-loop decreases-loop
