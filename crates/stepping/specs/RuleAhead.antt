@@ -118,7 +118,7 @@ ahead_at {f} {l} {a} {at} n zero h m =
     subst (RuleAt f l a) e (ahead_rule h m)
 ahead_at {f} {l} {a} {at} n (suc i) h m =
     let e : at + rule_size l.clocks + i * rule_size l.clocks ≡ at + suc i * rule_size l.clocks = omega (arith, suc-mul i (rule_size l.clocks)) in
-    subst (RuleAt f l a) e (ahead_at (n - 1) i (ahead_rest h (omega arith)) (omega arith))
+    subst (RuleAt f l a) e (ahead_at {at = at + rule_size l.clocks} (n - 1) i (ahead_rest h (omega arith)) (omega arith))
 
 -- No rules ahead are an empty list.
 pub none_ahead : (clocks : ℕ) (f : List ℕ) (at n : ℕ) → n ≡ 0 → rules_from clocks f at n ≡ []

@@ -4,11 +4,11 @@ use Rattle.stepping.specs.RuleAhead.{all_ahead}
 use Rattle.stepping.proofs.ahead.rules_ahead.Statement.{statement}
 use Rattle.stepping.proofs.ahead.rules_ahead.Tie as tie
 
-add_at : tie.Need-overflow-add-at
-add_at c = let s = c.before.before in omega (arith, (all_ahead s.requires.0 s.requires.1).ahead)
+add_at : tie.Need-overflow_add-at
+add_at c = omega (arith, (all_ahead c.requires.0 c.requires.1).ahead)
 
 returns : tie.Need-returns
-returns c = let s = c.before.before in all_ahead s.requires.0 s.requires.1
+returns c = all_ahead c.requires.0 c.requires.1
 
 pub rules_ahead_spec : {M : Type 1} → statement M
 rules_ahead_spec = tie.close (tie.spec add_at returns)

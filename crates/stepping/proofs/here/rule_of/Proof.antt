@@ -27,81 +27,68 @@ location : (s : tie.Start) → s.args.here.seen.location ≡ s.args.here.state.l
 location s = ap (λ (z : Place). z.location) (here_seen s.requires.0 s.requires.1)
 
 -- What the search found, as it looks at the part of the file.
-searched : (c : tie.After-first-rule) →
-    let a = c.before.before.before.before.before.args in
+searched : (c : tie.After-first_rule) →
+    let a = c.args in
     let from = a.layout.rules_start + a.here.own.start in
-    found_said c.first-rule.result
+    found_said c.first_rule.result
     ≡ decider (rules_from a.layout.clocks (part a.file.now from (a.here.own.count * rule_size a.layout.clocks)) 0 a.here.own.count) (place a.layout.clocks a.here.seen) (event_xy a.x a.y)
 searched c =
-    let a = c.before.before.before.before.before.args in
+    let a = c.args in
     let from = a.layout.rules_start + a.here.own.start in
     let size = a.here.own.count * (7 + 4 * a.layout.clocks) in
     let n : from + size - from ≡ size = omega arith in
-    rw n at c.first-rule.ensures
+    rw n at c.first_rule.ensures
 
 -- The number found is one of the location's own rules.
-few : (c : tie.After-known-told) →
-    let b = c.before.before.before in
-    let a = b.before.before.before.before.before.args in
-    c.before.number.given.0.0 < a.here.own.count
+few : (c : tie.In-Rule) →
+    let a = c.args in
+    c.in-Rule.number < a.here.own.count
 few c =
-    let b = c.before.before.before in
-    decider_lt _ _ _ _ _ _ _ (sym (searched b) ∙ ap found_said c.before.number.given.1)
+    decider_lt _ _ _ _ _ _ _ (sym (searched c.before) ∙ ap found_said c.in-Rule.is)
 
-mul-size : tie.Need-overflow-mul-size
+mul-size : tie.Need-overflow_mul-size
 mul-size c = omega (arith, fits c.before)
 
-add-size : tie.Need-overflow-add-size
+add-size : tie.Need-overflow_add-size
 add-size c = omega (arith, fits c.before)
 
-add-from : tie.Need-overflow-add-from
+add-from : tie.Need-overflow_add-from
 add-from c = omega (arith, fits c.before.before.before)
 
-mul-to : tie.Need-overflow-mul-to
+mul-to : tie.Need-overflow_mul-to
 mul-to c = omega (arith, fits c.before.before.before)
 
-add-to : tie.Need-overflow-add-to
+add-to : tie.Need-overflow_add-to
 add-to c = omega (arith, fits c.before.before.before)
 
-part-first-rule-end : tie.Need-slice-bounds-first-rule-end
+part-first-rule-end : tie.Need-slice_bounds-first_rule-end
 part-first-rule-end c = omega (arith, fits c.before.before.before)
 
-first-rule-requires : tie.Need-first-rule-requires
+first-rule-requires : tie.Need-first_rule-requires
 first-rule-requires c κs =
-    let s = c.before.before.before.before in
-    let a = s.args in
+    let a = c.args in
     let size = a.here.own.count * (7 + 4 * a.layout.clocks) in
     let from = a.layout.rules_start + a.here.own.start in
     let n : from + size - from ≡ size = omega arith in (
-      simp (length-take, length-drop) (omega (arith, fits s)),
-      rw (n, location s) (own_located s.requires.0 a.here.state.location s.requires.1.own),
+      simp (length-take, length-drop) (omega (arith, fits c.before.before.before.before.before)),
+      rw (n, location c.before.before.before.before.before) (own_located c.requires.0 a.here.state.location c.requires.1.own),
     )
 
-mul-t18 : tie.Need-overflow-mul-t18
+mul-t18 : tie.Need-overflow_mul-result
 mul-t18 c =
-    let s = c.before.before.before.before.before.before.before.before in
-    omega (arith, fits s, mul-le-mul_right (rule_size s.args.layout.clocks) (few c))
+    omega (arith, fits c.before.before.before.before.before.before.before, mul-le-mul_right (rule_size c.args.layout.clocks) (few c))
 
-add-t19 : tie.Need-overflow-add-t19
+add-t19 : tie.Need-overflow_add-result
 add-t19 c =
-    let s = c.before.before.before.before.before.before.before.before in
-    omega (arith, fits s, mul-le-mul_right (rule_size s.args.layout.clocks) (few c))
+    omega (arith, fits c.before.before.before.before.before.before.before, mul-le-mul_right (rule_size c.args.layout.clocks) (few c))
 
-returns : tie.Need-returns
+returns : tie.Need-returns-in-Nothing
 returns c =
-    let b = c.before.before in
-    let s = b.before.before.before.before.before in
-    decided_none s.requires.0 _ s.requires.1 (ap found_said (sym c.enum_told.given.1) ∙ searched b)
+    decided_none c.requires.0 _ c.requires.1 (ap found_said (sym c.in-Nothing.is) ∙ searched c.before)
 
-returns-2 : tie.Need-returns-2
+returns-2 : tie.Need-returns-in-Rule
 returns-2 c =
-    let b = c.before.before.before in
-    let s = b.before.before.before.before.before in
-    decided_rule s.requires.0 _ s.requires.1 _ (ap found_said (sym c.before.number.given.1) ∙ searched b)
+    decided_rule c.requires.0 _ c.requires.1 _ (ap found_said (sym c.in-Rule.is) ∙ searched c.before)
 
 pub rule_of_spec : {M : Type 1} → statement M
-rule_of_spec =
-    tie.close
-    (tie.spec
-    mul-size add-size add-from mul-to add-to (λ c. search rules) (λ c. search rules) part-first-rule-end first-rule-requires (λ c. search rules)
-    (λ c. search rules) mul-t18 add-t19 returns returns-2)
+rule_of_spec = tie.close (tie.spec mul-size add-size add-from mul-to add-to (λ c. search rules) (λ c. search rules) part-first-rule-end first-rule-requires (λ c. search rules) (λ c. search rules) mul-t18 add-t19 returns returns-2)

@@ -15,15 +15,14 @@ no_upper high v f false e =
     let bounded : high ≡ 65535 → ⊥ = omega (arith, leb-false v high e) in
     rw (ne_eqb high 65535 bounded)
 
-returns : tie.Need-returns
+returns : tie.Need-returns-then-value-low
 unfolding within
-returns c = sym (simp (lt-leb _ _ c.if1.true))
+returns c = sym (simp (lt-leb _ _ c.if-value-low.true))
 
-returns-2 : tie.Need-returns-2
+returns-2 : tie.Need-returns
 unfolding within
 returns-2 c =
-    let b = c.before in
-    rw (le-leb _ _ c.if1.false) (no_upper b.args.high b.args.value b.ranges.value.fits (leb b.args.value b.args.high) refl)
+    rw (le-leb _ _ c.if-value-low.false) (no_upper c.args.high c.args.value c.ranges.value.fits (leb c.args.value c.args.high) refl)
 
 pub is_within_spec : {M : Type 1} → statement M
 is_within_spec = tie.close (tie.spec returns returns-2)

@@ -12,49 +12,42 @@ use Rattle.stepping.proofs.matcher.rule_fires.Tie as tie
 source : (s : tie.Start) → eqb (byte_at s.args.rules.now s.args.at) s.args.state.location ≡ true
 source s = eq-eqb _ _ s.requires.3
 
-returns : tie.Need-returns
+returns : tie.Need-returns-then-x-byte_within
 unfolding fires rule_from
 returns c =
     simp (
       source c.before.before.before.before,
-      ← c.before.before.byte-within.ensures.0,
-      ← c.before.byte-within2.ensures.0,
-      ne_eqb _ _ c.if1.true,
+      ← c.byte_within.ensures.0,
+      ← c.byte_within-2.ensures.0,
+      ne_eqb _ _ c.if-x-byte_within.true,
     )
 
-returns-2 : tie.Need-returns-2
+returns-2 : tie.Need-returns-then-y-byte_within
 unfolding fires rule_from
 returns-2 c =
-    let d = c.before.before.before in
     simp (
-      source d.before.before.before.before,
-      ← d.before.before.byte-within.ensures.0,
-      ← d.before.byte-within2.ensures.0,
-      eq-eqb _ _ d.if1.false,
-      ← c.before.before.byte-within3.ensures.0,
-      ← c.before.byte-within4.ensures.0,
-      ne_eqb _ _ c.if2.true,
+      source c.before.before.before.before.before.before.before,
+      ← c.byte_within.ensures.0,
+      ← c.byte_within-2.ensures.0,
+      eq-eqb _ _ c.if-x-byte_within.false,
+      ← c.byte_within-3.ensures.0,
+      ← c.byte_within-4.ensures.0,
+      ne_eqb _ _ c.if-y-byte_within.true,
     )
 
-returns-3 : tie.Need-returns-3
+returns-3 : tie.Need-returns
 unfolding fires rule_from
 returns-3 c =
-    let e = c.before.before in
-    let d = e.before.before.before in
     simp (
-      source d.before.before.before.before,
-      ← d.before.before.byte-within.ensures.0,
-      ← d.before.byte-within2.ensures.0,
-      eq-eqb _ _ d.if1.false,
-      ← e.before.before.byte-within3.ensures.0,
-      ← e.before.byte-within4.ensures.0,
-      eq-eqb _ _ e.if2.false,
+      source c.before.before.before.before.before.before.before.before.before,
+      ← c.byte_within.ensures.0,
+      ← c.byte_within-2.ensures.0,
+      eq-eqb _ _ c.if-x-byte_within.false,
+      ← c.byte_within-3.ensures.0,
+      ← c.byte_within-4.ensures.0,
+      eq-eqb _ _ c.if-y-byte_within.false,
     )
-    c.bounds-hold.ensures
+    c.bounds_hold.ensures
 
 pub rule_fires_spec : {M : Type 1} → statement M
-rule_fires_spec =
-    tie.close
-    (tie.spec
-    (λ c. search rules) (λ c κs. search rules) (λ c. search rules) (λ c κs. search rules) returns (λ c. search rules) (λ c κs. search rules)
-    (λ c. search rules) (λ c κs. search rules) returns-2 (λ c. search rules) (λ c κs. search rules) returns-3)
+rule_fires_spec = tie.close (tie.spec (λ c. search rules) (λ c κs. search rules) (λ c. search rules) (λ c κs. search rules) returns (λ c. search rules) (λ c κs. search rules) (λ c. search rules) (λ c κs. search rules) returns-2 (λ c. search rules) (λ c κs. search rules) returns-3)

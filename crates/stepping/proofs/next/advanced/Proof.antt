@@ -14,39 +14,35 @@ use Rattle.stepping.proofs.Laws.{advance_with, advanced_turn, advanced_ends}
 use Rattle.stepping.proofs.next.advanced.Statement.{statement}
 use Rattle.stepping.proofs.next.advanced.Tie as tie
 
-abbrev invariant-loop : tie.invariant-loop
+abbrev invariant-loop : tie.invariant-loop-i
 invariant-loop mask ceilings values next₀ rest₀ i₀ next rest i =
     ((i ≤ 4) × (length next ≡ 4)) × (advance stopped mask ceilings values ≡ advance_with ceilings values i rest next)
 
-abbrev decreases-loop : tie.decreases-loop
+abbrev decreases-loop : tie.decreases-loop-i
 decreases-loop mask ceilings values next₀ rest₀ i₀ next rest i = 4 - i
 
-loop-holds : tie.Need-loop-init invariant-loop decreases-loop
+loop-holds : tie.Need-loop-i-init invariant-loop decreases-loop
 loop-holds c = (search rules, refl)
 
-add-next : tie.Need-overflow-add-next invariant-loop decreases-loop
+add-next : tie.Need-overflow_add-next invariant-loop decreases-loop
 add-next c =
-    let i = c.before.before.before in let f : Fits w16 (get_or i.before.args.t2 i.loop.i 0) = search rules in omega arith
+    let f : Fits w16 (get_or c.args.ceilings c.loop-i.i 0) = search rules in omega arith
 
-loop-again : tie.Need-loop-preserved invariant-loop decreases-loop
+loop-again : tie.Need-loop-i-preserved invariant-loop decreases-loop
 loop-again c =
-    let l = c.before.before.loop in
-    let a = c.before.before.before.args in (
+    let l = c.loop-i in
+    let a = c.args in (
       search rules,
-      l.invariant.1 ∙ advanced_turn a.t2 a.t3 l.rest l.i l.next (omega arith) (omega arith) (omega arith)
-          (⊎_elim (λ w. rw (eq-eqb _ _ w.0.taken) w.1)
-          (⊎_elim (λ w. rw (ne_eqb _ _ w.0.left) (omega arith)) (λ w. rw (ne_eqb _ _ w.0.left) (omega arith))) c.if1.branch),
+      l.invariant.1 ∙ advanced_turn a.ceilings a.values l.rest l.i l.next (omega arith) (omega arith) (omega arith)
+          (⊎_elim (λ w. rw (eq-eqb _ _ w.if-rest-eq1.true) w.next-is)
+          (⊎_elim (λ w. rw (ne_eqb _ _ w.if-rest-eq1.false) (omega arith)) (λ w. rw (ne_eqb _ _ w.if-rest-eq1.false) (omega arith))) c.if-rest-eq1.branch-raw),
     )
 
 returns : tie.Need-returns invariant-loop decreases-loop
 returns c =
-    let l = c.before.loop in
-    let a = c.before.before.args in
-    sym (l.invariant.1 ∙ advanced_ends a.t2 a.t3 l.rest l.i l.next (omega arith) (omega arith))
+    let l = c.loop-i in
+    let a = c.args in
+    sym (l.invariant.1 ∙ advanced_ends a.ceilings a.values l.rest l.i l.next (omega arith) (omega arith))
 
 pub advanced_spec : {M : Type 1} → statement M
-advanced_spec =
-    tie.close
-    (tie.spec
-    invariant-loop decreases-loop loop-holds (λ c. search rules) (λ c. search rules) (λ c. search rules) (λ c. search rules) add-next (λ c. search rules)
-    (λ c. search rules) (λ c. search rules) (λ c. search rules) loop-again returns)
+advanced_spec = tie.close (tie.spec invariant-loop decreases-loop loop-holds (λ c. search rules) (λ c. search rules) (λ c. search rules) (λ c. search rules) add-next (λ c. search rules) (λ c. search rules) (λ c. search rules) (λ c. search rules) loop-again returns)

@@ -16,58 +16,49 @@ use Rattle.stepping.proofs.state.State.by.Statement.{statement}
 use Rattle.stepping.proofs.state.State.by.Tie as tie
 
 -- The rule found is the location's, and lies within the file.
-stands : (c : tie.After-known-told) →
-    let a = c.before.before.before.before.args in
-    RuleAt a.file.now a.layout a.self.location c.before.rule.given.0.0
-stands c = let s = c.before.before.before.before in s.requires.1 _ c.before.rule.given.1
+stands : (c : tie.In-At) →
+    let a = c.args in
+    RuleAt a.file.now a.layout a.self.location c.in-At.at
+stands c = c.requires.1 _ c.in-At.is
 
 -- Both arrays hold four numbers.
 lengths : (s : tie.Start) → (length s.args.layout.ceilings ≡ 4) × (length s.args.self.clocks ≡ 4)
 lengths s = search rules
 
-add-byte-within : tie.Need-overflow-add-byte-within
+add-byte-within : tie.Need-overflow_add-at
 add-byte-within c = omega (arith, (stands c).ends, (stands c).short)
 
-byte-within-requires : tie.Need-byte-within-requires
+byte-within-requires : tie.Need-byte_within-target-requires
 byte-within-requires c κs = omega (arith, (stands c).ends)
 
-returns : tie.Need-returns
+returns : tie.Need-returns-then-target-eq-VIOLATION
 unfolding bind rule_from
 returns c =
-    let b = c.before in
-    let s = b.before.before.before.before.before in
-    rw b.before.before.rule.given.1 (sym (ap (step_from s.args.self) (taken_violation _ _ _ (sym b.byte-within.ensures.0 ∙ c.if1.true))))
+    rw c.in-At.is (sym (ap (step_from c.args.self) (taken_violation _ _ _ (sym c.byte_within-target.ensures.0 ∙ c.if-target-eq-VIOLATION.true))))
 
-add-byte-within-2 : tie.Need-overflow-add-byte-within-2
-add-byte-within-2 c = let d = c.before.before.before.before in omega (arith, (stands d).ends, (stands d).short)
+add-byte-within-2 : tie.Need-overflow_add-at-in-At
+add-byte-within-2 c = omega (arith, (stands c.before.before.before.before).ends, (stands c.before.before.before.before).short)
 
-byte-within-requires-2 : tie.Need-byte-within-requires-2
-byte-within-requires-2 c κs = let d = c.before.before.before.before in omega (arith, (stands d).ends)
+byte-within-requires-2 : tie.Need-byte_within-requires
+byte-within-requires-2 c κs = omega (arith, (stands c.before.before.before.before).ends)
 
-returns-2 : tie.Need-returns-2
+returns-2 : tie.Need-returns-in-Nothing
 unfolding bind
-returns-2 c = rw c.enum_told.given.1
+returns-2 c = rw c.in-Nothing.is
 
-returns-3 : tie.Need-returns-3
+returns-3 : tie.Need-returns-else-target-eq-VIOLATION
 unfolding bind taken rule_from
 returns-3 c =
-    let d = c.before.before.before.before in
-    let r = d.before.before.before in
-    let s = r.before.before.before in
-    let a = s.args in
-    let up = advance_four a.layout.ceilings a.self.clocks a.layout.clocks c.before.byte-within2.result
-    (omega (arith, laid_limits s.requires.0)) (lengths s).0 (lengths s).1 (laid_four s.requires.0) in
-    rw (r.rule.given.1, ← laid_ceilings s.requires.0)
+    let a = c.args in
+    let up = advance_four a.layout.ceilings a.self.clocks a.layout.clocks c.byte_within.result
+    (omega (arith, laid_limits c.requires.0)) (lengths c.before.before.before.before.before.before.before.before).0 (lengths c.before.before.before.before.before.before.before.before).1 (laid_four c.requires.0) in
+    rw (c.in-At.is, ← laid_ceilings c.requires.0)
     (simp (
-      ← d.before.byte-within.ensures.0,
-      ne_eqb _ _ d.if1.false,
-      ← c.before.byte-within2.ensures.0,
+      ← c.byte_within-target.ensures.0,
+      ne_eqb _ _ c.if-target-eq-VIOLATION.false,
+      ← c.byte_within.ensures.0,
       ← (c.advanced.ensures ∙ up),
     ))
 
 pub by_spec : {M : Type 1} → statement M
-by_spec =
-    tie.close
-    (tie.spec
-    (λ c. search rules) (λ c. search rules) add-byte-within byte-within-requires returns (λ c. search rules) add-byte-within-2 byte-within-requires-2
-    (λ c κs. search rules) returns-2 returns-3)
+by_spec = tie.close (tie.spec (λ c. search rules) (λ c. search rules) add-byte-within byte-within-requires returns (λ c. search rules) add-byte-within-2 byte-within-requires-2 (λ c κs. search rules) returns-2 returns-3)

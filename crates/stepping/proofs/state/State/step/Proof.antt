@@ -5,10 +5,10 @@ use Rattle.stepping.proofs.state.State.step.Statement.{statement}
 use Rattle.stepping.proofs.state.State.step.Tie as tie
 
 by-requires : tie.Need-by-requires
-by-requires c κs = let s = c.before.before in (s.requires.0, rw s.requires.2 at c.rule-of.ensures.stands)
+by-requires c κs = (c.requires.0, rw c.requires.2 at c.rule_of-rule.ensures.stands)
 
 returns : tie.Need-returns
-returns c = let d = c.before in decided_step (rw d.before.before.requires.2 at d.rule-of.ensures) c.by.ensures
+returns c = decided_step (rw c.requires.2 at c.rule_of-rule.ensures) c.by.ensures
 
 pub step_spec : {M : Type 1} → statement M
 step_spec = tie.close (tie.spec (λ c κs. search rules) by-requires returns)
