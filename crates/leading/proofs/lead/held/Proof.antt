@@ -7,15 +7,13 @@ use Rattle.leading.proofs.WayLaws.{rule_seen}
 use Rattle.leading.proofs.lead.held.Statement.{statement}
 use Rattle.leading.proofs.lead.held.Tie as tie
 
-bounds-hold-requires : tie.Need-bounds-hold-requires
+bounds-hold-requires : tie.Need-bounds_hold-requires
 bounds-hold-requires c κs =
-    let s = c.before.before in
-    omega (arith, laid_limits s.requires.0)
+    omega (arith, laid_limits c.requires.0)
 
 returns : tie.Need-returns
 returns c =
-    let s = c.before.before.before in
-    sym (rule_seen s.requires.0 s.requires.1 s.requires.2 _ (sym c.bounds-hold.ensures))
+    sym (rule_seen c.requires.0 c.requires.1 c.requires.2 _ (sym c.bounds_hold.ensures))
 
 pub held_spec : {M : Type 1} → statement M
 held_spec = tie.close (tie.spec (λ c. search rules) bounds-hold-requires returns)

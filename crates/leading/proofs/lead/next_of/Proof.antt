@@ -20,33 +20,26 @@ lengths s = search rules
 
 -- The rule leads to the next state, whose number is the one that the code works out.
 led : (c : tie.After-advanced) {n : ℕ} →
-    let a = c.before.before.before.before.before.before.before.args in
-    n ≡ number_from a.layout.ceilings 4 c.before.before.before.before.before.byte-within.result c.advanced.result →
+    let a = c.args in
+    n ≡ number_from a.layout.ceilings 4 c.byte_within-target.result c.advanced.result →
     Led (place a.layout.clocks a.state) (policy_of a.layout.reading a.file.now) (rule_from a.layout.clocks a.file.now a.at) true n
 unfolding rule_from
 led c w =
-    let e = c.before.before.before.before in
-    let s = e.before.before.before in
-    let a = s.args in
-    let t = e.before.byte-within.ensures.0 in
-    led_next s.requires.0 a.state s.requires.1 (rule_from a.layout.clocks a.file.now a.at) s.requires.2.ours.formed
-    (λ z. e.if1.false (t ∙ z)) (lengths s).0 (lengths s).1 (w ∙ rw (c.advanced.ensures, c.before.byte-within2.ensures.0, t))
+    let a = c.args in
+    let t = c.byte_within-target.ensures.0 in
+    led_next c.requires.0 a.state c.requires.1 (rule_from a.layout.clocks a.file.now a.at) c.requires.2.ours.formed
+    (λ z. c.if-target-eq-VIOLATION.false (t ∙ z)) (lengths c.before.before.before.before.before.before.before).0 (lengths c.before.before.before.before.before.before.before).1 (w ∙ rw (c.advanced.ensures, c.byte_within.ensures.0, t))
 
-returns : tie.Need-returns
+returns : tie.Need-returns-then-target-eq-VIOLATION
 unfolding rule_from
-returns c = led_violation _ _ _ (sym c.before.byte-within.ensures.0 ∙ c.if1.true)
+returns c = led_violation _ _ _ (sym c.byte_within-target.ensures.0 ∙ c.if-target-eq-VIOLATION.true)
 
 number-requires : tie.Need-number-requires
 number-requires c κs =
-    let s = c.before.before.before.before.before.before.before in
-    omega (arith, (laid_well s.requires.0).states, (led c refl).below refl)
+    omega (arith, (laid_well c.requires.0).states, (led c refl).below refl)
 
-returns-2 : tie.Need-returns-2
+returns-2 : tie.Need-returns
 returns-2 c = led c.before c.number.ensures
 
 pub next_of_spec : {M : Type 1} → statement M
-next_of_spec =
-    tie.close
-    (tie.spec
-    (λ c. search rules) (λ c κs. search rules) returns (λ c. search rules) (λ c. search rules) (λ c κs. search rules) (λ c κs. search rules)
-    number-requires returns-2)
+next_of_spec = tie.close (tie.spec (λ c. search rules) (λ c κs. search rules) returns (λ c. search rules) (λ c. search rules) (λ c κs. search rules) (λ c κs. search rules) number-requires returns-2)

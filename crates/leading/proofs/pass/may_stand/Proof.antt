@@ -9,14 +9,13 @@ use Rattle.stepping.specs.WaysLaws.{row_stands}
 use Rattle.leading.proofs.pass.may_stand.Statement.{statement}
 use Rattle.leading.proofs.pass.may_stand.Tie as tie
 
-returns : tie.Need-returns
+returns : tie.Need-returns-then-reaches
 unfolding may_stand
-returns c = sym (some_has _ _ 0 (pow_pos _) (sym c.before.reaches.ensures ∙ c.if1.true))
+returns c = sym (some_has _ _ 0 (pow_pos _) (sym c.reaches.ensures ∙ c.if-reaches.true))
 
-returns-2 : tie.Need-returns-2
+returns-2 : tie.Need-returns
 returns-2 c =
-    let s = c.before.before.before.before.before in
-    rw c.row.ensures (sym (row_stands _ (laid_well s.requires.standing.laid) _ _ _))
+    rw c.row.ensures (sym (row_stands _ (laid_well c.requires.standing.laid) _ _ _))
 
 pub may_stand_spec : {M : Type 1} → statement M
 may_stand_spec = tie.close (tie.spec (λ c κs. search rules) returns (λ c κs. search rules) returns-2)

@@ -6,15 +6,15 @@ use Rattle.leading.proofs.reach.leads_by.Statement.{statement}
 use Rattle.leading.proofs.reach.leads_by.Tie as tie
 
 leads-requires : tie.Need-leads-requires
-leads-requires c κs = let s = c.before.before.before.before.before in (s.requires.0, s.requires.1 _ c.before.rule.given.1)
+leads-requires c κs = (c.requires.0, c.requires.1 _ c.in-At.is)
 
-returns : tie.Need-returns
+returns : tie.Need-returns-in-Nothing
 unfolding bind
-returns c = rw c.enum_told.given.1
+returns c = rw c.in-Nothing.is
 
-returns-2 : tie.Need-returns-2
+returns-2 : tie.Need-returns-in-At
 unfolding bind leads
-returns-2 c = rw c.before.before.rule.given.1 c.leads.ensures
+returns-2 c = rw c.in-At.is c.leads.ensures
 
 pub leads_by_spec : {M : Type 1} → statement M
 leads_by_spec = tie.close (tie.spec (λ c. search rules) (λ c. search rules) leads-requires returns returns-2)

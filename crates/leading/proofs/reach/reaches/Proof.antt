@@ -4,14 +4,14 @@ use Rattle.stepping.proofs.DecidedLaws.{decided_reaches}
 use Rattle.leading.proofs.reach.reaches.Statement.{statement}
 use Rattle.leading.proofs.reach.reaches.Tie as tie
 
-rule-of-requires : tie.Need-rule-of-requires
-rule-of-requires c κs = let s = c.before.before in (s.requires.standing.laid, s.requires.here)
+rule-of-requires : tie.Need-rule_of-rule-requires
+rule-of-requires c κs = (c.requires.standing.laid, c.requires.here)
 
-leads-by-requires : tie.Need-leads-by-requires
-leads-by-requires c κs = (c.before.before.before.requires.standing, c.rule-of.ensures.stands)
+leads-by-requires : tie.Need-leads_by-requires
+leads-by-requires c κs = (c.requires.standing, c.rule_of-rule.ensures.stands)
 
 returns : tie.Need-returns
-returns c = c.leads-by.ensures ∙ decided_reaches _ c.before.rule-of.ensures
+returns c = c.leads_by.ensures ∙ decided_reaches _ c.rule_of-rule.ensures
 
 pub reaches_spec : {M : Type 1} → statement M
 reaches_spec = tie.close (tie.spec rule-of-requires leads-by-requires returns)

@@ -10,78 +10,70 @@ use Rattle.leading.proofs.share.gather_by.Statement.{statement}
 use Rattle.leading.proofs.share.gather_by.Tie as tie
 
 -- Earlier places in the code.
-abbrev start : tie.Then1 → tie.Start
+abbrev start : tie.Then-held → tie.Start
 start c = c.before.before.before.before
 
 -- What the rule takes, by its bytes.
-parts : (c : tie.After-byte-within4) →
-    let o = c.before.before.before.before.before in
-    let a = (start o.before.before.before).args in
+parts : (c : tie.After-byte_within-then-held-3) →
+    let a = (start c.before.before.before.before.before.before.before.before.before).args in
     Parts (looked stopped (policy_of a.layout.reading a.file.now) (place a.layout.clocks a.here.state)) (rule_from a.layout.clocks a.file.now a.at)
-    c.before.byte-within3.result c.byte-within4.result o.outs.result
+    c.byte_within-then-held-2.result c.byte_within-then-held-3.result c.outs-set.result
 unfolding rule_from
 parts c =
-    let o = c.before.before.before.before.before in
-    let t = o.before.before.before in
-    let s = start t in
-    rw (c.before.byte-within3.ensures.0, c.byte-within4.ensures.0, o.outs.ensures, o.before.before.byte-within.ensures.0, o.before.byte-within2.ensures.0)
-    (parts_so _ (sym t.before.held.ensures ∙ t.if1.true) s.pre.1.ours.care s.pre.1.ours.formed.inputs)
+    let s = start c.before.before.before.before.before.before.before.before.before in
+    rw (c.byte_within-then-held-2.ensures.0, c.byte_within-then-held-3.ensures.0, c.outs-set.ensures, c.byte_within.ensures.0, c.byte_within-then-held.ensures.0)
+    (parts_so _ (sym c.held.ensures ∙ c.if-held.true) s.requires.1.ours.care s.requires.1.ours.formed.inputs)
 
 held-requires : tie.Need-held-requires
-held-requires c κs = let s = c.before.before in (s.requires.0.standing.laid, s.requires.0.here, s.requires.1)
+held-requires c κs = (c.requires.0.standing.laid, c.requires.0.here, c.requires.1)
 
-add-byte-within : tie.Need-overflow-add-byte-within
-add-byte-within c = let s = start c in omega (arith, s.pre.1.ends, s.pre.1.short)
+add-byte-within : tie.Need-overflow_add-at
+add-byte-within c = let s = start c in omega (arith, s.requires.1.ends, s.requires.1.short)
 
-byte-within-requires : tie.Need-byte-within-requires
-byte-within-requires c κs = let s = start c in omega (arith, s.pre.1.ends)
+byte-within-requires : tie.Need-byte_within-requires
+byte-within-requires c κs = let s = start c in omega (arith, s.requires.1.ends)
 
-add-byte-within-2 : tie.Need-overflow-add-byte-within-2
-add-byte-within-2 c = let s = start c.before in omega (arith, s.pre.1.ends, s.pre.1.short)
+add-byte-within-2 : tie.Need-overflow_add-at-then-held
+add-byte-within-2 c = let s = start c.before in omega (arith, s.requires.1.ends, s.requires.1.short)
 
-byte-within-requires-2 : tie.Need-byte-within-requires-2
-byte-within-requires-2 c κs = let s = start c.before in omega (arith, s.pre.1.ends)
+byte-within-requires-2 : tie.Need-byte_within-requires-then-held
+byte-within-requires-2 c κs = let s = start c.before in omega (arith, s.requires.1.ends)
 
-kept-requires : tie.Need-kept-requires
-kept-requires c κs = let s = start c.before.before.before in (s.pre.0.standing, s.pre.1)
+kept-requires : tie.Need-kept-led-requires
+kept-requires c κs = let s = start c.before.before.before.before in (s.requires.0.standing, s.requires.1)
 
-add-byte-within-3 : tie.Need-overflow-add-byte-within-3
+add-byte-within-3 : tie.Need-overflow_add-at-then-held-2
 add-byte-within-3 c =
-    let s = start c.before.before.before.before.before.before in
-    omega (arith, s.pre.1.ends, s.pre.1.short)
+    let s = start c.before.before.before.before.before.before.before in
+    omega (arith, s.requires.1.ends, s.requires.1.short)
 
-byte-within-requires-3 : tie.Need-byte-within-requires-3
+byte-within-requires-3 : tie.Need-byte_within-requires-then-held-2
 byte-within-requires-3 c κs =
-    let s = start c.before.before.before.before.before.before in
-    omega (arith, s.pre.1.ends)
+    let s = start c.before.before.before.before.before.before.before in
+    omega (arith, s.requires.1.ends)
 
-add-byte-within-4 : tie.Need-overflow-add-byte-within-4
+add-byte-within-4 : tie.Need-overflow_add-at-then-held-3
 add-byte-within-4 c =
-    let s = start c.before.before.before.before.before.before.before in
-    omega (arith, s.pre.1.ends, s.pre.1.short)
+    let s = start c.before.before.before.before.before.before.before.before in
+    omega (arith, s.requires.1.ends, s.requires.1.short)
 
-byte-within-requires-4 : tie.Need-byte-within-requires-4
+byte-within-requires-4 : tie.Need-byte_within-requires-then-held-3
 byte-within-requires-4 c κs =
-    let s = start c.before.before.before.before.before.before.before in
-    omega (arith, s.pre.1.ends)
+    let s = start c.before.before.before.before.before.before.before.before in
+    omega (arith, s.requires.1.ends)
 
 gather-requires : tie.Need-gather-requires
 gather-requires c κs =
-    let s = start c.before.before.before.before.before.before.before.before in
+    let s = start c.before.before.before.before.before.before.before.before.before in
     let k = parts c in
-    (s.pre.2, k.few, k.within, s.pre.3, s.pre.4)
+    (s.requires.2, k.few, k.within, s.requires.3, s.requires.4)
 
-returns : tie.Need-returns
+returns : tie.Need-returns-then-held
 returns c =
-    let d = c.before in
-    gathers_led _ _ _ (parts d) c.gather.ensures.0 _ d.before.before.before.before.kept.ensures c.gather.ensures.1
+    gathers_led _ _ _ (parts c.before) c.gather.ensures.0 _ c.kept-led.ensures c.gather.ensures.1
 
-returns-2 : tie.Need-returns-2
-returns-2 c = gathers_not _ _ _ _ (parted_bounds _ (sym c.before.held.ensures ∙ c.if1.false))
+returns-2 : tie.Need-returns-else-held
+returns-2 c = gathers_not _ _ _ _ (parted_bounds _ (sym c.held.ensures ∙ c.if-held.false))
 
 pub gather_by_spec : {M : Type 1} → statement M
-gather_by_spec =
-    tie.close
-    (tie.spec
-    held-requires add-byte-within byte-within-requires add-byte-within-2 byte-within-requires-2 (λ c κs. search rules) kept-requires add-byte-within-3
-    byte-within-requires-3 add-byte-within-4 byte-within-requires-4 gather-requires returns returns-2)
+gather_by_spec = tie.close (tie.spec held-requires add-byte-within byte-within-requires add-byte-within-2 byte-within-requires-2 (λ c κs. search rules) kept-requires add-byte-within-3 byte-within-requires-3 add-byte-within-4 byte-within-requires-4 gather-requires returns returns-2)

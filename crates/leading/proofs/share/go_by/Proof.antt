@@ -18,41 +18,36 @@ use Rattle.stepping.specs.Pass.{Parted, parted_bounds, parted_taken, parted_so, 
 use Rattle.leading.proofs.share.go_by.Statement.{statement}
 use Rattle.leading.proofs.share.go_by.Tie as tie
 
-abbrev care : tie.After-is-left → tie.After-byte-within
-care c = c.before.before.before.before.before.before
+abbrev care : tie.After-is_left → tie.After-byte_within-care
+care c = c.before.before.before.before.before
 
-abbrev entry : tie.After-is-left → tie.Start
+abbrev entry : tie.After-is_left → tie.Start
 entry c = (care c).before.before.before.before.before
 
 held-requires : tie.Need-held-requires
-held-requires c κs = let s = c.before.before in (s.requires.0.standing.laid, s.requires.0.here, s.requires.1)
+held-requires c κs = (c.requires.0.standing.laid, c.requires.0.here, c.requires.1)
 
-returns : tie.Need-returns
-returns c = went_not _ _ _ (took_not _ (parted_bounds _ (sym c.before.held.ensures ∙ not-true _ c.if1.true)))
+returns : tie.Need-returns-then-not-held
+returns c = went_not _ _ _ (took_not _ (parted_bounds _ (sym c.held.ensures ∙ c.if-not-held.true)))
 
-is-left-requires : tie.Need-is-left-requires
+is-left-requires : tie.Need-is_left-requires
 unfolding rule_from
 is-left-requires c κs =
-    let d = c.before.before.before.before in
-    let s = d.before.before.before.before.before.before in
-    rw (d.before.byte-within.ensures.0, d.byte-within2.ensures.0) (s.requires.2, s.requires.1.ours.care, s.requires.1.ours.formed.inputs)
+    rw (c.byte_within-care.ensures.0, c.byte_within-value.ensures.0) (c.requires.2, c.requires.1.ours.care, c.requires.1.ours.formed.inputs)
 
 -- Whether the rule takes something, by its bytes.
-left_so : (c : tie.After-is-left) →
+left_so : (c : tie.After-is_left) →
     let a = (entry c).args in
     let r = rule_from a.layout.clocks a.file.now a.at in
-    c.is-left.result ≡ some_below (λ x. ltb 0 (agreed r.in_care r.in_value (outs r.out_care r.out_value) x (get_or a.left.now x 0))) a.inputs
+    c.is_left.result ≡ some_below (λ x. ltb 0 (agreed r.in_care r.in_value (outs r.out_care r.out_value) x (get_or a.left.now x 0))) a.inputs
 unfolding rule_from
 left_so c =
-    let o = c.before.before in
-    let d = o.before.before.before in
-    rw (o.outs.ensures, d.before.byte-within.ensures.0, d.byte-within2.ensures.0, o.before.before.byte-within3.ensures.0, o.before.byte-within4.ensures.0) at c.is-left.ensures
+    rw (c.outs-set.ensures, c.byte_within-care.ensures.0, c.byte_within-value.ensures.0, c.byte_within.ensures.0, c.byte_within-2.ensures.0) at c.is_left.ensures
 
-returns-2 : tie.Need-returns-2
+returns-2 : tie.Need-returns-then-not-is_left
 returns-2 c =
-    let l = c.before in
-    let i = (care l).before in
-    went_not _ _ _ (took_not _ (parted_taken _ (sym i.before.held.ensures ∙ not-false _ i.if1.left) (sym (not-true _ c.if2.true) ∙ left_so l)))
+    let i = (care c.before).before in
+    went_not _ _ _ (took_not _ (parted_taken _ (sym i.before.held.ensures ∙ i.if1.left) (sym (c.if-not-is_left.true) ∙ left_so c.before)))
 
 -- The same, by equal numbers.
 parted_as : {s : Place} {r : Rule} {n : ℕ} {left : List ℕ} {a b m a' b' m' : ℕ} → a ≡ a' → b ≡ b' → m ≡ m' → Parted s r n left true a b m → Parted s r n left true a' b' m'
@@ -60,40 +55,31 @@ parted_as {s} {r} {n} {left} {b = b} {m = m} {a' = a'} {b' = b'} e f g k =
     subst (λ (t : ℕ). Parted s r n left true a' b' t) g (subst (λ (t : ℕ). Parted s r n left true a' t m) f (subst (λ (t : ℕ). Parted s r n left true t b m) e k))
 
 -- What it takes then.
-parted : (c : tie.Else2) →
-    let l = c.before in
-    let a = (entry l).args in
-    let o = l.before.before in
+parted : (c : tie.Else-not-is_left) →
+    let a = (entry c.before).args in
     Parted (looked stopped (policy_of a.layout.reading a.file.now) (place a.layout.clocks a.here.state)) (rule_from a.layout.clocks a.file.now a.at) a.inputs a.left.now true
-    (care l).byte-within.result o.before.before.before.byte-within2.result o.outs.result
+    (care c.before).byte_within-care.result c.byte_within-value.result c.outs-set.result
 unfolding rule_from
 parted c =
-    let l = c.before in
-    let o = l.before.before in
-    let d = o.before.before.before in
-    let i = (care l).before in
-    let k = (entry l).requires.1.ours in
+    let i = (care c.before).before in
+    let k = (entry c.before).requires.1.ours in
     parted_as
-    (sym d.before.byte-within.ensures.0)
-    (sym d.byte-within2.ensures.0)
-    (sym (o.outs.ensures ∙ ap₂ outs o.before.before.byte-within3.ensures.0 o.before.byte-within4.ensures.0))
-    (parted_so _ (sym i.before.held.ensures ∙ not-false _ i.if1.left) k.care k.formed.inputs (sym (not-false _ c.if2.false) ∙ left_so l))
+    (sym c.byte_within-care.ensures.0)
+    (sym c.byte_within-value.ensures.0)
+    (sym (c.outs-set.ensures ∙ ap₂ outs c.byte_within.ensures.0 c.byte_within-2.ensures.0))
+    (parted_so _ (sym i.before.held.ensures ∙ i.if1.left) k.care k.formed.inputs (sym (c.if-not-is_left.false) ∙ left_so c.before))
 
 take-requires : tie.Need-take-requires
 take-requires c κs =
     let k = (parted c.before).parts refl in
     let s = entry c.before.before in
-    (s.pre.2, k.few, k.within, s.pre.3)
+    (s.requires.2, k.few, k.within, s.requires.3)
 
 leads-requires : tie.Need-leads-requires
-leads-requires c κs = let s = entry c.before.before.before in (s.pre.0.standing, s.pre.1)
+leads-requires c κs = let s = entry c.before.before.before.before in (s.requires.0.standing, s.requires.1)
 
-returns-3 : tie.Need-returns-3
-returns-3 c = let t = c.before in went_took _ _ _ (took_so _ (parted t.before.before) t.take.ensures) c.leads.ensures
+returns-3 : tie.Need-returns
+returns-3 c = went_took _ _ _ (took_so _ (parted c.before.before.before.before) c.take.ensures) c.leads.ensures
 
 pub go_by_spec : {M : Type 1} → statement M
-go_by_spec =
-    tie.close
-    (tie.spec
-    held-requires returns (λ c. omega arith) (λ c κs. omega arith) (λ c. omega arith) (λ c κs. omega arith) (λ c. omega arith) (λ c κs. omega arith)
-    (λ c. omega arith) (λ c κs. omega arith) (λ c κs. search rules) is-left-requires returns-2 take-requires leads-requires returns-3)
+go_by_spec = tie.close (tie.spec held-requires returns (λ c. omega arith) (λ c κs. omega arith) (λ c. omega arith) (λ c κs. omega arith) (λ c. omega arith) (λ c κs. omega arith) (λ c. omega arith) (λ c κs. omega arith) (λ c κs. search rules) is-left-requires returns-2 take-requires leads-requires returns-3)

@@ -13,49 +13,36 @@ use Rattle.leading.proofs.share.part_of.Statement.{statement}
 use Rattle.leading.proofs.share.part_of.Tie as tie
 
 held-requires : tie.Need-held-requires
-held-requires c κs = let s = c.before in (s.requires.0, s.requires.1, s.requires.2)
+held-requires c κs = (c.requires.0, c.requires.1, c.requires.2)
 
-returns : tie.Need-returns
-returns c = rw c.nothing.ensures (parted_bounds _ (sym c.before.before.held.ensures ∙ not-true _ c.before.if1.true))
+returns : tie.Need-returns-then-not-held
+returns c = rw c.nothing.ensures (parted_bounds _ (sym c.held.ensures ∙ c.if-not-held.true))
 
-is-left-requires : tie.Need-is-left-requires
+is-left-requires : tie.Need-is_left-requires
 unfolding rule_from
 is-left-requires c κs =
-    let d = c.before.before.before in
-    let r = d.before.before.before.before.before.requires in
-    rw (d.before.byte-within.ensures.0, d.byte-within2.ensures.0) (r.3, r.2.ours.care, r.2.ours.formed.inputs)
+    let r = c.requires in
+    rw (c.byte_within-care.ensures.0, c.byte_within-value.ensures.0) (r.3, r.2.ours.care, r.2.ours.formed.inputs)
 
 -- Whether the rule takes something, by its bytes.
-left_so : (c : tie.After-is-left) →
-    let a = c.before.before.before.before.before.before.before.before.before.args in
+left_so : (c : tie.After-is_left) →
+    let a = c.args in
     let r = rule_from a.layout.clocks a.file.now a.at in
-    c.is-left.result ≡ some_below (λ x. ltb 0 (agreed r.in_care r.in_value (outs r.out_care r.out_value) x (get_or a.left.now x 0))) a.inputs
+    c.is_left.result ≡ some_below (λ x. ltb 0 (agreed r.in_care r.in_value (outs r.out_care r.out_value) x (get_or a.left.now x 0))) a.inputs
 unfolding rule_from
 left_so c =
-    let d = c.before.before.before.before in
-    rw (c.before.outs.ensures, d.before.byte-within.ensures.0, d.byte-within2.ensures.0, c.before.before.before.byte-within3.ensures.0, c.before.before.byte-within4.ensures.0) at c.is-left.ensures
+    rw (c.outs-set.ensures, c.byte_within-care.ensures.0, c.byte_within-value.ensures.0, c.byte_within.ensures.0, c.byte_within-2.ensures.0) at c.is_left.ensures
 
-returns-2 : tie.Need-returns-2
+returns-2 : tie.Need-returns-then-not-is_left
 returns-2 c =
-    let e = c.before in
-    let l = e.before in
-    let i = l.before.before.before.before.before.before in
-    rw c.nothing2.ensures (parted_taken _ (sym i.before.held.ensures ∙ not-false _ i.if1.false) (sym (not-true _ e.if2.true) ∙ left_so l))
+    rw c.nothing-then-not-is_left.ensures (parted_taken _ (sym c.held.ensures ∙ c.if-not-held.false) (sym (c.if-not-is_left.true) ∙ left_so c.before.before))
 
-returns-3 : tie.Need-returns-3
+returns-3 : tie.Need-returns
 unfolding rule_from
 returns-3 c =
-    let l = c.before in
-    let d = l.before.before.before.before in
-    let i = d.before.before in
-    let o = i.before.before.before.requires.2 in
-    rw (l.before.outs.ensures, d.before.byte-within.ensures.0, d.byte-within2.ensures.0, l.before.before.before.byte-within3.ensures.0, l.before.before.byte-within4.ensures.0)
-    (parted_so _ (sym i.before.held.ensures ∙ not-false _ i.if1.false) o.ours.care o.ours.formed.inputs (sym (not-false _ c.if2.false) ∙ left_so l))
+    let o = c.requires.2 in
+    rw (c.outs-set.ensures, c.byte_within-care.ensures.0, c.byte_within-value.ensures.0, c.byte_within.ensures.0, c.byte_within-2.ensures.0)
+    (parted_so _ (sym c.held.ensures ∙ c.if-not-held.false) o.ours.care o.ours.formed.inputs (sym (c.if-not-is_left.false) ∙ left_so c.before))
 
 pub part_of_spec : {M : Type 1} → statement M
-part_of_spec =
-    tie.close
-    (tie.spec
-    held-requires (λ c κs. search rules) returns (λ c. search rules) (λ c κs. search rules) (λ c. search rules) (λ c κs. search rules)
-    (λ c. search rules) (λ c κs. search rules) (λ c. search rules) (λ c κs. search rules) (λ c κs. search rules) is-left-requires
-    (λ c κs. search rules) returns-2 returns-3)
+part_of_spec = tie.close (tie.spec held-requires (λ c κs. search rules) returns (λ c. search rules) (λ c κs. search rules) (λ c. search rules) (λ c κs. search rules) (λ c. search rules) (λ c κs. search rules) (λ c. search rules) (λ c κs. search rules) (λ c κs. search rules) is-left-requires (λ c κs. search rules) returns-2 returns-3)

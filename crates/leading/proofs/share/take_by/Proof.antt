@@ -4,23 +4,21 @@ use Rattle.stepping.specs.Pass.{took_not, took_so}
 use Rattle.leading.proofs.share.take_by.Statement.{statement}
 use Rattle.leading.proofs.share.take_by.Tie as tie
 
-part-of-requires : tie.Need-part-of-requires
-part-of-requires c κs = let s = c.before.before in (s.requires.0, s.requires.1, s.requires.2, s.requires.3)
+part-of-requires : tie.Need-part_of-part-requires
+part-of-requires c κs = (c.requires.0, c.requires.1, c.requires.2, c.requires.3)
 
-returns : tie.Need-returns
-returns c = let p = c.before.before.part_of in took_not _ (rw (not-true p.result.some c.if1.true) at p.ensures)
+returns : tie.Need-returns-then-not-part
+returns c = let p = c.part_of-part in took_not _ (rw (not-true p.result.some c.if-not-part.true) at p.ensures)
 
 take-requires : tie.Need-take-requires
 take-requires c κs =
-    let k = c.before.before.before.part_of.ensures.parts (not-false _ c.before.if1.false) in
-    let s = c.before.before.before.before.before.before in
-    (s.requires.3, k.few, k.within, s.requires.4)
+    let k = c.part_of-part.ensures.parts (not-false _ c.if-not-part.false) in
+    (c.requires.3, k.few, k.within, c.requires.4)
 
-returns-2 : tie.Need-returns-2
+returns-2 : tie.Need-returns
 returns-2 c =
-    let e = c.before.before in
-    let p = e.before.before.part_of in
-    took_so _ (rw (not-false p.result.some e.if1.false) at p.ensures) c.take.ensures
+    let p = c.part_of-part in
+    took_so _ (rw (not-false p.result.some c.if-not-part.false) at p.ensures) c.take.ensures
 
 pub take_by_spec : {M : Type 1} → statement M
 take_by_spec = tie.close (tie.spec part-of-requires returns take-requires returns-2)

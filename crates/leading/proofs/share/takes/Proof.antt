@@ -12,34 +12,28 @@ use Rattle.leading.proofs.share.takes.Statement.{statement}
 use Rattle.leading.proofs.share.takes.Tie as tie
 
 -- The care bits agree with x.
-cares : (e : tie.Else1) →
-    let a = e.before.before.before.before.args in
+cares : (e : tie.Else-x-byte_within) →
+    let a = e.args in
     eqb (bit_and a.x (byte_at a.file.now (a.at + 1))) (byte_at a.file.now (a.at + 2)) ≡ true
-cares e = let b = e.before in rw (← b.before.byte-within.ensures.0, ← b.byte-within2.ensures.0) (eq-eqb _ _ e.if1.false)
+cares e = rw (← e.byte_within.ensures.0, ← e.byte_within-2.ensures.0) (eq-eqb _ _ e.if-x-byte_within.false)
 
-returns : tie.Need-returns
+returns : tie.Need-returns-then-x-byte_within
 unfolding rule_from
 returns c =
-    let b = c.before in
-    sym (takes_care _ _ _ _ (rw (← b.before.byte-within.ensures.0, ← b.byte-within2.ensures.0) (ne_eqb _ _ c.if1.true)))
+    sym (takes_care _ _ _ _ (rw (← c.byte_within.ensures.0, ← c.byte_within-2.ensures.0) (ne_eqb _ _ c.if-x-byte_within.true)))
 
 held-requires : tie.Need-held-requires
-held-requires c κs = c.before.before.before.before.requires
+held-requires c κs = c.requires
 
-returns-2 : tie.Need-returns-2
-returns-2 c = sym (takes_bounds _ _ _ _ (sym c.before.held.ensures ∙ not-true _ c.if2.true))
+returns-2 : tie.Need-returns-then-not-held
+returns-2 c = sym (takes_bounds _ _ _ _ (sym c.held.ensures ∙ c.if-not-held.true))
 
-returns-3 : tie.Need-returns-3
+returns-3 : tie.Need-returns
 unfolding rule_from
 returns-3 c =
-    let e = c.before.before.before in
-    sym (takes_both _ _ _ _ (sym e.before.held.ensures ∙ not-false _ e.if2.false)
-    (cares e.before.before)
-    ∙ rw (← c.before.before.byte-within3.ensures.0, ← c.before.byte-within4.ensures.0, ← c.outs.ensures))
+    sym (takes_both _ _ _ _ (sym c.held.ensures ∙ c.if-not-held.false)
+    (cares c.before.before.before.before.before)
+    ∙ rw (← c.byte_within-3.ensures.0, ← c.byte_within-4.ensures.0, ← c.outs.ensures))
 
 pub takes_spec : {M : Type 1} → statement M
-takes_spec =
-    tie.close
-    (tie.spec
-    (λ c. search rules) (λ c κs. search rules) (λ c. search rules) (λ c κs. search rules) returns held-requires returns-2 (λ c. search rules)
-    (λ c κs. search rules) (λ c. search rules) (λ c κs. search rules) (λ c κs. search rules) returns-3)
+takes_spec = tie.close (tie.spec (λ c. search rules) (λ c κs. search rules) (λ c. search rules) (λ c κs. search rules) returns held-requires returns-2 (λ c. search rules) (λ c κs. search rules) (λ c. search rules) (λ c κs. search rules) (λ c κs. search rules) returns-3)

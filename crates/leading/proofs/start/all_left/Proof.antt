@@ -4,7 +4,7 @@ use Rattle.leading.proofs.start.all_left.Statement.{statement}
 use Rattle.leading.proofs.start.all_left.Tie as tie
 
 returns : tie.Need-returns
-returns c = rw (c.before.before.inputs-of.ensures.0, c.before.outputs-of.ensures.0) at c.room.ensures
+returns c = rw (c.inputs_of.ensures.0, c.outputs_of.ensures.0) at c.room.ensures
 
 pub all_left_spec : {M : Type 1} → statement M
 all_left_spec = tie.close (tie.spec (λ c κs. search rules) (λ c κs. search rules) (λ c κs. search rules) returns)
