@@ -28,6 +28,12 @@ BACK = {
 # As names of definitions; `rules` is a field in places, which is accepted.
 RESERVED = set("""open data record in as where search ruleset rw simp omega grind cc assumption ground elim use pub module abbrev
 unfoldable unfolding infix infixl infixr syntax tt Unit absurd mod hlevel first_of ghost exact""".split())
+# Names with a middle dot, which port.py left: a namespace is a module.
+DOTTED = (
+    ("use Rattle.std.proofs.Math.Logic.{Iff·trans}", "use Rattle.std.proofs.Math.Logic.Iff"),
+    ("Iff·trans", "Iff.trans"),
+    ("Text·letter", "text_letter"),
+)
 # Modules that Rattle makes: their names are not the repository's.
 MADE = re.compile(r"\.(declared|contracts|Statement|Tie|Needs|Goals|TheVariants|TheLaws|Symbol|Key|Met|Reads|Kinds)(\.|$)|\.\+|\.proofs\..*\.Code$")
 # A comment, a string, a name, or one other character.
@@ -295,6 +301,8 @@ class Tree:
                 last = at + len(w)
         out.append(part.text[last:])
         text = "".join(out)
+        for old, new in DOTTED:
+            text = text.replace(old, new)
         return text if part is not f else self.turn_comments(f, text)
 
     def turn_comments(self, f, text):

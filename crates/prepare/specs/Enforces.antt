@@ -5,7 +5,7 @@ use Rattle.std.specs.Prelude.{◌≡◌, true, false, ◌↔◌, ℕ, ◌<◌, e
 use Rattle.std.proofs.Math.Path.{refl, ap, subst}
 use Rattle.std.proofs.Common.{sym, ◌∙◌}
 use mathlib.Core.List.{List, [], ◌∷◌, ◌++◌, append-nil, append_assoc}
-use Rattle.std.proofs.Math.Logic.{Iff·trans}
+use Rattle.std.proofs.Math.Logic.Iff
 use Rattle.std.proofs.Math.Option.{none, some, bind, some-injective}
 use Rattle.std.proofs.Math.ListN.{get_or-append}
 use borrow.Author.Tests.{eqb-true, eq-eqb}
@@ -111,7 +111,7 @@ module _ (p : Policy) (ok : WellFormed p) (marks : List ℕ) (by : AsPrepared p 
   -- A stream can go on for ever exactly if the state that it leads to is marked.
   pub goes_on_ready : {w : Stream} {s : Place} → Leads p w s → GoesOn (Permits p) w ↔ (is_marked marks (number_of p s) ≡ true)
   goes_on_ready {w} h =
-      Iff·trans (subst (λ (z : Place). GoesOn (Permits p) w ↔ (mark_of p z ≡ 1)) h.shows (goes_on_marked p ok h.leads h.fits))
+      Iff.trans (subst (λ (z : Place). GoesOn (Permits p) w ↔ (mark_of p z ≡ 1)) h.shows (goes_on_marked p ok h.leads h.fits))
       (marked_by (leads_inside p ok h))
 
   module _ {w : Stream} {s : Place} (h : Leads p w s) where

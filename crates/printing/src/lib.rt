@@ -4,7 +4,7 @@
 ghost use Rattle.std.specs.Prelude.{◌≡◌, ◌++◌, ◌+◌, ◌*◌, ◌/◌, ◌%◌, ◌^◌, ◌≤◌, ◌<◌, length};
 ghost use Rattle.texts.specs.Text.{decimal};
 ghost use Rattle.printing.specs.Text.{spaced, refused_line, verdict_line, halves, event_line, tick_lines};
-ghost use Rattle.printing.specs.Text.{letter as Text·letter};
+ghost use Rattle.printing.specs.Text.{letter as text_letter};
 ghost use Rattle.texts.specs.Wrote.{Wrote};
 
 use texts::{put_bytes, put_decimal};
@@ -49,7 +49,7 @@ pub fn put_verdict(text: &mut [u8], at: usize, verdict: u8, states: usize, live:
 
 // F forwarded or E edited.
 fn letter(given: u8, released: u8) -> u8
-    ensures { result ≡ Text·letter given released }
+    ensures { result ≡ text_letter given released }
 {
     if given == released { b'F' } else { b'E' }
 }

@@ -4,7 +4,7 @@
 use Rattle.std.specs.Prelude.{◌≡◌, refl, Bool, cond, List, [], ◌∷◌, ◌++◌, map, ◌↔◌, ◌⊎◌, ℕ, ◌*◌, ◌/◌, ◌%◌, ◌^◌, ◌≤◌, ◌<◌, leb, length, take, drop}
 use Rattle.std.proofs.Common.{sym, ap, ap₂, subst, ◌∙◌, inl, inr, ⊎_elim, eqb-true, eq-eqb}
 use Rattle.std.proofs.Math.Bool.{true, false}
-use Rattle.std.proofs.Math.Logic.{Iff·trans}
+use Rattle.std.proofs.Math.Logic.Iff
 use native.Mathlib.Omega.{arith}
 use Rattle.std.proofs.lemmas.List.{length-map}
 use Rattle.streams.specs.Answer.{Answer, refused, gives, ◌or_else◌, unless}
@@ -52,7 +52,7 @@ pub code_hopeless :
     refusal_under reading file ≡ 0 → states (policy_of reading file) ≤ length before →
     (r ≡ Prepared.Refused 11) ↔ Hopeless (Permits (policy_of reading file))
 code_hopeless {reading} {file} {before} {r = r} h passed long =
-    Iff·trans (λ e. sym h.said ∙ ap prepared_said e, λ e. prepared_one r (Prepared.Refused 11) (h.said ∙ e))
+    Iff.trans (λ e. sym h.said ∙ ap prepared_said e, λ e. prepared_one r (Prepared.Refused 11) (h.said ∙ e))
     (hopeless_exactly reading file before passed long)
 
 -- "Otherwise" prepare's code gives a summary.

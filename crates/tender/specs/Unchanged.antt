@@ -1,6 +1,6 @@
 -- "With all bytes 0 nothing changes": where no location must be left, live, hopeless and what is released are what 01 says, in words that know no rest.
 use Rattle.std.specs.Prelude.{◌≡◌, List, [], ◌∷◌, ◌++◌, ◌↔◌, ℕ, ◌≤◌, ◌<◌, ◌^◌, length, get_or}
-use Rattle.std.proofs.Math.Logic.{Iff·trans}
+use Rattle.std.proofs.Math.Logic.Iff
 use borrow.Author.Tests.{eq-eqb}
 use Rattle.streams.specs.Answer.{refused}
 use Rattle.streams.specs.Stream.{Event, Stream, Language, GoesOn, Hopeless}
@@ -127,4 +127,4 @@ pub refused_unchanged :
     AllZero (policy_of reading file) →
     (prepare_of reading file marks ≡ refused 11) ↔ SomeLengthNone (Permits (policy_of reading file)).permits []
 refused_unchanged reading file marks passed long zero =
-    Iff·trans (hopeless_exactly reading file marks passed long) (hopeless_unchanged (policy_of reading file) zero)
+    Iff.trans (hopeless_exactly reading file marks passed long) (hopeless_unchanged (policy_of reading file) zero)
