@@ -27,11 +27,10 @@ abbrev at-loop : tie.In-loop-rules invariant-loop decreases-loop → tie.At-loop
 at-loop c = c.before.before
 
 loop-holds : tie.Need-loop-rules-init invariant-loop decreases-loop
-loop-holds c =
-    (
-      (c.all_left-left.ensures.size, refl, c.rules_ahead-rules.ensures.ahead),
-      gathering_start _ (policy_of c.args.layout.reading c.args.file.now) _ (laid_well c.requires.standing.laid) _ c.rules_ahead-rules.ensures.rules _ c.all_left-left.ensures,
-    )
+loop-holds c = (
+  (c.all_left-left.ensures.size, refl, c.rules_ahead-rules.ensures.ahead),
+  gathering_start _ (policy_of c.args.layout.reading c.args.file.now) _ (laid_well c.requires.standing.laid) _ c.rules_ahead-rules.ensures.rules _ c.all_left-left.ensures,
+)
 
 gather-by-requires : tie.Need-gather_by-requires invariant-loop decreases-loop
 gather-by-requires c κs =

@@ -27,12 +27,11 @@ abbrev at-loop : tie.In-loop-rules invariant-loop decreases-loop → tie.At-loop
 at-loop c = c.before.before
 
 loop-holds : tie.Need-loop-rules-init invariant-loop decreases-loop
-loop-holds c =
-    (
-      c.rules_ahead-rules.ensures.ahead,
-      rowing_start _ (policy_of c.args.layout.reading c.args.file.now) _ _ (laid_well c.requires.standing.laid) _ c.rules_ahead-rules.ensures.rules _
-          (c.all_below-left.ensures ∙ ap all_below c.outputs_of.ensures.0),
-    )
+loop-holds c = (
+  c.rules_ahead-rules.ensures.ahead,
+  rowing_start _ (policy_of c.args.layout.reading c.args.file.now) _ _ (laid_well c.requires.standing.laid) _ c.rules_ahead-rules.ensures.rules _
+      (c.all_below-left.ensures ∙ ap all_below c.outputs_of.ensures.0),
+)
 
 takes-requires : tie.Need-takes-took-requires invariant-loop decreases-loop
 takes-requires c κs =

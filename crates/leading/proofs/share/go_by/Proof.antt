@@ -47,7 +47,7 @@ left_so c =
 returns-2 : tie.Need-returns-then-not-is_left
 returns-2 c =
     let i = (care c.before).before in
-    went_not _ _ _ (took_not _ (parted_taken _ (sym i.before.held.ensures ∙ i.if1.left) (sym (c.if-not-is_left.true) ∙ left_so c.before)))
+    went_not _ _ _ (took_not _ (parted_taken _ (sym i.held.ensures ∙ i.if-not-held.false) (sym (c.if-not-is_left.true) ∙ left_so c.before)))
 
 -- The same, by equal numbers.
 parted_as : {s : Place} {r : Rule} {n : ℕ} {left : List ℕ} {a b m a' b' m' : ℕ} → a ≡ a' → b ≡ b' → m ≡ m' → Parted s r n left true a b m → Parted s r n left true a' b' m'
@@ -67,7 +67,7 @@ parted c =
     (sym c.byte_within-care.ensures.0)
     (sym c.byte_within-value.ensures.0)
     (sym (c.outs-set.ensures ∙ ap₂ outs c.byte_within.ensures.0 c.byte_within-2.ensures.0))
-    (parted_so _ (sym i.before.held.ensures ∙ i.if1.left) k.care k.formed.inputs (sym (c.if-not-is_left.false) ∙ left_so c.before))
+    (parted_so _ (sym i.held.ensures ∙ i.if-not-held.false) k.care k.formed.inputs (sym (c.if-not-is_left.false) ∙ left_so c.before))
 
 take-requires : tie.Need-take-requires
 take-requires c κs =
