@@ -5,19 +5,18 @@ use Rattle.stepping.proofs.DecidedLaws.{decided_step}
 use Rattle.correcting.proofs.arrive.arrival.Statement.{statement}
 use Rattle.correcting.proofs.arrive.arrival.Tie as tie
 
-rule-of-requires : tie.Need-rule-of-requires
-rule-of-requires c κs = let s = c.before.before in (s.requires.standing.laid, s.requires.here)
+rule-of-requires : tie.Need-rule_of-rule-requires
+rule-of-requires c κs = (c.requires.standing.laid, c.requires.here)
 
-by-requires : tie.Need-by-requires
-by-requires c κs = (c.before.before.before.requires.standing.laid, c.rule-of.ensures.stands)
+by-requires : tie.Need-by-step-requires
+by-requires c κs = (c.requires.standing.laid, c.rule_of-rule.ensures.stands)
 
-if-marked-requires : tie.Need-if-marked-requires
-if-marked-requires c κs = next_fits c.before.before.before.before.requires.standing _ _ (decided_step c.before.rule-of.ensures c.by.ensures)
+if-marked-requires : tie.Need-if_marked-requires
+if-marked-requires c κs = next_fits c.requires.standing _ _ (decided_step c.rule_of-rule.ensures c.by-step.ensures)
 
 returns : tie.Need-returns
 returns c =
-    let b = c.before in
-    c.if-marked.ensures ∙ marked_arrives b.before.before.before.before.requires.standing _ _ (decided_step b.before.rule-of.ensures b.by.ensures)
+    c.if_marked.ensures ∙ marked_arrives c.requires.standing _ _ (decided_step c.rule_of-rule.ensures c.by-step.ensures)
 
 pub arrival_spec : {M : Type 1} → statement M
 arrival_spec = tie.close (tie.spec rule-of-requires by-requires if-marked-requires returns)

@@ -8,24 +8,21 @@ use Rattle.correcting.specs.Choice.{sets_chosen}
 use Rattle.correcting.proofs.choose.choose_input.Statement.{statement}
 use Rattle.correcting.proofs.choose.choose_input.Tie as tie
 
-may-stand-requires : tie.Need-may-stand-requires
-may-stand-requires c κs = c.before.before.requires.0
+may-stand-requires : tie.Need-may_stand-requires
+may-stand-requires c κs = c.requires.0
 
-returns : tie.Need-returns
+returns : tie.Need-returns-then-may_stand
 unfolding input_choice
 returns c =
-    let s = c.before.before.before.before in
-    sym (nearest_kept _ _ _ s.requires.1 (sym c.before.may-stand.ensures ∙ c.if1.true))
+    sym (nearest_kept _ _ _ c.requires.1 (sym c.may_stand.ensures ∙ c.if-may_stand.true))
 
-allowed-requires : tie.Need-allowed-requires
-allowed-requires c κs = c.before.before.before.before.requires.0
+allowed-requires : tie.Need-allowed-sets-requires
+allowed-requires c κs = c.requires.0
 
-returns-2 : tie.Need-returns-2
+returns-2 : tie.Need-returns
 returns-2 c =
-    let v = c.before in
-    let s = v.before.before.before.before.before.before.before in
-    rw v.inputs-of.ensures.0 at c.nearest.ensures
-    ∙ sets_chosen _ (laid_well s.requires.0.standing.laid) _ _ v.before.before.allowed.result _ v.before.before.allowed.ensures v.before.standing.ensures _
+    rw c.inputs_of.ensures.0 at c.nearest.ensures
+    ∙ sets_chosen _ (laid_well c.requires.0.standing.laid) _ _ c.allowed-sets.result _ c.allowed-sets.ensures c.standing.ensures _
 
 pub choose_input_spec : {M : Type 1} → statement M
 choose_input_spec = tie.close (tie.spec may-stand-requires returns allowed-requires (λ c κs. search rules) (λ c κs. search rules) (λ c κs. search rules) returns-2)

@@ -8,17 +8,15 @@ use Rattle.correcting.specs.Choice.{row_chosen}
 use Rattle.correcting.proofs.choose.choose_output.Statement.{statement}
 use Rattle.correcting.proofs.choose.choose_output.Tie as tie
 
-returns : tie.Need-returns
+returns : tie.Need-returns-then-reaches
 unfolding output_choice
 returns c =
-    let y = rw c.before.before.before.outputs-of.ensures.0 at c.before.before.if1.true in
-    sym (nearest_kept _ _ _ y (sym c.before.reaches.ensures ∙ c.if2.true))
+    let y = rw c.outputs_of-n.ensures.0 at c.if-y-n.true in
+    sym (nearest_kept _ _ _ y (sym c.reaches.ensures ∙ c.if-reaches.true))
 
-returns-2 : tie.Need-returns-2
+returns-2 : tie.Need-returns
 returns-2 c =
-    let v = c.before.before.before in
-    let s = v.before.before.before in
-    rw v.outputs-of.ensures.0 at c.nearest.ensures ∙ row_chosen _ (laid_well s.requires.standing.laid) _ _ _ _ c.before.row.ensures _
+    rw c.outputs_of-n.ensures.0 at c.nearest.ensures ∙ row_chosen _ (laid_well c.requires.standing.laid) _ _ _ _ c.row.ensures _
 
 pub choose_output_spec : {M : Type 1} → statement M
 choose_output_spec = tie.close (tie.spec (λ c κs. search rules) (λ c κs. search rules) returns (λ c κs. search rules) (λ c κs. search rules) returns-2)

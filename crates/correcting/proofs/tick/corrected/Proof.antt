@@ -1,7 +1,7 @@
 -- `correcting::tick::corrected` meets its contract: the output half goes on from the chosen input, by the set that one pass has found for it.
 use mathlib.Core.Path.{◌≡◌, sym, ap, ◌∙◌}
-use mathlib.Core.Option.{bind}
-use Prim.Native.Nat.{◌<◌}
+use mathlib.Core.Option.{bind, some}
+use Prim.Native.Nat.{ℕ, ◌<◌}
 use native.Mathlib.Omega.{arith}
 use lib.Pow.{pow_pos}
 use borrow.Author.Rules.{rules}
@@ -19,8 +19,8 @@ use Rattle.correcting.proofs.tick.corrected.Tie as tie
 abbrev start : tie.After-standing → tie.Start
 start c = c.before.before.before.before.before.before
 
-abbrev chosen : tie.After-known-told → tie.After-nearest
-chosen c = c.before.before.before
+abbrev chosen : tie.In-Value → tie.After-nearest
+chosen c = c.before
 
 abbrev policyAt : tie.Start → Policy
 policyAt s = policy_of s.args.layout.reading s.args.file.now
@@ -31,42 +31,33 @@ placeAt s = place s.args.layout.clocks s.args.here.state
 -- The input is the one that the input half chooses.
 input : (c : tie.After-nearest) → let s = start c.before.before in choice_said c.nearest.result ≡ input_choice (policyAt s) s.args.marks.now (placeAt s) s.args.x
 input c =
-    let v = c.before in
-    rw v.inputs-of.ensures.0 at c.nearest.ensures
-    ∙ sets_chosen _ (laid_well (start v.before).requires.0.standing.laid) _ _ v.before.before.allowed.result _ v.before.before.allowed.ensures v.before.standing.ensures _
+    rw c.inputs_of.ensures.0 at c.nearest.ensures
+    ∙ sets_chosen _ (laid_well (start c.before.before).requires.0.standing.laid) _ _ c.allowed-sets.result _ c.allowed-sets.ensures c.standing.ensures _
 
-below : (c : tie.After-known-told) → c.before.z.given.0.0 < input_values (policyAt (start (chosen c).before.before))
-below c = input_below _ _ _ _ (sym (input (chosen c)) ∙ ap choice_said c.before.z.given.1)
+below : (n : tie.After-nearest) (z : ℕ) → choice_said n.nearest.result ≡ some z → z < input_values (policyAt (start n.before.before))
+below n z e = input_below _ _ _ _ (sym (input n) ∙ e)
 
-returns : tie.Need-returns
+returns : tie.Need-returns-then-reaches
 unfolding tick bind
 returns c =
-    let s = c.before.before.before.before.before in
-    rw (input_stands _ _ _ _ 0 s.requires.1 (pow_pos _) (sym c.before.before.reaches.ensures ∙ c.before.if1.true)) c.output-tick.ensures
+    rw (input_stands _ _ _ _ 0 c.requires.1 (pow_pos _) (sym c.reaches.ensures ∙ c.if-reaches.true)) c.output_tick.ensures
 
-array-read-nearest : tie.Need-array-read-nearest
-array-read-nearest c = omega (arith, below c, (chosen c).before.inputs-of.ensures)
+array-read-nearest : tie.Need-bounds-sets-i
+array-read-nearest c = omega (arith, below c.before c.in-Value.z (ap choice_said c.in-Value.is), c.inputs_of.ensures)
 
 moved-requires : tie.Need-moved-requires
-moved-requires c κs = let s = start (chosen c.before.before).before.before in (s.pre.0.standing.laid, s.pre.0.here)
+moved-requires c κs = let s = start (chosen c.before.before).before.before in (s.requires.0.standing.laid, s.requires.0.here)
 
-returns-2 : tie.Need-returns-2
+returns-2 : tie.Need-returns-in-Nothing
 unfolding tick bind
-returns-2 c = rw (sym (input c.before.before.before) ∙ ap choice_said c.before.enum_told.given.1) c.stuck.ensures
+returns-2 c = rw (sym (input c.before.before.before) ∙ ap choice_said c.in-Nothing.is) c.stuck.ensures
 
-returns-3 : tie.Need-returns-3
+returns-3 : tie.Need-returns-in-Value
 unfolding tick bind
 returns-3 c =
-    let v = c.before.before in
-    let k = v.before in
-    let s = start (chosen k).before.before in
-    let output = rw v.outputs-of.ensures.0 at c.before.nearest2.ensures ∙ set_chosen _ (laid_well s.pre.0.standing.laid) _ _ _ _ ((chosen k).before.before.before.allowed.ensures _) (below k) _ in
-    rw (sym (input (chosen k)) ∙ ap choice_said k.before.z.given.1) (c.moved.ensures _ _ output)
+    let s = start (chosen c.before.before.before).before.before in
+    let output = rw c.outputs_of.ensures.0 at c.nearest-output.ensures ∙ set_chosen _ (laid_well s.requires.0.standing.laid) _ _ _ _ ((chosen c.before.before.before).allowed-sets.ensures _) (below (chosen c.before.before.before) c.in-Value.z (ap choice_said c.in-Value.is)) _ in
+    rw (sym (input (chosen c.before.before.before)) ∙ ap choice_said c.in-Value.is) (c.moved.ensures _ _ output)
 
 pub corrected_spec : {M : Type 1} → statement M
-corrected_spec =
-    tie.close
-    (tie.spec
-    (λ c κs. search rules) (λ c κs. search rules) returns (λ c κs. search rules) (λ c κs. search rules) (λ c κs. search rules) (λ c κs. search rules)
-    (λ c. search rules) (λ c κs. search rules) (λ c. search rules) (λ c. search rules) (λ c. search rules) array-read-nearest (λ c κs. search rules)
-    (λ c κs. search rules) moved-requires returns-2 returns-3)
+corrected_spec = tie.close (tie.spec (λ c κs. search rules) (λ c κs. search rules) returns (λ c κs. search rules) (λ c κs. search rules) (λ c κs. search rules) (λ c κs. search rules) (λ c. search rules) (λ c κs. search rules) (λ c. search rules) (λ c. search rules) (λ c. search rules) array-read-nearest (λ c κs. search rules) (λ c κs. search rules) moved-requires returns-2 returns-3)
