@@ -13,36 +13,32 @@ use Rattle.enforcer.proofs.halves.input_by.Statement.{statement}
 use Rattle.enforcer.proofs.halves.input_by.Tie as tie
 
 -- Past 15 x is one of the inputs.
-fits : (c : tie.Else1) → let a = c.before.before.before.before.args in a.x < input_values (policy_of a.layout.reading a.file.now)
-fits c = rw c.before.inputs-of.ensures.0 at c.if1.false
+fits : (c : tie.Else-inputs_of-x) → let a = c.args in a.x < input_values (policy_of a.layout.reading a.file.now)
+fits c = rw c.inputs_of.ensures.0 at c.if-inputs_of-x.false
 
-returns : tie.Need-returns
-returns c = sym (rw (← c.before.inputs-of.ensures.0, le-ltb _ _ c.if1.true))
+returns : tie.Need-returns-then-inputs_of-x
+returns c = sym (rw (← c.inputs_of.ensures.0, le-ltb _ _ c.if-inputs_of-x.true))
 
-here-by-requires : tie.Need-here-by-requires
-here-by-requires c κs = let s = c.before.before.before.before in (s.requires.0.laid, s.requires.1)
+here-by-requires : tie.Need-here_by-here-requires
+here-by-requires c κs = (c.requires.0.laid, c.requires.1)
 
-choose-input-requires : tie.Need-choose-input-requires
+choose-input-requires : tie.Need-choose_input-requires
 choose-input-requires c κs =
-    let e = c.before in (ready_of e.before.before.before.before.requires.0 c.here-by.ensures, fits e)
+    (ready_of c.requires.0 c.here_by-here.ensures, fits c.before)
 
 -- The chooser says the rest.
-given : (c : tie.After-choose-input) →
-    let a = c.before.before.before.before.before.before.args in
-    input_past a.layout.reading a.file.now a.marks.now (place a.layout.clocks a.state) a.x ≡ chosen 0 (choice_said c.choose-input.result)
+given : (c : tie.After-choose_input) →
+    let a = c.args in
+    input_past a.layout.reading a.file.now a.marks.now (place a.layout.clocks a.state) a.x ≡ chosen 0 (choice_said c.choose_input.result)
 given c =
-    let h = c.before in
-    let said = rw h.here-by.ensures.1 at c.choose-input.ensures in
-    rw (lt-ltb _ _ (fits h.before), ← said)
+    let said = rw c.here_by-here.ensures.1 at c.choose_input.ensures in
+    rw (lt-ltb _ _ (fits c.before.before), ← said)
 
-returns-2 : tie.Need-returns-2
-returns-2 c = sym (given c.before.before.before ∙ rw c.before.z.given.1)
+returns-2 : tie.Need-returns-in-Value
+returns-2 c = sym (given c.before ∙ rw c.in-Value.is)
 
-returns-3 : tie.Need-returns-3
-returns-3 c = sym (given c.before.before ∙ rw c.enum_told.given.1)
+returns-3 : tie.Need-returns-in-Nothing
+returns-3 c = sym (given c.before ∙ rw c.in-Nothing.is)
 
 pub input_by_spec : {M : Type 1} → statement M
-input_by_spec =
-    tie.close
-    (tie.spec
-    (λ c κs. search rules) returns here-by-requires choose-input-requires (λ c. search rules) (λ c. search rules) returns-2 returns-3)
+input_by_spec = tie.close (tie.spec (λ c κs. search rules) returns here-by-requires choose-input-requires (λ c. search rules) (λ c. search rules) returns-2 returns-3)

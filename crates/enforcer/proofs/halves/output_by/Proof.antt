@@ -28,56 +28,47 @@ tick_says : (s : State) (d : Option ReleasedTick) → output_from s (chosen 0 d)
 tick_says s none = refl
 tick_says s (some t) = refl
 
-returns : tie.Need-returns
-returns c = ap output_said c.refused.ensures ∙ sym (rw (← c.before.before.inputs-of.ensures.0, le-ltb _ _ c.before.if1.true))
+returns : tie.Need-returns-then-inputs_of-x
+returns c = ap output_said c.refused.ensures ∙ sym (rw (← c.inputs_of.ensures.0, le-ltb _ _ c.if-inputs_of-x.true))
 
 -- Past 15 x is one of the inputs, and y one of the outputs.
-x_fits : (c : tie.Else1) → let a = c.before.before.before.before.args in a.x < input_values (policy_of a.layout.reading a.file.now)
-x_fits c = rw c.before.inputs-of.ensures.0 at c.if1.false
+x_fits : (c : tie.Else-inputs_of-x) → let a = c.args in a.x < input_values (policy_of a.layout.reading a.file.now)
+x_fits c = rw c.inputs_of.ensures.0 at c.if-inputs_of-x.false
 
-returns-2 : tie.Need-returns-2
+returns-2 : tie.Need-returns-then-outputs_of-y
 returns-2 c =
-    let v = c.before.before in
-    ap output_said c.refused2.ensures ∙ sym (rw (lt-ltb _ _ (x_fits v.before), ← v.outputs-of.ensures.0, le-ltb _ _ c.before.if2.true))
+    ap output_said c.refused-then-outputs_of-y.ensures ∙ sym (rw (lt-ltb _ _ (x_fits c.before.before.before), ← c.outputs_of.ensures.0, le-ltb _ _ c.if-outputs_of-y.true))
 
-y_fits : (c : tie.Else2) → let a = c.before.before.before.before.before.before.args in a.y < output_values (policy_of a.layout.reading a.file.now)
-y_fits c = rw c.before.outputs-of.ensures.0 at c.if2.false
+y_fits : (c : tie.Else-outputs_of-y) → let a = c.args in a.y < output_values (policy_of a.layout.reading a.file.now)
+y_fits c = rw c.outputs_of.ensures.0 at c.if-outputs_of-y.false
 
-here-by-requires : tie.Need-here-by-requires
-here-by-requires c κs = let s = c.before.before.before.before.before.before in (s.requires.0.laid, s.requires.1)
+here-by-requires : tie.Need-here_by-here-requires
+here-by-requires c κs = (c.requires.0.laid, c.requires.1)
 
-output-tick-requires : tie.Need-output-tick-requires
+output-tick-requires : tie.Need-output_tick-t-requires
 output-tick-requires c κs =
-    let e = c.before in
-    (ready_of e.before.before.before.before.before.before.requires.0 c.here-by.ensures, y_fits e)
+    (ready_of c.requires.0 c.here_by-here.ensures, y_fits c.before)
 
 -- The tick says the rest.
-abbrev asked : tie.After-output-tick → Option ReleasedTick
+abbrev asked : tie.After-output_tick-t → Option ReleasedTick
 asked c =
-    let a = c.before.before.before.before.before.before.before.before.args in
+    let a = c.args in
     output_tick (policy_of a.layout.reading a.file.now) a.marks.now (place a.layout.clocks a.state) a.x a.y
 
-given : (c : tie.After-output-tick) →
-    let a = c.before.before.before.before.before.before.before.before.args in
+given : (c : tie.After-output_tick-t) →
+    let a = c.args in
     output_past a.layout.reading a.file.now a.marks.now a.state (place a.layout.clocks a.state) a.x a.y
-    ≡ tick_said a.state c.output-tick.result
+    ≡ tick_said a.state c.output_tick-t.result
 given c =
-    let h = c.before in
-    let e = h.before in
-    rw (lt-ltb _ _ (x_fits e.before.before), lt-ltb _ _ (y_fits e), rw h.here-by.ensures.1 at c.output-tick.ensures) (tick_says c.before.before.before.before.before.before.before.before.args.state (asked c))
+    rw (lt-ltb _ _ (x_fits c.before.before.before.before), lt-ltb _ _ (y_fits c.before.before), rw c.here_by-here.ensures.1 at c.output_tick-t.ensures) (tick_says c.args.state (asked c))
 
-returns-3 : tie.Need-returns-3
+returns-3 : tie.Need-returns-then-not-t
 returns-3 c =
-    let t = c.before.before.before in
-    ap output_said c.refused3.ensures ∙ sym (given t ∙ rw (not-true t.output-tick.result.released c.before.if3.true))
+    ap output_said c.refused-then-not-t.ensures ∙ sym (given c.before.before.before ∙ rw (not-true c.output_tick-t.result.released c.if-not-t.true))
 
-returns-4 : tie.Need-returns-4
+returns-4 : tie.Need-returns
 returns-4 c =
-    let t = c.before.before.before in sym (given t ∙ rw (not-false t.output-tick.result.released c.before.if3.false))
+    sym (given c.before.before.before ∙ rw (not-false c.output_tick-t.result.released c.if-not-t.false))
 
 pub output_by_spec : {M : Type 1} → statement M
-output_by_spec =
-    tie.close
-    (tie.spec
-    (λ c κs. search rules) (λ c κs. search rules) returns (λ c κs. search rules) (λ c κs. search rules) returns-2 here-by-requires output-tick-requires
-    (λ c κs. search rules) returns-3 returns-4)
+output_by_spec = tie.close (tie.spec (λ c κs. search rules) (λ c κs. search rules) returns (λ c κs. search rules) (λ c κs. search rules) returns-2 here-by-requires output-tick-requires (λ c κs. search rules) returns-3 returns-4)

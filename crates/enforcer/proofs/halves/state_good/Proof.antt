@@ -12,20 +12,18 @@ use Rattle.enforcer.proofs.halves.state_good.Tie as tie
 four : (c : tie.Start) → length c.args.state.clocks ≡ 4
 four c = search rules
 
-cast-highest : tie.Need-overflow-cast-highest
-cast-highest c = let e = ap (λ (m : Limits). m.ceiling) c.before.limits.ensures in search rules
+cast-highest : tie.Need-overflow_cast-highest
+cast-highest c = let e = ap (λ (m : Limits). m.ceiling) c.limits-most.ensures in search rules
 
-returns : tie.Need-returns
+returns : tie.Need-returns-then-not-in_range
 returns c =
-    let s = c.before.before.before.before.before in
-    sym (own_limits s.requires s.args.state (four s)
-    (ap (λ (m : Limits). in_range m.locations (replicate 4 m.ceiling) s.args.state) (sym c.before.before.before.limits.ensures)
-    ∙ sym c.before.in-range.ensures ∙ not-true _ c.if1.true))
+    sym (own_limits c.requires c.args.state (four c.before.before.before.before.before)
+    (ap (λ (m : Limits). in_range m.locations (replicate 4 m.ceiling) c.args.state) (sym c.limits-most.ensures)
+    ∙ sym c.in_range.ensures ∙ c.if-not-in_range.true))
 
-returns-2 : tie.Need-returns-2
+returns-2 : tie.Need-returns
 returns-2 c =
-    let s = c.before.before.before.before.before.before.before in
-    c.in-range2.ensures ∙ sym (laid_good s.requires s.args.state (four s))
+    c.in_range-2.ensures ∙ sym (laid_good c.requires c.args.state (four c.before.before.before.before.before.before.before))
 
 pub state_good_spec : {M : Type 1} → statement M
 state_good_spec = tie.close (tie.spec (λ c κs. search rules) cast-highest (λ c κs. search rules) returns (λ c κs. search rules) returns-2)

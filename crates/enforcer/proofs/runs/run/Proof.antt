@@ -19,100 +19,85 @@ use Rattle.enforcer.proofs.runs.run.Tie as tie
 clocks : (c : tie.Start) → length c.args.state.clocks ≡ 4
 clocks c = search rules
 
-abbrev start : tie.Else1 → tie.Start
+abbrev start : tie.Else-r-ne0 → tie.Start
 start c = c.before.before.before.before.before.before.before
 
-abbrev laidOut : tie.Else1 → Layout
-laidOut c = c.before.before.check-under.result.layout
+abbrev laidOut : tie.Else-r-ne0 → Layout
+laidOut c = c.check_under-checked.result.layout
 
 -- What the code finds up to 10 is the refusal.
-marked : (c : tie.After-marks-refusal) →
-    let a = c.before.before.before.before.before.before.args in c.marks-refusal.result ≡ marks_refusal a.reading a.file.now a.marks.now
-marked c = c.marks-refusal.ensures ∙ marks_by _ _ _ c.before.check-under.ensures
+marked : (c : tie.After-marks_refusal-r) →
+    let a = c.args in c.marks_refusal-r.result ≡ marks_refusal a.reading a.file.now a.marks.now
+marked c = c.marks_refusal-r.ensures ∙ marks_by _ _ _ c.check_under-checked.ensures
 
 -- No refusal up to 10, so the file has the layout, and there are marks enough.
-none1 : (c : tie.Else1) → let a = (start c).args in marks_refusal a.reading a.file.now a.marks.now ≡ 0
-none1 c = sym (marked c.before) ∙ c.if1.false
+none1 : (c : tie.Else-r-ne0) → let a = (start c).args in marks_refusal a.reading a.file.now a.marks.now ≡ 0
+none1 c = sym (marked c.before) ∙ c.if-r-ne0.false
 
-laid : (c : tie.Else1) →
+laid : (c : tie.Else-r-ne0) →
     let a = (start c).args in
     Granted a.reading a.file.now a.marks.now (laidOut c)
-laid c = granted_laid _ c.before.before.check-under.ensures (none1 c)
+laid c = granted_laid _ c.check_under-checked.ensures (none1 c)
 
 -- No 16, and only 15 is left to ask.
-none3 : (c : tie.Else3) →
+none3 : (c : tie.Else-r-ne0-2) →
     let a = (start c.before.before.before.before).args in
     state_refusal (laidOut c.before.before.before.before).reading a.file.now a.marks.now a.state ≡ 0
-none3 c = sym c.before.state-refusal.ensures ∙ c.if3.false
+none3 c = sym c.state_refusal-r.ensures ∙ c.if-r-ne0-2.false
 
-past : (c : tie.Else3) →
+past : (c : tie.Else-r-ne0-2) →
     let a = (start c.before.before.before.before).args in
     run_refusal a.reading a.file.now a.marks.now a.state a.events.now a.out.now
     ≡ unless (all_pass (event_good (laidOut c.before.before.before.before).reading a.file.now) a.events.now) 15
 past c =
-    let l = c.before.before.before in
-    run_past _ _ _ _ _ _ (laidOut l.before) (laid l.before).named (none1 l.before) l.if2.false (none3 c)
+    run_past _ _ _ _ _ _ (laidOut c.before.before.before.before) (laid c.before.before.before.before).named (none1 c.before.before.before.before) c.if-out-events.false (none3 c)
 
-returns : tie.Need-returns
+returns : tie.Need-returns-then-r-ne0
 unfolding run_refusal
 returns c =
-    let t = c.before.if1.true in
+    let t = c.if-r-ne0.true in
     run_refused c.refused.ensures t (rw (← marked c.before.before) (first_refused _ _ t))
 
-returns-2 : tie.Need-returns-2
+returns-2 : tie.Need-returns-then-out-events
 unfolding run_refusal
-returns-2 c = run_refused c.refused2.ensures (λ z. omega arith) (rw (none1 c.before.before, lt-leb _ _ c.before.if2.true))
+returns-2 c = run_refused c.refused-then-out-events.ensures (λ z. omega arith) (rw (none1 c.before.before, lt-leb _ _ c.if-out-events.true))
 
-state-refusal-requires : tie.Need-state-refusal-requires
+state-refusal-requires : tie.Need-state_refusal-r-requires
 state-refusal-requires c κs = let l = laid c.before.before in (l.laid, l.enough)
 
-returns-3 : tie.Need-returns-3
+returns-3 : tie.Need-returns-then-r-ne0-2
 unfolding run_refusal
 returns-3 c =
-    let t = c.before.if3.true in
-    let r = c.before.before in
-    let l = r.before.before in
-    run_refused c.refused3.ensures t
-    (rw (none1 l.before, le-leb _ _ l.if2.false, ← (laid l.before).named, ← r.state-refusal.ensures) (first_refused _ _ t))
+    let t = c.if-r-ne0-2.true in
+    run_refused c.refused-then-r-ne0-2.ensures t
+    (rw (none1 c.before.before.before.before.before, le-leb _ _ c.if-out-events.false, ← (laid c.before.before.before.before.before).named, ← c.state_refusal-r.ensures) (first_refused _ _ t))
 
-events-good-requires : tie.Need-events-good-requires
+events-good-requires : tie.Need-events_good-requires
 events-good-requires c κs = (laid c.before.before.before.before).laid
 
-returns-4 : tie.Need-returns-4
+returns-4 : tie.Need-returns-then-not-events_good
 unfolding run_refusal
 returns-4 c =
-    let g = c.before.before in
-    let e = sym g.events-good.ensures ∙ not-true _ c.before.if4.true in
-    run_refused c.refused4.ensures (λ z. omega arith) (rw (past g.before, e))
+    let e = sym c.events_good.ensures ∙ c.if-not-events_good.true in
+    run_refused c.refused-then-not-events_good.ensures (λ z. omega arith) (rw (past c.before.before.before, e))
 
 fill-requires : tie.Need-fill-requires
 fill-requires c κs = (laid_sections (laid c.before.before.before.before.before.before.before).laid, omega arith)
 
 release-requires : tie.Need-release-requires
 release-requires c κs =
-    let i = c.before.before.before.before in
-    let g = i.before.before in
-    let l = g.before.before.before.before in
-    let s = start l.before in
-    let k = laid l.before in
-    let z = none3 g.before in (
+    let s = start c.before.before.before.before.before.before.before.before.before.before.before in
+    let k = laid c.before.before.before.before.before.before.before.before.before.before.before in
+    let z = none3 c.before.before.before.before.before.before.before in (
       (granted_standing k.laid k.enough z, good_back k.laid _ (clocks s) ((state_granted _ _ _ _).0 z).0),
-      ((l.if2.false, sym g.events-good.ensures ∙ not-false _ i.before.if4.false), c.before.before.before.fill.ensures ∙ append-nil _),
+      ((c.if-out-events.false, sym c.events_good.ensures ∙ c.if-not-events_good.false), c.fill.ensures ∙ append-nil _),
     )
 
-returns-5 : tie.Need-returns-5
+returns-5 : tie.Need-returns
 unfolding run_of
 returns-5 c =
-    let r = c.before.before in
-    let i = r.before.before.before.before.before in
-    let g = i.before.before in
-    let e = sym g.events-good.ensures ∙ not-false _ i.before.if4.false in
-    record { said = let l = laid g.before.before.before.before.before in rw (past g.before, e, ← l.named, ← laid_place l.laid _) r.release.ensures }
+    let e = sym c.events_good.ensures ∙ c.if-not-events_good.false in
+    record { said = let l = laid c.before.before.before.before.before.before.before.before.before.before.before.before.before.before in rw (past c.before.before.before.before.before.before.before.before.before.before, e, ← l.named, ← laid_place l.laid _) c.release.ensures }
 
 pub run_spec : {M : Type 1} → statement M
-run_spec =
-    tie.close
-    (tie.spec
-    (λ c κs. search rules) (λ c κs. search rules) (λ c κs. search rules) returns (λ c κs. search rules) returns-2 state-refusal-requires
-    (λ c κs. search rules) returns-3 events-good-requires (λ c κs. search rules) returns-4 (λ c. search rules) fill-requires (λ c. search rules)
-    release-requires (λ c. search rules) returns-5)
+run_spec = tie.close (tie.spec (λ c κs. search rules) (λ c κs. search rules) (λ c κs. search rules) returns (λ c κs. search rules) returns-2 state-refusal-requires (λ c κs. search rules) returns-3 events-good-requires (λ c κs. search rules) returns-4 (λ c. search rules) fill-requires (λ c. search rules) release-requires (λ c. search rules) returns-5)
