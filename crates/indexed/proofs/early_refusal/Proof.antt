@@ -6,20 +6,20 @@ use Rattle.indexed.proofs.Laws.{early_check, early_sections, early_wrong, early_
 use Rattle.indexed.proofs.early_refusal.Statement.{statement}
 use Rattle.indexed.proofs.early_refusal.Tie as tie
 
-returns : tie.Need-returns
-returns c = early_check _ _ c.before.before.before.before.before.requires _ _ c.if1.true
+returns : tie.Need-returns-then-checked-ne0
+returns c = early_check _ _ c.requires _ _ c.if-checked-ne0.true
 
-is-index-requires : tie.Need-is-index-requires
-is-index-requires c κs = early_sections _ _ c.before.before.before.before.before.before.requires c.before.if1.false
+is-index-requires : tie.Need-is_index-requires
+is-index-requires c κs = early_sections _ _ c.requires c.if-checked-ne0.false
 
-returns-2 : tie.Need-returns-2
+returns-2 : tie.Need-returns-then-not-is_index
 returns-2 c =
-    early_wrong _ _ c.before.before.before.before.before.before.before.before.requires _ _ c.before.before.before.if1.false (sym c.before.is-index.ensures ∙ not-true _ c.if2.true)
+    early_wrong _ _ c.requires _ _ c.if-checked-ne0.false (sym c.is_index.ensures ∙ c.if-not-is_index.true)
 
-returns-3 : tie.Need-returns-3
+returns-3 : tie.Need-returns
 returns-3 c =
-    early_marks _ _ c.before.before.before.before.before.before.before.before.before.requires _ _ c.before.before.before.before.if1.false
-    (sym c.before.before.is-index.ensures ∙ not-false _ c.before.if2.false) c.marks-refusal.ensures
+    early_marks _ _ c.requires _ _ c.if-checked-ne0.false
+    (sym c.is_index.ensures ∙ c.if-not-is_index.false) c.marks_refusal.ensures
 
 pub early_refusal_spec : {M : Type 1} → statement M
 early_refusal_spec = tie.close (tie.spec returns is-index-requires returns-2 (λ c κs. search rules) returns-3)

@@ -12,32 +12,30 @@ use Rattle.bays.proofs.bays.bay_input.Statement.{statement}
 use Rattle.bays.proofs.bays.bay_input.Tie as tie
 use Rattle.stepping.specs.declared.state.State.{State}
 
-returns : tie.Need-returns
+returns : tie.Need-returns-then-bays_in-bay
 returns c =
-    let n = c.before.before in
-    let a = n.before.before.before.before.args in
+    let a = c.args in
     record {
       said =
-          ap refused c.no-bay.ensures
-          ∙ sym (input_none a.reading a.file.now a.marks.now a.states.now a.bay a.x (omega (arith, n.bays-in.ensures, c.before.if1.true)));
+          ap refused c.no_bay.ensures
+          ∙ sym (input_none a.reading a.file.now a.marks.now a.states.now a.bay a.x (omega (arith, c.bays_in.ensures, c.if-bays_in-bay.true)));
     }
 
 -- the bay is there
-is : (c : tie.Else1) → let a = c.before.before.before.before.before.args in a.bay < bays_in (length a.states.now)
-is c = omega (arith, c.before.bays-in.ensures, c.if1.false)
+is : (c : tie.Else-bays_in-bay) → let a = c.args in a.bay < bays_in (length a.states.now)
+is c = omega (arith, c.bays_in.ensures, c.if-bays_in-bay.false)
 
-bay-state-requires : tie.Need-bay-state-requires
+bay-state-requires : tie.Need-bay_state-requires
 bay-state-requires c κs = is c
 
-returns-2 : tie.Need-returns-2
+returns-2 : tie.Need-returns
 returns-2 c =
-    let e = c.before.before in
-    let a = e.before.before.before.before.before.args in
+    let a = c.args in
     record {
       said =
-          c.input-half.ensures.said
-          ∙ ap (λ (s : State). input_of a.reading a.file.now a.marks.now s a.x) c.before.bay-state.ensures
-          ∙ sym (input_there a.reading a.file.now a.marks.now a.states.now a.bay (is e) a.x);
+          c.input_half.ensures.said
+          ∙ ap (λ (s : State). input_of a.reading a.file.now a.marks.now s a.x) c.bay_state.ensures
+          ∙ sym (input_there a.reading a.file.now a.marks.now a.states.now a.bay (is c.before.before) a.x);
     }
 
 pub bay_input_spec : {M : Type 1} → statement M

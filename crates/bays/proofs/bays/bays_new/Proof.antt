@@ -9,23 +9,22 @@ use borrow.Author.Rules.{rules}
 use Rattle.bays.proofs.bays.bays_new.Statement.{statement}
 use Rattle.bays.proofs.bays.bays_new.Tie as tie
 
-returns : tie.Need-returns
+returns : tie.Need-returns-then-bays-eq0
 unfolding new_refusal new_states
 returns c =
-    let n = bays_in (length c.before.before.before.args.states.now) in
-    let e = le-ltb 0 n (omega (arith, c.before.bays-in.ensures, c.if1.true)) in
+    let n = bays_in (length c.args.states.now) in
+    let e = le-ltb 0 n (omega (arith, c.bays_in-bays.ensures, c.if-bays-eq0.true)) in
     record { said = rw e; states = rw e }
 
-start-all-requires : tie.Need-start-all-requires
-start-all-requires c κs = (omega (arith, c.before.if1.false), c.before.before.bays-in.ensures)
+start-all-requires : tie.Need-start_all-requires
+start-all-requires c κs = (omega (arith, c.if-bays-eq0.false), c.bays_in-bays.ensures)
 
-returns-2 : tie.Need-returns-2
+returns-2 : tie.Need-returns
 unfolding new_refusal new_states
 returns-2 c =
-    let d = c.before.before.before.before in
-    let n = bays_in (length d.before.before.before.args.states.now) in
-    let e = lt-ltb 0 n (omega (arith, d.before.bays-in.ensures, d.if1.false)) in
-    record { said = rw e; states = rw e (c.before.before.start-all.ensures ∙ ap started d.before.bays-in.ensures) }
+    let n = bays_in (length c.args.states.now) in
+    let e = lt-ltb 0 n (omega (arith, c.bays_in-bays.ensures, c.if-bays-eq0.false)) in
+    record { said = rw e; states = rw e (c.start_all.ensures ∙ ap started c.bays_in-bays.ensures) }
 
 pub bays_new_spec : {M : Type 1} → statement M
 bays_new_spec = tie.close (tie.spec (λ c κs. search rules) returns start-all-requires (λ c. search rules) returns-2)

@@ -8,17 +8,17 @@ use borrow.Author.Rules.{rules}
 use Rattle.bays.proofs.bays.no_bay.Statement.{statement}
 use Rattle.bays.proofs.bays.no_bay.Tie as tie
 
-marked : (c : tie.After-marks-refusal) →
-    let a = c.before.before.before.before.args in c.marks-refusal.result ≡ marks_refusal a.reading a.file.now a.marks.now
-marked c = c.marks-refusal.ensures ∙ marks_by _ _ _ c.before.check-under.ensures
+marked : (c : tie.After-marks_refusal-r) →
+    let a = c.args in c.marks_refusal-r.result ≡ marks_refusal a.reading a.file.now a.marks.now
+marked c = c.marks_refusal-r.ensures ∙ marks_by _ _ _ c.check_under.ensures
 
-returns : tie.Need-returns
+returns : tie.Need-returns-then-r-ne0
 unfolding no_bay
-returns c = rw (← marked c.before) (sym (first_refused _ _ c.if1.true))
+returns c = rw (← marked c.before) (sym (first_refused _ _ c.if-r-ne0.true))
 
-returns-2 : tie.Need-returns-2
+returns-2 : tie.Need-returns-else-r-ne0
 unfolding no_bay
-returns-2 c = sym (next_refused _ 24 (sym (marked c.before) ∙ c.if1.false))
+returns-2 c = sym (next_refused _ 24 (sym (marked c.before) ∙ c.if-r-ne0.false))
 
 pub no_bay_spec : {M : Type 1} → statement M
 no_bay_spec = tie.close (tie.spec (λ c κs. search rules) (λ c κs. search rules) returns returns-2)

@@ -15,11 +15,11 @@ use Rattle.bays.specs.Parts.{started_length, five_each}
 use Rattle.bays.proofs.bays.start_all.Statement.{statement}
 use Rattle.bays.proofs.bays.start_all.Tie as tie
 
-abbrev invariant-loop : tie.invariant-loop
+abbrev invariant-loop : tie.invariant-loop-bay
 invariant-loop states₀ bays bay₀ states bay =
     (bay ≤ bays) × (states ≡ started bay ++ drop (bay * 5) states₀) × (length states ≡ length states₀)
 
-abbrev decreases-loop : tie.decreases-loop
+abbrev decreases-loop : tie.decreases-loop-bay
 decreases-loop states₀ bays bay₀ states bay = bays - bay
 
 -- One bay more.
@@ -36,39 +36,33 @@ more states bay =
     ∙ sym (append_assoc (started bay) (state_words start_state) (drop ((bay + 1) * 5) states))
     ∙ ap (λ (k : ℕ). started k ++ drop ((bay + 1) * 5) states) m
 
-loop-holds : tie.Need-loop-init invariant-loop decreases-loop
+loop-holds : tie.Need-loop-bay-init invariant-loop decreases-loop
 unfolding started
 loop-holds c = (zero-le, refl, refl)
 
-put-bay-requires : tie.Need-put-bay-requires invariant-loop decreases-loop
+put-bay-requires : tie.Need-put_bay-requires invariant-loop decreases-loop
 put-bay-requires c κs =
-    let l = c.before.before.before in
-    omega (arith, ap bays_in l.loop.invariant.2, l.before.before.requires, c.before.before.loop-test.true)
+    omega (arith, ap bays_in c.loop-bay.invariant.2, c.requires, c.loop-bay-test.true)
 
-loop-again : tie.Need-loop-preserved invariant-loop decreases-loop
+loop-again : tie.Need-loop-bay-preserved invariant-loop decreases-loop
 loop-again c =
-    let p = c.before.before in
-    let l = p.before.before.before.before.loop in
-    let states = p.before.before.before.before.before.before.args.states.now in (
+    let l = c.loop-bay in
+    let states = c.args.states.now in (
       search rules,
-      p.put-bay.ensures ∙ ap₂ (λ (z : List ℕ) (t : State). with_state z l.bay t) l.invariant.1 p.before.start.ensures ∙ more states l.bay,
-      p.put-bay.auto.0 ∙ l.invariant.2,
+      c.put_bay.ensures ∙ ap₂ (λ (z : List ℕ) (t : State). with_state z l.bay t) l.invariant.1 c.start.ensures ∙ more states l.bay,
+      c.put_bay.auto.states ∙ l.invariant.2,
     )
 
-same_length : tie.Need-same-length invariant-loop decreases-loop
-same_length c = c.before.loop.invariant.2
+same_length : tie.Need-shape_of-states invariant-loop decreases-loop
+same_length c = c.loop-bay.invariant.2
 
 returns : tie.Need-returns invariant-loop decreases-loop
 returns c =
-    let l = c.before.loop in
-    let s = c.before.before.before in
-    let states = s.args.states.now in
-    let five = five_each (length states) (omega (arith, s.requires)) in
-    let all : l.bay ≡ s.args.bays = omega (arith, l.invariant.0, c.loop-test.false) in
-    l.invariant.1 ∙ rw (all, drop_of_length-le states {i = s.args.bays * 5} (omega (arith, five, s.requires)), append-nil)
+    let l = c.loop-bay in
+    let states = c.args.states.now in
+    let five = five_each (length states) (omega (arith, c.requires)) in
+    let all : l.bay ≡ c.args.bays = omega (arith, l.invariant.0, c.loop-bay-test.false) in
+    l.invariant.1 ∙ rw (all, drop_of_length-le states {i = c.args.bays * 5} (omega (arith, five, c.requires)), append-nil)
 
 pub start_all_spec : {M : Type 1} → statement M
-start_all_spec =
-    tie.close
-    (tie.spec
-    invariant-loop decreases-loop loop-holds (λ c κs. search rules) put-bay-requires (λ c. search rules) (λ c. search rules) loop-again same_length returns)
+start_all_spec = tie.close (tie.spec invariant-loop decreases-loop loop-holds (λ c κs. search rules) put-bay-requires (λ c. search rules) (λ c. search rules) loop-again same_length returns)
