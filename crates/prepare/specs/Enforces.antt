@@ -199,7 +199,7 @@ module _ (p : Policy) (ok : WellFormed p) (marks : List ℕ) (by : AsPrepared p 
   pub never_stuck : {s : Place} → MarkedPlace p marks s → (es : Stream) → (ran p marks s es).stuck ≡ false
   unfolding ran
   never_stuck k [] = refl
-  never_stuck {s} k (e ∷ es) = let r = tick_ready k e in ap (λ (q : Progress). q.stuck) (ran_on p marks s e es r.0 r.1) ∙ never_stuck r.2 es
+  never_stuck {s} k (e ∷ es) = let r = tick_ready k e in ap (λ (q : Progress). q.stuck) (ran_on p marks s e es r.0 r.1) ∙ never_stuck {s = r.0.place} r.2 es
 
   -- After a stream that can go on for ever, the run releases what is asked for, one event for each one read.
   pub ran_enforces : {w : Stream} {s : Place} → Leads p w s → GoesOn (Permits p) w → (es : List Event) → Enforces p w es (ran p marks s es)
@@ -208,7 +208,7 @@ module _ (p : Policy) (ok : WellFormed p) (marks : List ℕ) (by : AsPrepared p 
   ran_enforces {w} {s} h g (e ∷ es) =
       let r = tick_ready (leads_ready h g) e in
       let t = tick_right h e r.0 r.1 in
-      let k = ran_enforces t.1 t.0.output.may.1 es in
+      let k = ran_enforces {w = w ++ r.0.event ∷ []} t.1 t.0.output.may.1 es in
       subst (Enforces p w (e ∷ es)) (sym (ran_on p marks s e es r.0 r.1))
       (record {
         moving = k.moving;

@@ -9,39 +9,31 @@ use Rattle.meter.proofs.meter.release.Statement.{statement}
 use Rattle.meter.proofs.meter.release.Tie as tie
 use Rattle.stepping.specs.declared.state.State.{State}
 
--- Earlier places in the code.
-abbrev answered : tie.After-settle → tie.After-answer
-answered c = c.before.before.before.before
-
 -- The output half of the station's state.
-given : (c : tie.After-output-of) →
-    let a = c.before.before.before.before.before.before.before.args in
-    output_said c.output-of.result ≡ output_of a.reading a.file.now a.marks.now (station_state a.station.now) a.x a.y
+given : (c : tie.After-output_of-output) →
+    let a = c.args in
+    output_said c.output_of-output.result ≡ output_of a.reading a.file.now a.marks.now (station_state a.station.now) a.x a.y
 given c =
-    let a = c.before.before.before.before.before.before.before.args in
-    c.output-of.ensures.said
-    ∙ ap (λ (s : State). output_of a.reading a.file.now a.marks.now s a.x a.y) c.before.station-state.ensures
+    let a = c.args in
+    c.output_of-output.ensures.said
+    ∙ ap (λ (s : State). output_of a.reading a.file.now a.marks.now s a.x a.y) c.station_state-given.ensures
 
 -- What follows from the answer that the code has, follows from it.
-follows : (c : tie.After-output-of) {z : HalfAnswer} → c.output-of.result.answer ≡ z →
-    let a = c.before.before.before.before.before.before.before.args in
+follows : (c : tie.After-output_of-output) {z : HalfAnswer} → c.output_of-output.result.answer ≡ z →
+    let a = c.args in
     let o = output_of a.reading a.file.now a.marks.now (station_state a.station.now) a.x a.y in
-    metered a.station.now a.totals.now a.register a.weight c.output-of.result.state (answer_said z)
+    metered a.station.now a.totals.now a.register a.weight c.output_of-output.result.state (answer_said z)
     ≡ metered a.station.now a.totals.now a.register a.weight o.state o.answer
 follows c e =
-    let a = c.before.before.before.before.before.before.before.args in
-    ap (λ (z : HalfAnswer). metered a.station.now a.totals.now a.register a.weight c.output-of.result.state (answer_said z)) (sym e)
+    let a = c.args in
+    ap (λ (z : HalfAnswer). metered a.station.now a.totals.now a.register a.weight c.output_of-output.result.state (answer_said z)) (sym e)
     ∙ ap (λ (o : OutputAnswer). metered a.station.now a.totals.now a.register a.weight o.state o.answer) (given c)
 
-returns : tie.Need-returns
-returns c = let w = c.before.before.before.before in record { said = w.settle.ensures.said ∙ follows (answered w).before.before.before (answered w).answer.given.1 }
+returns : tie.Need-returns-in-Value
+returns c = record { said = c.settle.ensures.said ∙ follows c.before.before.before.before.before.before.before.before.before c.in-Value.is }
 
-returns-2 : tie.Need-returns-2
-returns-2 c = record { said = follows c.before.before.before.before c.before.answer2.given.1 }
+returns-2 : tie.Need-returns-in-Refused
+returns-2 c = record { said = follows c.before.before c.in-Refused.is }
 
 pub release_spec : {M : Type 1} → statement M
-release_spec =
-    tie.close
-    (tie.spec
-    (λ c κs. search rules) (λ c κs. search rules) (λ c. search rules) (λ c κs. search rules) (λ c. search rules) (λ c. search rules)
-    (λ c. search rules) returns (λ c. search rules) returns-2)
+release_spec = tie.close (tie.spec (λ c κs. search rules) (λ c κs. search rules) (λ c. search rules) (λ c κs. search rules) (λ c. search rules) (λ c. search rules) (λ c. search rules) returns (λ c. search rules) returns-2)

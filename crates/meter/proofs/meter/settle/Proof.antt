@@ -8,44 +8,39 @@ use Rattle.meter.proofs.meter.settle.Statement.{statement}
 use Rattle.meter.proofs.meter.settle.Tie as tie
 
 -- Earlier places in the code.
-abbrev start : tie.After-pulses → tie.Start
+abbrev start : tie.After-pulses-n → tie.Start
 start c = c.before.before.before.before
 
-abbrev counted : tie.After-has-room → tie.After-pulses
-counted c = c.before.before
+abbrev counted : tie.After-has_room → tie.After-pulses-n
+counted c = c.before
 
-abbrev measured : tie.After-put-station → tie.After-has-room
+abbrev measured : tie.After-put_station → tie.After-has_room
 measured c = c.before.before.before
 
 -- What was asked of the total.
-room : (c : tie.After-has-room) →
+room : (c : tie.After-has_room) →
     let a = (start (counted c)).args in fits a.totals.now a.billed (pulses_of a.register (last_reading a.station.now)) ≡ c.has_room.result
 room c =
     let a = (start (counted c)).args in
-    ap (λ (n : ℕ). fits a.totals.now a.billed n) (sym (counted c).pulses.ensures) ∙ sym c.has_room.ensures
+    ap (λ (n : ℕ). fits a.totals.now a.billed n) (sym (counted c).pulses-n.ensures) ∙ sym c.has_room.ensures
 
-returns : tie.Need-returns
+returns : tie.Need-returns-then-not-has_room
 unfolding settled
-returns c = record { said = rw (room c.before ∙ not-true _ c.if1.true) }
+returns c = record { said = rw (room c.before ∙ c.if-not-has_room.true) }
 
-add-pulses-requires : tie.Need-add-pulses-requires
-add-pulses-requires c κs = let m = measured c.before.before.before in ((start (counted m)).requires.1, sym m.has_room.ensures ∙ not-false _ c.before.before.before.before.before.if1.false)
+add-pulses-requires : tie.Need-add_pulses-requires
+add-pulses-requires c κs = let m = measured c.before.before.before in ((start (counted m)).requires.1, sym m.has_room.ensures ∙ c.if-not-has_room.false)
 
-returns-2 : tie.Need-returns-2
+returns-2 : tie.Need-returns
 unfolding settled
 returns-2 c =
-    let p = c.before.before.before.before.before.before in
-    let a = (start (counted (measured p))).args in
-    let n = c.before.before.add-pulses.ensures ∙ ap (risen a.totals.now a.billed) (counted (measured p)).pulses.ensures in
+    let a = (start (counted (measured c.before.before.before.before.before.before))).args in
+    let n = c.add_pulses.ensures ∙ ap (risen a.totals.now a.billed) (counted (measured c.before.before.before.before.before.before)).pulses-n.ensures in
     record {
       said =
-          rw (room (measured p) ∙ not-false _ p.before.before.if1.false)
-          (λ i. record { answer = gives a.y; station = p.put-station.ensures i; totals = n i });
+          rw (room (measured c.before.before.before.before.before.before) ∙ c.if-not-has_room.false)
+          (λ i. record { answer = gives a.y; station = c.put_station.ensures i; totals = n i });
     }
 
 pub settle_spec : {M : Type 1} → statement M
-settle_spec =
-    tie.close
-    (tie.spec
-    (λ c. search rules) (λ c κs. search rules) (λ c κs. search rules) (λ c. search rules) returns (λ c κs. search rules) add-pulses-requires
-    (λ c. search rules) (λ c. search rules) returns-2)
+settle_spec = tie.close (tie.spec (λ c. search rules) (λ c κs. search rules) (λ c κs. search rules) (λ c. search rules) returns (λ c κs. search rules) add-pulses-requires (λ c. search rules) (λ c. search rules) returns-2)

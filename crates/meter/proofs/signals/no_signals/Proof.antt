@@ -7,15 +7,15 @@ use Rattle.policy.specs.declared.Checked.{Checked}
 use Rattle.meter.proofs.signals.no_signals.Statement.{statement}
 use Rattle.meter.proofs.signals.no_signals.Tie as tie
 
-checked : (c : tie.After-check-under) →
-    let a = c.before.before.args in c.check-under.result.refusal ≡ refusal_under a.reading a.file.now
-checked c = ap (λ (r : Checked). r.refusal) c.check-under.ensures ∙ (under_says _ _).0
+checked : (c : tie.After-check_under-r) →
+    let a = c.args in c.check_under-r.result.refusal ≡ refusal_under a.reading a.file.now
+checked c = ap (λ (r : Checked). r.refusal) c.check_under-r.ensures ∙ (under_says _ _).0
 
-returns : tie.Need-returns
-returns c = rw (← checked c.before) (sym (first_refused _ _ c.if1.true))
+returns : tie.Need-returns-then-r-ne0
+returns c = rw (← checked c.before) (sym (first_refused _ _ c.if-r-ne0.true))
 
-returns-2 : tie.Need-returns-2
-returns-2 c = sym (next_refused _ 26 (sym (checked c.before) ∙ c.if1.false))
+returns-2 : tie.Need-returns-else-r-ne0
+returns-2 c = sym (next_refused _ 26 (sym (checked c.before) ∙ c.if-r-ne0.false))
 
 pub no_signals_spec : {M : Type 1} → statement M
 no_signals_spec = tie.close (tie.spec (λ c κs. search rules) returns returns-2)

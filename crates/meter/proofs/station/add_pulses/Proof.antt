@@ -4,21 +4,17 @@ use Rattle.meter.proofs.Laws.{first_room, second_room, first_risen, second_risen
 use Rattle.meter.proofs.station.add_pulses.Statement.{statement}
 use Rattle.meter.proofs.station.add_pulses.Tie as tie
 
-add-totals : tie.Need-overflow-add-totals
-add-totals c = let a = c.before.before.args in omega (arith, first_room a.totals.now a.billed a.pulses c.before.if1.true c.before.before.requires.1)
+add-totals : tie.Need-overflow_add-totals
+add-totals c = let a = c.args in omega (arith, first_room a.totals.now a.billed a.pulses c.if-billed.true c.requires.1)
 
-add-totals-2 : tie.Need-overflow-add-totals-2
-add-totals-2 c = let a = c.before.before.args in omega (arith, second_room a.totals.now a.billed a.pulses c.before.if1.false c.before.before.requires.1)
+add-totals-2 : tie.Need-overflow_add-totals-else-billed
+add-totals-2 c = let a = c.args in omega (arith, second_room a.totals.now a.billed a.pulses c.if-billed.false c.requires.1)
 
-returns : tie.Need-returns
-returns c = let a = c.before.before.args in first_risen a.totals.now a.billed a.pulses c.before.if1.true c.before.before.requires.0
+returns : tie.Need-returns-then-billed
+returns c = let a = c.args in first_risen a.totals.now a.billed a.pulses c.if-billed.true c.requires.0
 
-returns-2 : tie.Need-returns-2
-returns-2 c = let a = c.before.before.args in second_risen a.totals.now a.billed a.pulses c.before.if1.false c.before.before.requires.0
+returns-2 : tie.Need-returns-else-billed
+returns-2 c = let a = c.args in second_risen a.totals.now a.billed a.pulses c.if-billed.false c.requires.0
 
 pub add_pulses_spec : {M : Type 1} → statement M
-add_pulses_spec =
-    tie.close
-    (tie.spec
-    (λ c. search rules) add-totals (λ c. search rules) (λ c. search rules) add-totals-2 (λ c. search rules) (λ c. search rules) returns
-    (λ c. search rules) returns-2)
+add_pulses_spec = tie.close (tie.spec (λ c. search rules) add-totals (λ c. search rules) (λ c. search rules) add-totals-2 (λ c. search rules) (λ c. search rules) returns (λ c. search rules) returns-2)

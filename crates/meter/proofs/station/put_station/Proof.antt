@@ -5,37 +5,32 @@ use Rattle.meter.proofs.Laws.{sixth}
 use Rattle.meter.proofs.station.put_station.Statement.{statement}
 use Rattle.meter.proofs.station.put_station.Tie as tie
 
-slice-relend-prefix-put-state : tie.Need-slice-relend-prefix-put-state
-slice-relend-prefix-put-state c = let h = c.before.requires in simp length-set (omega arith)
+slice-relend-prefix-put-state : tie.Need-slice_bounds-put_state-end
+slice-relend-prefix-put-state c = let h = c.requires in simp length-set (omega arith)
 
-slice-aggregate-put-state : tie.Need-slice-aggregate-put-state
+slice-aggregate-put-state : tie.Need-slice_bounds-put_state-end-2
 slice-aggregate-put-state c =
-    let a = c.before.before.args in
+    let a = c.args in
     sym (length-take-le 5 (set a.station.now 5 a.register) (slice-relend-prefix-put-state c.before))
 
-put-state-requires : tie.Need-put-state-requires
+put-state-requires : tie.Need-put_state-requires
 put-state-requires c κs =
-    let a = c.before.before.args in
+    let a = c.args in
     length-take-le 5 (set a.station.now 5 a.register) (slice-relend-prefix-put-state c.before)
 
-stored : (c : tie.After-put-state) →
-    let a = c.before.before.before.args in
-    c.put-state.new.0 ++ drop 5 (set a.station.now 5 a.register) ≡ with_station a.station.now a.next a.register
+stored : (c : tie.After-put_state) →
+    let a = c.args in
+    c.put_state.new.state ++ drop 5 (set a.station.now 5 a.register) ≡ with_station a.station.now a.next a.register
 stored c =
-    let s = c.before.before.before in
-    ap₂ {C = List ℕ} ◌++◌ c.put-state.ensures (sixth s.args.station.now s.args.register s.requires)
+    ap₂ {C = List ℕ} ◌++◌ c.put_state.ensures (sixth c.args.station.now c.args.register c.requires)
 
-same_length : tie.Need-same-length
+same_length : tie.Need-shape_of-station
 same_length c =
-    let s = c.before.before.before.before.before in
-    let l : length s.args.next.clocks ≡ 4 = search rules in
-    ap (length {A = ℕ}) (stored c.before.before) ∙ simp (length-append, length-drop) (omega (arith, s.requires))
+    let l : length c.args.next.clocks ≡ 4 = search rules in
+    ap (length {A = ℕ}) (stored c.before.before) ∙ simp (length-append, length-drop) (omega (arith, c.requires))
 
 returns : tie.Need-returns
 returns c = stored c.before.before
 
 pub put_station_spec : {M : Type 1} → statement M
-put_station_spec =
-    tie.close
-    (tie.spec
-    (λ c. search rules) slice-relend-prefix-put-state slice-aggregate-put-state put-state-requires same_length returns)
+put_station_spec = tie.close (tie.spec (λ c. search rules) slice-relend-prefix-put-state slice-aggregate-put-state put-state-requires same_length returns)
