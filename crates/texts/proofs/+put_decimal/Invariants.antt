@@ -1,0 +1,5 @@
+-- It calls itself for the digits before the last: the measure is `n`.
+use Rattle.texts.proofs.+put_decimal.Given as goal
+
+abbrev pub decreases-put_decimal : goal.decreases-put_decimal
+decreases-put_decimal l = l.n
