@@ -8,7 +8,7 @@ use Rattle.std.specs.Int.Bits.{bit_and}
 use borrow.Author.Tests.{eqb-true}
 use Rattle.policy.specs.Check.{is_capital}
 use Rattle.wording.specs.Words.{Word, Line}
-use Rattle.wording.specs.Names.{same, find, is, free, through, letters_of}
+use Rattle.wording.specs.Names.{same, find, is, through, letters_of}
 use Rattle.wording.specs.Reader.{Begun, Part, opening, more, arrow, sign, at_least, at_most, goes, gone, clears, bare, unset, turn, on_signal, on_bound, on_target, on_reset}
 use Rattle.wording.specs.Reader.{Scope, signal, signal_or, condition, word_at, rule_word}
 use Rattle.wording.specs.Kept.{Keeps, stops_here, goes_on, keeps_must, keeps_known, keeps_cond, keeps_numbered, keeps_through}

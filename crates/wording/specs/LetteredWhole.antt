@@ -73,7 +73,7 @@ rule_whole {ss} k (whole_more {w = w} {ws = ws} h hs) = go (is "->" w) (rule_who
 pub lettered_whole : {ss : List Named} → AllCapital ss → {ls : List Line} → EachWhole ls → EachWhole (lettered ss ls)
 unfolding lettered
 lettered_whole k lines_none = lines_none
-lettered_whole {ss} k (lines_more {l = l} h hs) = lines_more (go (is_rule l)) (lettered_whole (noted_capital k l) hs)
+lettered_whole {ss} k (lines_more {l = l} h hs) = lines_more (go (is_rule l)) (lettered_whole {ss = noted ss l} (noted_capital k l) hs)
   where
     go : (t : Bool) → AllWhole (cond t (rule_lettered ss l) l)
     go true = rule_whole k h

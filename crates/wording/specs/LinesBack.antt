@@ -317,22 +317,27 @@ module _ (p : Policy) (w : WellFormed p) where
   has_risen d none s h = refl
   has_risen d (some a) s h = le-leb a s h
 
-  rules_read : (done : List Rule) (stage : ℕ) (before : Option ℕ) {rs : List Rule} → Rising (source_of before) rs →
+  rules_read_from : {floor : ℕ} (done : List Rule) (stage : ℕ) (before : Option ℕ) {rs : List Rule} → Rising floor rs → source_of before ≤ floor →
       Each (Ruled (length p.inputs) (length p.outputs) p.ceilings p.locations) rs → length done + length rs ≤ 256 →
       (last : ℕ) × (source : Option ℕ) × (through read_line (ruling done stage before) (rule_lines p before rs) ≡ gives (ruling (done ++ rs) last source))
   unfolding rule_lines
-  rules_read done stage before rising_none each_none h =
+  rules_read_from done stage before rising_none low each_none h =
       (stage, before, through_none read_line _ ∙ ap (λ (z : List Rule). gives (ruling z stage before)) (sym (append-nil done)))
-  rules_read done stage before (rising_more up rising) (each_more {r = r} {rs = rs} ruled each) h =
-      let at = at_read done stage before r.source ruled.source (has_risen (ruling done stage before) before r.source up) in
+  rules_read_from done stage before (rising_more up rising) low (each_more {r = r} {rs = rs} ruled each) h =
+      let at = at_read done stage before r.source ruled.source (has_risen (ruling done stage before) before r.source (omega arith)) in
       let one = rule_more done at.0 r ruled (omega arith) in
       let long : length (done ++ (r ∷ [])) ≡ suc (length done) = simp length-append (omega arith) in
-      let rest = rules_read (done ++ (r ∷ [])) 5 (some r.source) rising each (omega arith) in
+      let rest = rules_read_from (done ++ (r ∷ [])) 5 (some r.source) rising (omega arith) each (omega arith) in
       let regroup : (done ++ (r ∷ [])) ++ rs ≡ done ++ (r ∷ rs) = append_assoc done (r ∷ []) rs in (
         rest.0,
         rest.1,
         through_more read_line _ _ _ _ at.1 ∙ (rule_then done at.0 r _ one ∙ (rest.2 ∙ ap (λ (z : List Rule). gives (ruling z rest.0 rest.1)) regroup)),
       )
+
+  rules_read : (done : List Rule) (stage : ℕ) (before : Option ℕ) {rs : List Rule} → Rising (source_of before) rs →
+      Each (Ruled (length p.inputs) (length p.outputs) p.ceilings p.locations) rs → length done + length rs ≤ 256 →
+      (last : ℕ) × (source : Option ℕ) × (through read_line (ruling done stage before) (rule_lines p before rs) ≡ gives (ruling (done ++ rs) last source))
+  rules_read done stage before rising each h = rules_read_from done stage before rising (omega arith) each h
 
   -- The lines of the locations are read, and say the policy's locations.
   places_said : (next : ℕ) → next ≤ 3 →

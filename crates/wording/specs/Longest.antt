@@ -263,15 +263,16 @@ module _ (p : Policy) (w : WellFormed p) where
         place_long 113 s (omega arith),
       )
 
-  rules_most : (before : Option ℕ) {rs : List Rule} → Rising (source_of before) rs → Each RuledIn rs → size (rule_lines p before rs) ≤ 145 * length rs + 8 * left p.locations before
+  rules_most_from : {floor : ℕ} (before : Option ℕ) {rs : List Rule} → Rising floor rs → source_of before ≤ floor → Each RuledIn rs →
+      size (rule_lines p before rs) ≤ 145 * length rs + 8 * left p.locations before
   unfolding rule_lines laid
-  rules_most before rising_none each_none = omega arith
-  rules_most before (rising_more up rising) (each_more {r = r} {rs = rs} k ks) =
-      let rest = rules_most (some r.source) rising ks in
+  rules_most_from before rising_none low each_none = omega arith
+  rules_most_from before (rising_more up rising) low (each_more {r = r} {rs = rs} k ks) =
+      let rest = rules_most_from (some r.source) rising (omega arith) ks in
       let one = rule_line_most (rule_words p r) (rule_lines p (some r.source) rs) (rule_most r k) in
       let both = size_both (at_lines (is_at before r.source) r.source) (rule_words p r ∷ rule_lines p (some r.source) rs) in
       let ats = at-most (is_at before r.source) r.source k.source in
-      omega (arith, both, one, rest, ats, fewer before up)
+      omega (arith, both, one, rest, ats, fewer before (omega arith))
     where
       fewer : (before : Option ℕ) → source_of before ≤ r.source → cond (is_at before r.source) 0 8 + 8 * (p.locations - (r.source + 1)) ≤ 8 * left p.locations before
       fewer none up = omega (arith, k.source)
@@ -280,6 +281,9 @@ module _ (p : Policy) (w : WellFormed p) where
           go : (t : Bool) → eqb s r.source ≡ t → cond t 0 8 + 8 * (p.locations - (r.source + 1)) ≤ 8 * (p.locations - (s + 1))
           go true e = let z = eqb-true s r.source e in omega arith
           go false e = let f = eqb-false s r.source e in omega (arith, k.source)
+
+  rules_most : (before : Option ℕ) {rs : List Rule} → Rising (source_of before) rs → Each RuledIn rs → size (rule_lines p before rs) ≤ 145 * length rs + 8 * left p.locations before
+  rules_most before rising each = rules_most_from before rising (omega arith) each
 
   -- The text of a well-formed policy has at most 39,420 bytes.
   pub text_at_most : length (text_of p) ≤ 39420

@@ -8,7 +8,6 @@ use Rattle.wording.specs.Words.{Word}
 use Rattle.wording.specs.Names.{same, is, is_lower, is_digit, every, is_plain, is_name, is_number}
 use Rattle.wording.specs.ConditionsBack.{letter_other}
 use Rattle.wording.specs.RuleBack.{plain_words}
-use Rattle.wording.specs.Reader.{arrow}
 
 -- A word that a rule reads as nothing but a condition: none of the language, and no number.
 pub record Other (w : Word) : Type 0 where

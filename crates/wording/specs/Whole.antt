@@ -1,7 +1,7 @@
 -- The words of any text are whole.
 use Rattle.std.specs.Prelude.{◌≡◌, refl, Bool, true, false, cond, List, [], ◌∷◌, ℕ, ◌<◌, ltb, eqb}
 use Rattle.std.proofs.Math.Bool.{and-eq-true_iff}
-use Rattle.std.proofs.Common.{arith, lt-ltb, eqb-true, eq-eqb, ne_eqb}
+use Rattle.std.proofs.Common.{subst, arith, lt-ltb, eqb-true, eq-eqb, ne_eqb}
 use Rattle.std.proofs.lemmas.Bool.{eqb-false}
 use Rattle.wording.specs.Words.{Word, Line, kind, first_kind, onto, words_of, split, each_words, lines_of}
 use Rattle.wording.specs.Laid.{all_of, whole, AllWhole, whole_none, whole_more, EachWhole, lines_none, lines_more, no_comment}
@@ -23,7 +23,7 @@ one_more : (c d : ℕ) → 0 < kind c → kind d ≡ kind c → {ws : Line} → 
 unfolding whole all_of
 one_more c d h e (begins {w = w}) (whole_more k ks) =
     let both = (and-eq-true_iff (ltb 0 (kind d)) _).0 k in
-    whole_more {w = c ∷ d ∷ w} (rw (lt-ltb 0 (kind c) h, eq-eqb (kind d) (kind c) e, ← e) both.1) ks
+    whole_more {w = c ∷ d ∷ w} (rw (lt-ltb 0 (kind c) h, eq-eqb (kind d) (kind c) e) (subst (λ (k : ℕ). all_of k w ≡ true) e both.1)) ks
 
 alone : (c : ℕ) → 0 < kind c → whole (c ∷ []) ≡ true
 unfolding whole all_of
