@@ -7,18 +7,18 @@ use Rattle.conditions.proofs.conditions.on_plain.Statement.{statement}
 use Rattle.conditions.proofs.conditions.on_plain.Tie as tie
 
 -- Earlier places in the code.
-abbrev start : tie.After-find-signal → tie.Start
+abbrev start : tie.After-find_signal-i → tie.Start
 start c = c.before.before.before.before.before.before
 
-returns : tie.Need-returns
+returns : tie.Need-returns-then-i-tags
 returns c =
     let a = (start c.before.before).args in
-    (λ n places. c.on-signal.ensures.0 n ∙ or_signal (scope_of a.text.now a.tags.now a.starts.now a.lengths.now a.clocks places) (begun_of n a.parsed) a.word.now c.before.before.find-signal.ensures c.before.if1.true, c.on-signal.ensures.1)
+    (λ n places. c.on_signal.ensures.0 n ∙ or_signal (scope_of a.text.now a.tags.now a.starts.now a.lengths.now a.clocks places) (begun_of n a.parsed) a.word.now c.find_signal-i.ensures c.if-i-tags.true, c.on_signal.ensures.1)
 
-returns-2 : tie.Need-returns-2
+returns-2 : tie.Need-returns
 returns-2 c =
     let a = (start c.before.before).args in
-    (λ n places. c.on-clock.ensures.0 n ∙ or_clock (scope_of a.text.now a.tags.now a.starts.now a.lengths.now a.clocks places) (begun_of n a.parsed) a.word.now c.before.before.find-signal.ensures c.before.if1.false, c.on-clock.ensures.1)
+    (λ n places. c.on_clock.ensures.0 n ∙ or_clock (scope_of a.text.now a.tags.now a.starts.now a.lengths.now a.clocks places) (begun_of n a.parsed) a.word.now c.find_signal-i.ensures c.if-i-tags.false, c.on_clock.ensures.1)
 
 pub on_plain_spec : {M : Type 1} → statement M
 on_plain_spec = tie.close (tie.spec (λ c κs. search rules) (λ c κs. search rules) returns (λ c κs. search rules) returns-2)

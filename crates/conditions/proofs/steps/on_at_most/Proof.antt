@@ -6,8 +6,7 @@ use Rattle.conditions.proofs.steps.on_at_most.Tie as tie
 
 returns : tie.Need-returns
 returns c =
-    let s = c.before.before.before in
-    (λ m. at-most m s.args.parsed s.args.k s.args.n c.smaller.ensures, record { care = s.requires.1.care; value = s.requires.1.value; reset = s.requires.1.reset; clock = s.requires.1.clock; target = s.requires.1.target })
+    (λ m. at-most m c.args.parsed c.args.k c.args.n c.smaller.ensures, record { care = c.requires.1.care; value = c.requires.1.value; reset = c.requires.1.reset; clock = c.requires.1.clock; target = c.requires.1.target })
 
 pub on_at_most_spec : {M : Type 1} → statement M
 on_at_most_spec = tie.close (tie.spec (λ c. search rules) (λ c. search rules) (λ c κs. search rules) (λ c. search rules) (λ c. search rules) returns)

@@ -7,28 +7,26 @@ use Rattle.conditions.specs.Steps.{begun_of, low_room, reset_twice, reset_once}
 use Rattle.conditions.proofs.steps.on_reset.Statement.{statement}
 use Rattle.conditions.proofs.steps.on_reset.Tie as tie
 
-div-if1 : tie.Need-nonzero-div-if1
-div-if1 c = c.before.power.ensures.1
+div-if1 : tie.Need-nonzero_div-parsed
+div-if1 c = c.power-bit.ensures.1
 
-returns : tie.Need-returns
+returns : tie.Need-returns-then-parsed-bit-ne0
 returns c =
-    let s = c.before.before.before in
-    let p = s.args.parsed in
-    (λ n. reset_twice (begun_of n p) s.args.i (λ e. c.if1.true (ap (λ (z : ℕ). p.reset / z % 2) c.before.before.power.ensures.0 ∙ e)), s.requires.1)
+    let p = c.args.parsed in
+    (λ n. reset_twice (begun_of n p) c.args.i (λ e. c.if-parsed-bit-ne0.true (ap (λ (z : ℕ). p.reset / z % 2) c.power-bit.ensures.0 ∙ e)), c.requires.1)
 
-returns-2 : tie.Need-returns-2
+returns-2 : tie.Need-returns
 returns-2 c =
-    let s = c.before.before.before.before.before.before in
-    let p = s.args.parsed in
-    let q = c.before.before.before.before.before.power in
-    let free = ap (λ (z : ℕ). p.reset / z % 2) (sym q.ensures.0) ∙ c.before.before.before.if1.false in (
-      λ n. rw q.ensures.0 (reset_once (begun_of n p) s.args.i free),
+    let p = c.args.parsed in
+    let q = c.power-bit in
+    let free = ap (λ (z : ℕ). p.reset / z % 2) (sym q.ensures.0) ∙ c.if-parsed-bit-ne0.false in (
+      λ n. rw q.ensures.0 (reset_once (begun_of n p) c.args.i free),
       record {
-        care = s.requires.1.care;
-        value = s.requires.1.value;
-        clock = s.requires.1.clock;
-        target = s.requires.1.target;
-        reset = omega (arith, q.ensures.0, low_room p.reset s.args.i s.requires.1.reset s.requires.0 free);
+        care = c.requires.1.care;
+        value = c.requires.1.value;
+        clock = c.requires.1.clock;
+        target = c.requires.1.target;
+        reset = omega (arith, q.ensures.0, low_room p.reset c.args.i c.requires.1.reset c.requires.0 free);
       },
     )
 

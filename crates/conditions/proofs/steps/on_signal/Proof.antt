@@ -7,37 +7,35 @@ use Rattle.conditions.specs.Steps.{begun_of, once, bit_room, signal_twice, signa
 use Rattle.conditions.proofs.steps.on_signal.Statement.{statement}
 use Rattle.conditions.proofs.steps.on_signal.Tie as tie
 
-div-if1 : tie.Need-nonzero-div-if1
-div-if1 c = c.before.power.ensures.1
+div-if1 : tie.Need-nonzero_div-parsed
+div-if1 c = c.power-bit.ensures.1
 
-returns : tie.Need-returns
+returns : tie.Need-returns-then-parsed-bit-ne0
 returns c =
-    let s = c.before.before.before in
-    let p = s.args.parsed in
-    (λ n. signal_twice (begun_of n p) s.args.v s.args.i (λ e. c.if1.true (ap (λ (z : ℕ). p.care / z % 2) c.before.before.power.ensures.0 ∙ e)), s.requires.2)
+    let p = c.args.parsed in
+    (λ n. signal_twice (begun_of n p) c.args.v c.args.i (λ e. c.if-parsed-bit-ne0.true (ap (λ (z : ℕ). p.care / z % 2) c.power-bit.ensures.0 ∙ e)), c.requires.2)
 
-add-t7 : tie.Need-overflow-add-t7
-add-t7 c = omega (arith, c.before.before.before.before.before.before.requires.2, c.before.before.before.before.before.power.ensures.2)
+add-t7 : tie.Need-overflow_add-result
+add-t7 c = omega (arith, c.requires.2, c.power-bit.ensures.2)
 
-mul-t8 : tie.Need-overflow-mul-t8
-mul-t8 c = omega (arith, once c.before.before.before.before.before.before.args.v c.before.before.before.before.before.power.result c.before.before.before.before.before.before.requires.1, c.before.before.before.before.before.power.ensures.2)
+mul-t8 : tie.Need-overflow_mul-result
+mul-t8 c = omega (arith, once c.args.v c.power-bit.result c.requires.1, c.power-bit.ensures.2)
 
-add-t10 : tie.Need-overflow-add-t10
-add-t10 c = omega (arith, c.before.before.before.before.before.before.before.requires.2, once c.before.before.before.before.before.before.before.args.v c.before.before.before.before.before.before.power.result c.before.before.before.before.before.before.before.requires.1, c.before.before.before.before.before.before.power.ensures.2)
+add-t10 : tie.Need-overflow_add-result-2
+add-t10 c = omega (arith, c.requires.2, once c.args.v c.power-bit.result c.requires.1, c.power-bit.ensures.2)
 
-returns-2 : tie.Need-returns-2
+returns-2 : tie.Need-returns
 returns-2 c =
-    let s = c.before.before.before.before.before.before.before in
-    let p = s.args.parsed in
-    let q = c.before.before.before.before.before.before.power in
-    let free = ap (λ (z : ℕ). p.care / z % 2) (sym q.ensures.0) ∙ c.before.before.before.before.if1.false in (
-      λ n. rw q.ensures.0 (signal_once (begun_of n p) s.args.v s.args.i free),
+    let p = c.args.parsed in
+    let q = c.power-bit in
+    let free = ap (λ (z : ℕ). p.care / z % 2) (sym q.ensures.0) ∙ c.if-parsed-bit-ne0.false in (
+      λ n. rw q.ensures.0 (signal_once (begun_of n p) c.args.v c.args.i free),
       record {
-        care = omega (arith, q.ensures.0, bit_room p.care s.args.i s.requires.2.care s.requires.0 free);
-        value = omega (arith, s.requires.2.value, once s.args.v q.result s.requires.1);
-        reset = s.requires.2.reset;
-        clock = s.requires.2.clock;
-        target = s.requires.2.target;
+        care = omega (arith, q.ensures.0, bit_room p.care c.args.i c.requires.2.care c.requires.0 free);
+        value = omega (arith, c.requires.2.value, once c.args.v q.result c.requires.1);
+        reset = c.requires.2.reset;
+        clock = c.requires.2.clock;
+        target = c.requires.2.target;
       },
     )
 

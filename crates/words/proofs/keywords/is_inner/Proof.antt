@@ -6,17 +6,17 @@ use Rattle.words.specs.Keywords.{inner_lower, inner_line, inner_below, inner_dig
 use Rattle.words.proofs.keywords.is_inner.Statement.{statement}
 use Rattle.words.proofs.keywords.is_inner.Tie as tie
 
-returns : tie.Need-returns
-returns c = inner_lower c.before.before.args.c (sym c.before.is-lower.ensures ∙ c.if1.true)
+returns : tie.Need-returns-then-is_lower
+returns c = inner_lower c.args.c (sym c.is_lower.ensures ∙ c.if-is_lower.true)
 
-returns-2 : tie.Need-returns-2
-returns-2 c = inner_line c.before.before.before.args.c c.if2.true
+returns-2 : tie.Need-returns-then-c-eq95
+returns-2 c = inner_line c.args.c c.if-c-eq95.true
 
-returns-3 : tie.Need-returns-3
-returns-3 c = inner_below c.before.before.before.before.args.c (sym c.before.before.before.is-lower.ensures ∙ c.before.before.if1.false) (omega arith)
+returns-3 : tie.Need-returns-then-c-lt48
+returns-3 c = inner_below c.args.c (sym c.is_lower.ensures ∙ c.if-is_lower.false) (omega arith)
 
-returns-4 : tie.Need-returns-4
-returns-4 c = inner_digit c.before.before.before.before.args.c (sym c.before.before.before.is-lower.ensures ∙ c.before.before.if1.false) c.before.if2.false (omega arith)
+returns-4 : tie.Need-returns
+returns-4 c = inner_digit c.args.c (sym c.is_lower.ensures ∙ c.if-is_lower.false) c.if-c-eq95.false (omega arith)
 
 pub is_inner_spec : {M : Type 1} → statement M
 is_inner_spec = tie.close (tie.spec (λ c κs. search rules) returns returns-2 returns-3 returns-4)

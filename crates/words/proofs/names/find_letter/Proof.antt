@@ -9,29 +9,26 @@ use Rattle.words.specs.Signals.{nowhere, letter_none, letter_here, letter_on, le
 use Rattle.words.proofs.names.find_letter.Statement.{statement}
 use Rattle.words.proofs.names.find_letter.Tie as tie
 
-abbrev invariant-loop : tie.invariant-loop
+abbrev invariant-loop : tie.invariant-loop-i
 invariant-loop tags word c i₀ i = (i ≤ length tags) × (find 0 word (letters_of tags) ≡ find i word (letters_of (drop i tags)))
 
-abbrev decreases-loop : tie.decreases-loop
+abbrev decreases-loop : tie.decreases-loop-i
 decreases-loop tags word c i₀ i = length tags - i
 
-returns : tie.Need-returns invariant-loop decreases-loop
-returns c = let a = c.before.args in letter_none 0 a.word.now a.tags.now c.if1.true ∙ nowhere (length a.tags.now)
+returns : tie.Need-returns-then-word-ne1 invariant-loop decreases-loop
+returns c = let a = c.args in letter_none 0 a.word.now a.tags.now c.if-word-ne1.true ∙ nowhere (length a.tags.now)
 
-loop-holds : tie.Need-loop-init invariant-loop decreases-loop
+loop-holds : tie.Need-loop-i-init invariant-loop decreases-loop
 loop-holds c = (omega arith, refl)
 
-returns-2 : tie.Need-returns-2 invariant-loop decreases-loop
-returns-2 c = let a = c.before.before.before.before.before.before.args in let l = c.before.before.before.loop in l.invariant.1 ∙ letter_here a.word.now c.before.before.before.before.before.if1.false a.tags.now l.i (omega arith) c.if2.true
+returns-2 : tie.Need-returns-then-tags-i invariant-loop decreases-loop
+returns-2 c = let a = c.args in let l = c.loop-i in l.invariant.1 ∙ letter_here a.word.now c.if-word-ne1.false a.tags.now l.i (omega arith) c.if-tags-i.true
 
-loop-again : tie.Need-loop-preserved invariant-loop decreases-loop
-loop-again c = let a = c.before.before.before.before.before.before.args in let l = c.before.before.before.loop in (omega arith, l.invariant.1 ∙ letter_on a.word.now c.before.before.before.before.before.if1.false a.tags.now l.i (omega arith) c.if2.false)
+loop-again : tie.Need-loop-i-preserved invariant-loop decreases-loop
+loop-again c = let a = c.args in let l = c.loop-i in (omega arith, l.invariant.1 ∙ letter_on a.word.now c.if-word-ne1.false a.tags.now l.i (omega arith) c.if-tags-i.false)
 
-returns-3 : tie.Need-returns-3 invariant-loop decreases-loop
-returns-3 c = let a = c.before.before.before.before.args in let l = c.before.loop in l.invariant.1 ∙ letter_end a.word.now c.before.before.before.if1.false a.tags.now l.i (omega arith)
+returns-3 : tie.Need-returns invariant-loop decreases-loop
+returns-3 c = let a = c.args in let l = c.loop-i in l.invariant.1 ∙ letter_end a.word.now c.if-word-ne1.false a.tags.now l.i (omega arith)
 
 pub find_letter_spec : {M : Type 1} → statement M
-find_letter_spec =
-    tie.close
-    (tie.spec
-    invariant-loop decreases-loop returns (λ c. search rules) loop-holds (λ c. search rules) returns-2 (λ c. search rules) (λ c. search rules) loop-again returns-3)
+find_letter_spec = tie.close (tie.spec invariant-loop decreases-loop returns (λ c. search rules) loop-holds (λ c. search rules) returns-2 (λ c. search rules) (λ c. search rules) loop-again returns-3)

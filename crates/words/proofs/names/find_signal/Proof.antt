@@ -10,23 +10,20 @@ use Rattle.words.proofs.names.find_signal.Statement.{statement}
 use Rattle.words.proofs.names.find_signal.Tie as tie
 
 -- Earlier places in the code.
-abbrev start : tie.After-is-capital → tie.Start
+abbrev start : tie.After-is_capital → tie.Start
 start c = c.before.before.before.before.before.before.before.before
 
-returns : tie.Need-returns
-returns c = let a = c.before.before.before.before.before.before.args in by_none a.tags.now _ a.word.now c.if1.true ∙ nowhere (length a.tags.now)
+returns : tie.Need-returns-then-word-eq0
+returns c = let a = c.args in by_none a.tags.now _ a.word.now c.if-word-eq0.true ∙ nowhere (length a.tags.now)
 
-returns-2 : tie.Need-returns-2
-returns-2 c = let a = (start c.before.before).args in by_letter a.tags.now _ a.word.now (omega arith) (sym c.before.before.is-capital.ensures ∙ c.before.if2.true) ∙ c.find-letter.ensures
+returns-2 : tie.Need-returns-then-is_capital
+returns-2 c = let a = (start c.before.before).args in by_letter a.tags.now _ a.word.now (omega arith) (sym c.is_capital.ensures ∙ c.if-is_capital.true) ∙ c.find_letter.ensures
 
-find-name-requires : tie.Need-find-name-requires
-find-name-requires c κs = let s = start c.before in names_fewer s.pre.1 (0 + length s.args.tags.now) (omega (arith, s.pre.0))
+find-name-requires : tie.Need-find_name-requires
+find-name-requires c κs = let s = start c.before in names_fewer s.requires.1 (0 + length s.args.tags.now) (omega (arith, s.requires.0))
 
-returns-3 : tie.Need-returns-3
-returns-3 c = let a = (start c.before.before).args in by_name a.tags.now _ a.word.now (omega arith) (sym c.before.before.is-capital.ensures ∙ c.before.if2.false) ∙ c.find-name.ensures
+returns-3 : tie.Need-returns
+returns-3 c = let a = (start c.before.before).args in by_name a.tags.now _ a.word.now (omega arith) (sym c.is_capital.ensures ∙ c.if-is_capital.false) ∙ c.find_name.ensures
 
 pub find_signal_spec : {M : Type 1} → statement M
-find_signal_spec =
-    tie.close
-    (tie.spec
-    returns (λ c. search rules) (λ c κs. search rules) (λ c κs. search rules) returns-2 find-name-requires returns-3)
+find_signal_spec = tie.close (tie.spec returns (λ c. search rules) (λ c κs. search rules) (λ c κs. search rules) returns-2 find-name-requires returns-3)

@@ -8,48 +8,39 @@ use Rattle.words.specs.Counted.{Counted, counted_none, counted_more, number_none
 use Rattle.words.proofs.numbers.number_of.Statement.{statement}
 use Rattle.words.proofs.numbers.number_of.Tie as tie
 
-abbrev invariant-loop : tie.invariant-loop
+abbrev invariant-loop : tie.invariant-loop-i
 invariant-loop word v₀ i₀ v i = (i ≤ length word) × (v ≤ 65536) × Counted word i v
 
-abbrev decreases-loop : tie.decreases-loop
+abbrev decreases-loop : tie.decreases-loop-i
 decreases-loop word v₀ i₀ v i = length word - i
 
-returns : tie.Need-returns invariant-loop decreases-loop
-returns c = number_none c.before.before.args.word.now (omega arith)
+returns : tie.Need-returns-then-word-eq0 invariant-loop decreases-loop
+returns c = number_none c.args.word.now (omega arith)
 
-loop-holds : tie.Need-loop-init invariant-loop decreases-loop
+loop-holds : tie.Need-loop-i-init invariant-loop decreases-loop
 loop-holds c = (omega arith, omega arith, counted_none _)
 
-returns-2 : tie.Need-returns-2 invariant-loop decreases-loop
+returns-2 : tie.Need-returns-then-c-lt48 invariant-loop decreases-loop
 returns-2 c =
-    let l = c.before.before.before in
-    number_not l.before.before.before.args.word.now l.loop.i (omega arith) (λ k. omega (arith, k.0))
+    number_not c.args.word.now c.loop-i.i (omega arith) (λ k. omega (arith, k.0))
 
-returns-3 : tie.Need-returns-3 invariant-loop decreases-loop
+returns-3 : tie.Need-returns-then-c-gt57 invariant-loop decreases-loop
 returns-3 c =
-    let l = c.before.before.before.before in
-    number_not l.before.before.before.args.word.now l.loop.i (omega arith) (λ k. omega (arith, k.1))
+    number_not c.args.word.now c.loop-i.i (omega arith) (λ k. omega (arith, k.1))
 
-loop-again : tie.Need-loop-preserved invariant-loop decreases-loop
+loop-again : tie.Need-loop-i-preserved invariant-loop decreases-loop
 loop-again c =
-    let l = c.before.before.before.before.before in
-    let w = l.before.before.before.args.word.now in
-    let more = counted_more w l.loop.i l.loop.v (omega arith) l.loop.invariant.2 (omega arith) (omega arith) in
-    (omega arith, omega (arith, c.capped.ensures), subst (Counted w (l.loop.i + 1)) (sym c.capped.ensures) more)
+    let w = c.args.word.now in
+    let more = counted_more w c.loop-i.i c.loop-i.v (omega arith) c.loop-i.invariant.2 (omega arith) (omega arith) in
+    (omega arith, omega (arith, c.capped-v.ensures), subst (Counted w (c.loop-i.i + 1)) (sym c.capped-v.ensures) more)
 
-returns-4 : tie.Need-returns-4 invariant-loop decreases-loop
+returns-4 : tie.Need-returns-then-v-gt65535 invariant-loop decreases-loop
 returns-4 c =
-    let l = c.before.before in
-    number_large l.before.before.before.args.word.now l.loop.i l.loop.v (omega arith) (omega arith) l.loop.invariant.2 (omega arith)
+    number_large c.args.word.now c.loop-i.i c.loop-i.v (omega arith) (omega arith) c.loop-i.invariant.2 (omega arith)
 
-returns-5 : tie.Need-returns-5 invariant-loop decreases-loop
+returns-5 : tie.Need-returns invariant-loop decreases-loop
 returns-5 c =
-    let l = c.before.before in
-    number_given l.before.before.before.args.word.now l.loop.i l.loop.v (omega arith) (omega arith) l.loop.invariant.2 (omega arith)
+    number_given c.args.word.now c.loop-i.i c.loop-i.v (omega arith) (omega arith) c.loop-i.invariant.2 (omega arith)
 
 pub number_of_spec : {M : Type 1} → statement M
-number_of_spec =
-    tie.close
-    (tie.spec
-    invariant-loop decreases-loop returns loop-holds (λ c. search rules) returns-2 returns-3 (λ c. search rules) (λ c. search rules) (λ c. search rules)
-    (λ c κs. search rules) (λ c. search rules) (λ c. search rules) loop-again returns-4 (λ c. search rules) returns-5)
+number_of_spec = tie.close (tie.spec invariant-loop decreases-loop returns loop-holds (λ c. search rules) returns-2 returns-3 (λ c. search rules) (λ c. search rules) (λ c. search rules) (λ c κs. search rules) (λ c. search rules) (λ c. search rules) loop-again returns-4 (λ c. search rules) returns-5)

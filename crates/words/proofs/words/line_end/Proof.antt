@@ -8,36 +8,28 @@ use Rattle.words.specs.Lex.{line_length, line_more, line_done, line_last, next_l
 use Rattle.words.proofs.words.line_end.Statement.{statement}
 use Rattle.words.proofs.words.line_end.Tie as tie
 
-abbrev invariant-loop : tie.invariant-loop
+abbrev invariant-loop : tie.invariant-loop-i
 invariant-loop text at i₀ i = (i ≤ length text) × (i + line_length (drop i text) ≡ at + line_length (drop at text))
 
-abbrev decreases-loop : tie.decreases-loop
+abbrev decreases-loop : tie.decreases-loop-i
 decreases-loop text at i₀ i = length text - i
 
-returns : tie.Need-returns invariant-loop decreases-loop
+returns : tie.Need-returns-then-text-i-eq10 invariant-loop decreases-loop
 returns c =
-    let l = c.before.before.before in
-    let s = l.before in
-    let a = s.args in
-    next_line a.text.now a.at l.loop.i s.requires
-    (omega (arith, l.loop.invariant, line_done a.text.now l.loop.i (omega arith) c.if1.true))
+    let a = c.args in
+    next_line a.text.now a.at c.loop-i.i c.requires
+    (omega (arith, c.loop-i.invariant, line_done a.text.now c.loop-i.i (omega arith) c.if-text-i-eq10.true))
 
-loop-again : tie.Need-loop-preserved invariant-loop decreases-loop
+loop-again : tie.Need-loop-i-preserved invariant-loop decreases-loop
 loop-again c =
-    let l = c.before.before.before in
-    let a = l.before.args in
-    (omega arith, omega (arith, l.loop.invariant, line_more a.text.now l.loop.i (omega arith) c.if1.false))
+    let a = c.args in
+    (omega arith, omega (arith, c.loop-i.invariant, line_more a.text.now c.loop-i.i (omega arith) c.if-text-i-eq10.false))
 
-returns-2 : tie.Need-returns-2 invariant-loop decreases-loop
+returns-2 : tie.Need-returns invariant-loop decreases-loop
 returns-2 c =
-    let l = c.before in
-    let s = l.before in
-    let a = s.args in
-    next_line a.text.now a.at l.loop.i s.requires
-    (omega (arith, l.loop.invariant, line_last a.text.now l.loop.i (omega arith)))
+    let a = c.args in
+    next_line a.text.now a.at c.loop-i.i c.requires
+    (omega (arith, c.loop-i.invariant, line_last a.text.now c.loop-i.i (omega arith)))
 
 pub line_end_spec : {M : Type 1} → statement M
-line_end_spec =
-    tie.close
-    (tie.spec
-    invariant-loop decreases-loop (λ c. search rules) (λ c. search rules) returns (λ c. search rules) (λ c. search rules) loop-again returns-2)
+line_end_spec = tie.close (tie.spec invariant-loop decreases-loop (λ c. search rules) (λ c. search rules) returns (λ c. search rules) (λ c. search rules) loop-again returns-2)
