@@ -8,14 +8,14 @@ use Rattle.conditions.specs.Conditions.{known_there, known_not}
 use Rattle.phrases.proofs.arms.on_clear.Statement.{statement}
 use Rattle.phrases.proofs.arms.on_clear.Tie as tie
 
-find-name-requires : tie.Need-find-name-requires
-find-name-requires c κs = let s = c.before.before.before.before in names_fewer s.requires.1 (8 + s.args.clocks) (omega (arith, s.requires.0))
+find-name-requires : tie.Need-find_name-k-requires
+find-name-requires c κs = names_fewer c.requires.1 (8 + c.args.clocks) (omega (arith, c.requires.0))
 
-returns : tie.Need-returns
-returns c = (λ n. c.on-reset.ensures.0 n ∙ known_there c.before.before.find-name.ensures _ c.before.if1.true, c.on-reset.ensures.1)
+returns : tie.Need-returns-then-k-clocks
+returns c = (λ n. c.on_reset.ensures.0 n ∙ known_there c.find_name-k.ensures _ c.if-k-clocks.true, c.on_reset.ensures.1)
 
-returns-2 : tie.Need-returns-2
-returns-2 c = (λ n. known_not c.before.find-name.ensures _ c.if1.false, c.before.before.before.before.before.before.requires.2)
+returns-2 : tie.Need-returns
+returns-2 c = (λ n. known_not c.find_name-k.ensures _ c.if-k-clocks.false, c.requires.2)
 
 pub on_clear_spec : {M : Type 1} → statement M
 on_clear_spec = tie.close (tie.spec find-name-requires (λ c κs. search rules) returns returns-2)

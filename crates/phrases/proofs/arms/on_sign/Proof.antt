@@ -7,20 +7,20 @@ use Rattle.phrases.specs.Arms.{sign_low, sign_high, sign_none}
 use Rattle.phrases.proofs.arms.on_sign.Statement.{statement}
 use Rattle.phrases.proofs.arms.on_sign.Tie as tie
 
-returns : tie.Need-returns
+returns : tie.Need-returns-then-r-eq12
 returns c =
-    let a = c.before.before.before.before.args in
-    (λ n d. ap gives (c.turned.ensures.0 n) ∙ sign_low d (begun_of n a.parsed) a.word.now c.before.before.keyword.result c.before.before.keyword.ensures a.k c.before.if1.true, c.turned.ensures.1)
+    let a = c.args in
+    (λ n d. ap gives (c.turned.ensures.0 n) ∙ sign_low d (begun_of n a.parsed) a.word.now c.keyword-r.result c.keyword-r.ensures a.k c.if-r-eq12.true, c.turned.ensures.1)
 
-returns-2 : tie.Need-returns-2
+returns-2 : tie.Need-returns-then-r-eq13
 returns-2 c =
-    let a = c.before.before.before.before.before.args in
-    (λ n d. ap gives (c.turned2.ensures.0 n) ∙ sign_high d (begun_of n a.parsed) a.word.now c.before.before.before.keyword.result c.before.before.before.keyword.ensures a.k c.before.before.if1.false c.before.if2.true, c.turned2.ensures.1)
+    let a = c.args in
+    (λ n d. ap gives (c.turned-then-r-eq13.ensures.0 n) ∙ sign_high d (begun_of n a.parsed) a.word.now c.keyword-r.result c.keyword-r.ensures a.k c.if-r-eq12.false c.if-r-eq13.true, c.turned-then-r-eq13.ensures.1)
 
-returns-3 : tie.Need-returns-3
+returns-3 : tie.Need-returns
 returns-3 c =
-    let a = c.before.before.before.before.args in
-    (λ n d. sign_none d (begun_of n a.parsed) a.word.now c.before.before.keyword.result c.before.before.keyword.ensures a.k c.before.if1.false c.if2.false, c.before.before.before.before.requires.1)
+    let a = c.args in
+    (λ n d. sign_none d (begun_of n a.parsed) a.word.now c.keyword-r.result c.keyword-r.ensures a.k c.if-r-eq12.false c.if-r-eq13.false, c.requires.1)
 
 pub on_sign_spec : {M : Type 1} → statement M
 on_sign_spec = tie.close (tie.spec (λ c κs. search rules) (λ c κs. search rules) returns (λ c κs. search rules) returns-2 returns-3)

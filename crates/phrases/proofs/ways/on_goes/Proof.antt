@@ -13,26 +13,23 @@ use Rattle.conditions.specs.Conditions.{known_there, known_not}
 use Rattle.phrases.proofs.ways.on_goes.Statement.{statement}
 use Rattle.phrases.proofs.ways.on_goes.Tie as tie
 
-returns : tie.Need-returns
+returns : tie.Need-returns-then-keyword-eq7
 returns c =
-    let a = c.before.before.before.before.before.before.before.args in
-    (λ n d e. ap gives (c.on-target.ensures.0 n) ∙ goes_violation d (begun_of n a.parsed) a.word.now c.before.before.keyword.result c.before.before.keyword.ensures c.before.if1.true, c.on-target.ensures.1)
+    let a = c.args in
+    (λ n d e. ap gives (c.on_target.ensures.0 n) ∙ goes_violation d (begun_of n a.parsed) a.word.now c.keyword.result c.keyword.ensures c.if-keyword-eq7.true, c.on_target.ensures.1)
 
-find-name-requires : tie.Need-find-name-requires
-find-name-requires c κs = let s = c.before.before.before.before.before.before in names_fewer s.requires.1 (12 + s.args.places) (omega (arith, s.requires.0))
+find-name-requires : tie.Need-find_name-k-requires
+find-name-requires c κs = names_fewer c.requires.1 (12 + c.args.places) (omega (arith, c.requires.0))
 
-returns-2 : tie.Need-returns-2
+returns-2 : tie.Need-returns-then-k-places
 returns-2 c =
-    let a = c.before.before.before.before.before.before.before.before.before.args in
-    (λ n d e. ap gives (c.on-target2.ensures.0 n) ∙ (known_there (ap (find 0 a.word.now) e ∙ c.before.before.find-name.ensures) (λ t. gives (on_target (begun_of n a.parsed) t)) c.before.if2.true ∙ goes_place d (begun_of n a.parsed) a.word.now c.before.before.before.before.keyword.result c.before.before.before.before.keyword.ensures c.before.before.before.if1.false), c.on-target2.ensures.1)
+    let a = c.args in
+    (λ n d e. ap gives (c.on_target-then-k-places.ensures.0 n) ∙ (known_there (ap (find 0 a.word.now) e ∙ c.find_name-k.ensures) (λ t. gives (on_target (begun_of n a.parsed) t)) c.if-k-places.true ∙ goes_place d (begun_of n a.parsed) a.word.now c.keyword.result c.keyword.ensures c.if-keyword-eq7.false), c.on_target-then-k-places.ensures.1)
 
-returns-3 : tie.Need-returns-3
+returns-3 : tie.Need-returns
 returns-3 c =
-    let a = c.before.before.before.before.before.before.before.before.args in
-    (λ n d e. known_not (ap (find 0 a.word.now) e ∙ c.before.find-name.ensures) (λ t. gives (on_target (begun_of n a.parsed) t)) c.if2.false ∙ goes_place d (begun_of n a.parsed) a.word.now c.before.before.before.keyword.result c.before.before.before.keyword.ensures c.before.before.if1.false, c.before.before.before.before.before.before.before.before.requires.2)
+    let a = c.args in
+    (λ n d e. known_not (ap (find 0 a.word.now) e ∙ c.find_name-k.ensures) (λ t. gives (on_target (begun_of n a.parsed) t)) c.if-k-places.false ∙ goes_place d (begun_of n a.parsed) a.word.now c.keyword.result c.keyword.ensures c.if-keyword-eq7.false, c.requires.2)
 
 pub on_goes_spec : {M : Type 1} → statement M
-on_goes_spec =
-    tie.close
-    (tie.spec
-    (λ c κs. search rules) (λ c κs. search rules) returns find-name-requires (λ c κs. search rules) returns-2 returns-3)
+on_goes_spec = tie.close (tie.spec (λ c κs. search rules) (λ c κs. search rules) returns find-name-requires (λ c κs. search rules) returns-2 returns-3)

@@ -12,15 +12,15 @@ use Rattle.phrases.proofs.ways.on_opening.Tie as tie
 abbrev start : tie.After-keyword → tie.Start
 start c = c.before.before.before.before.before.before
 
-returns : tie.Need-returns
+returns : tie.Need-returns-then-keyword-eq5
 returns c =
     let a = (start c.before.before).args in
-    (λ n places. ap gives (c.turned.ensures.0 n) ∙ opening_any (scope_of a.text.now a.tags.now a.starts.now a.lengths.now a.clocks places) (begun_of n a.parsed) a.word.now c.before.before.keyword.result c.before.before.keyword.ensures c.before.if1.true, c.turned.ensures.1)
+    (λ n places. ap gives (c.turned.ensures.0 n) ∙ opening_any (scope_of a.text.now a.tags.now a.starts.now a.lengths.now a.clocks places) (begun_of n a.parsed) a.word.now c.keyword.result c.keyword.ensures c.if-keyword-eq5.true, c.turned.ensures.1)
 
-returns-2 : tie.Need-returns-2
+returns-2 : tie.Need-returns
 returns-2 c =
     let a = (start c.before.before).args in
-    (λ n places. c.on-condition.ensures.0 n places ∙ opening_on (scope_of a.text.now a.tags.now a.starts.now a.lengths.now a.clocks places) (begun_of n a.parsed) a.word.now c.before.before.keyword.result c.before.before.keyword.ensures c.before.if1.false, c.on-condition.ensures.1)
+    (λ n places. c.on_condition.ensures.0 n places ∙ opening_on (scope_of a.text.now a.tags.now a.starts.now a.lengths.now a.clocks places) (begun_of n a.parsed) a.word.now c.keyword.result c.keyword.ensures c.if-keyword-eq5.false, c.on_condition.ensures.1)
 
 pub on_opening_spec : {M : Type 1} → statement M
 on_opening_spec = tie.close (tie.spec (λ c κs. search rules) (λ c κs. search rules) returns (λ c κs. search rules) returns-2)
