@@ -15,8 +15,4 @@ returns c =
     (clock_more f p a.a a.size a.ceiling c.requires.1, fit_clock f a.ceiling c.requires.1, names_more p (8 + a.table.clocks) a.a a.size (omega (arith, c.requires.1)) c.requires.0)
 
 pub add_clock_spec : {M : Type 1} → statement M
-add_clock_spec =
-    tie.close
-    (tie.spec
-    (λ c. search rules) (λ c. search rules) (λ c. search rules) (λ c. search rules) (λ c. search rules) (λ c. search rules)
-    (λ c. search rules) (λ c. search rules) (λ c. search rules) returns)
+add_clock_spec = tie.close (tie.spec (λ c. search rules) (λ c. search rules) (λ c. search rules) (λ c. search rules) (λ c. search rules) (λ c. search rules) (λ c. search rules) (λ c. search rules) (λ c. search rules) returns)

@@ -15,8 +15,4 @@ returns c =
     (place_more f p a.a a.size a.byte c.requires.1 a.left.now c.requires.4, fit_place f c.requires.1, names_more p (12 + a.table.places) a.a a.size (omega (arith, c.requires.1)) c.requires.0)
 
 pub add_place_spec : {M : Type 1} → statement M
-add_place_spec =
-    tie.close
-    (tie.spec
-    (λ c. search rules) (λ c. search rules) (λ c. search rules) (λ c. search rules) (λ c. search rules) (λ c. search rules)
-    (λ c. search rules) (λ c. search rules) (λ c. search rules) returns)
+add_place_spec = tie.close (tie.spec (λ c. search rules) (λ c. search rules) (λ c. search rules) (λ c. search rules) (λ c. search rules) (λ c. search rules) (λ c. search rules) (λ c. search rules) (λ c. search rules) returns)

@@ -9,18 +9,18 @@ use Rattle.declarations.specs.PlaceLine.{byte_is}
 use Rattle.declarations.proofs.placeline.left_byte.Statement.{statement}
 use Rattle.declarations.proofs.placeline.left_byte.Tie as tie
 
-returns : tie.Need-returns
-returns c = rw (in_none c.before.word_in.ensures c.if1.true)
+returns : tie.Need-returns-then-b-a
+returns c = rw (in_none c.word_in-first.ensures c.if-b-a.true)
 
-returns-2 : tie.Need-returns-2
+returns-2 : tie.Need-returns-then-must_be_left
 returns-2 c =
-    let a = c.before.before.before.before.before.args in
-    byte_is (words_of (part a.text.now a.at (a.end - a.at))) (in_word c.before.before.before.word_in.ensures c.before.before.if1.false) (sym c.before.must-be-left.ensures ∙ c.if2.true)
+    let a = c.args in
+    byte_is (words_of (part a.text.now a.at (a.end - a.at))) (in_word c.word_in-first.ensures c.if-b-a.false) (sym c.must_be_left.ensures ∙ c.if-must_be_left.true)
 
-returns-3 : tie.Need-returns-3
+returns-3 : tie.Need-returns
 returns-3 c =
-    let a = c.before.before.before.before.before.args in
-    byte_is (words_of (part a.text.now a.at (a.end - a.at))) (in_word c.before.before.before.word_in.ensures c.before.before.if1.false) (sym c.before.must-be-left.ensures ∙ c.if2.false)
+    let a = c.args in
+    byte_is (words_of (part a.text.now a.at (a.end - a.at))) (in_word c.word_in-first.ensures c.if-b-a.false) (sym c.must_be_left.ensures ∙ c.if-must_be_left.false)
 
 pub left_byte_spec : {M : Type 1} → statement M
 left_byte_spec = tie.close (tie.spec (λ c κs. search rules) returns (λ c κs. search rules) returns-2 returns-3)

@@ -14,8 +14,4 @@ returns c =
     (input_more f p a.a a.size a.tag c.requires.1 c.requires.2, fit_input f p a.a a.size a.tag c.requires.1 c.requires.2, names_more p a.table.signals a.a a.size (omega (arith, f.inputs, f.outputs)) c.requires.0)
 
 pub add_input_spec : {M : Type 1} → statement M
-add_input_spec =
-    tie.close
-    (tie.spec
-    (λ c. search rules) (λ c. search rules) (λ c. search rules) (λ c. search rules) (λ c. search rules) (λ c. search rules)
-    (λ c. search rules) (λ c. search rules) returns)
+add_input_spec = tie.close (tie.spec (λ c. search rules) (λ c. search rules) (λ c. search rules) (λ c. search rules) (λ c. search rules) (λ c. search rules) (λ c. search rules) (λ c. search rules) returns)

@@ -14,8 +14,4 @@ returns c =
     (output_more f p a.a a.size a.tag c.requires.1, fit_output f p a.a a.size a.tag c.requires.1, names_more p a.table.signals a.a a.size (omega (arith, f.inputs, f.outputs)) c.requires.0)
 
 pub add_output_spec : {M : Type 1} → statement M
-add_output_spec =
-    tie.close
-    (tie.spec
-    (λ c. search rules) (λ c. search rules) (λ c. search rules) (λ c. search rules) (λ c. search rules) (λ c. search rules)
-    (λ c. search rules) returns)
+add_output_spec = tie.close (tie.spec (λ c. search rules) (λ c. search rules) (λ c. search rules) (λ c. search rules) (λ c. search rules) (λ c. search rules) (λ c. search rules) returns)

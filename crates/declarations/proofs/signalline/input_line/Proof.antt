@@ -12,8 +12,8 @@ use Rattle.declarations.proofs.signalline.input_line.Statement.{statement}
 use Rattle.declarations.proofs.signalline.input_line.Tie as tie
 
 -- Earlier places in the code.
-abbrev start : tie.After-signal-tag → tie.Start
-start c = c.before.before.before.before.before.before.before.before.before.before.before.before
+abbrev start : tie.After-signal_tag-tag → tie.Start
+start c = c.before.before.before.before.before.before.before.before.before.before
 
 -- The two words.
 abbrev first : tie.Start → Word
@@ -22,52 +22,41 @@ first s = let f = s.args.few in part s.args.text.now f.start (f.end - f.start)
 abbrev second : tie.Start → Word
 second s = let f = s.args.few in part s.args.text.now f.from (f.to - f.from)
 
-returns : tie.Need-returns
+returns : tie.Need-returns-then-table-gt1
 returns c =
-    let s = c.before.before.before.before.before in
-    let a = s.args in
-    (λ left rules l e. input_late a.text.now a.starts.now a.lengths.now left s.requires.1 rules a.few.count (first s) (second s) l e c.if1.true, s.requires.1, s.requires.2)
+    let a = c.args in
+    (λ left rules l e. input_late a.text.now a.starts.now a.lengths.now left c.requires.1 rules a.few.count (first c.before.before.before.before.before) (second c.before.before.before.before.before) l e c.if-table-gt1.true, c.requires.1, c.requires.2)
 
-returns-2 : tie.Need-returns-2
+returns-2 : tie.Need-returns-then-few-lt1
 returns-2 c =
-    let s = c.before.before.before.before.before.before.before in
-    let a = s.args in
-    (λ left rules l e. input_form a.text.now a.starts.now a.lengths.now left s.requires.1 rules a.few.count (first s) (second s) l e c.before.before.if1.false (λ y z. omega (arith, y, c.if2.true)), s.requires.1, s.requires.2)
+    let a = c.args in
+    (λ left rules l e. input_form a.text.now a.starts.now a.lengths.now left c.requires.1 rules a.few.count (first c.before.before.before.before.before.before.before) (second c.before.before.before.before.before.before.before) l e c.if-table-gt1.false (λ y z. omega (arith, y, c.if-few-lt1.true)), c.requires.1, c.requires.2)
 
-returns-3 : tie.Need-returns-3
+returns-3 : tie.Need-returns-then-few-gt2
 returns-3 c =
-    let s = c.before.before.before.before.before.before.before.before.before in
-    let a = s.args in
-    (λ left rules l e. input_form a.text.now a.starts.now a.lengths.now left s.requires.1 rules a.few.count (first s) (second s) l e c.before.before.before.before.if1.false (λ y z. omega (arith, z, c.if3.true)), s.requires.1, s.requires.2)
+    let a = c.args in
+    (λ left rules l e. input_form a.text.now a.starts.now a.lengths.now left c.requires.1 rules a.few.count (first c.before.before.before.before.before.before.before.before.before) (second c.before.before.before.before.before.before.before.before.before) l e c.if-table-gt1.false (λ y z. omega (arith, z, c.if-few-gt2.true)), c.requires.1, c.requires.2)
 
-returns-4 : tie.Need-returns-4
+returns-4 : tie.Need-returns-then-tag-ne0
 returns-4 c =
-    let t = c.before.before in
-    let s = start t in
+    let s = start c.before.before in
     let a = s.args in
-    (λ left rules l e. input_not a.text.now a.starts.now a.lengths.now left s.pre.1 rules a.few.count (first s) (second s) l e t.before.before.before.before.before.if2.false t.before.before.before.if3.false t.signal-tag.result.refusal t.signal-tag.result.value t.before.before.before.before.before.before.before.if1.false t.signal-tag.ensures.0 (draft_of a.text.now a.starts.now a.lengths.now left a.table rules) c.if4.true, s.pre.1, s.pre.2)
+    (λ left rules l e. input_not a.text.now a.starts.now a.lengths.now left s.requires.1 rules a.few.count (first s) (second s) l e c.if-few-lt1.false c.if-few-gt2.false c.signal_tag-tag.result.refusal c.signal_tag-tag.result.value c.if-table-gt1.false c.signal_tag-tag.ensures.0 (draft_of a.text.now a.starts.now a.lengths.now left a.table rules) c.if-tag-ne0.true, s.requires.1, s.requires.2)
 
-cast-size : tie.Need-overflow-cast-size
-cast-size c = record { fits = omega (arith, (c.before.before.signal-tag.ensures.1 c.if4.false).1) }
+cast-size : tie.Need-overflow_cast-size
+cast-size c = record { fits = omega (arith, (c.signal_tag-tag.ensures.1 c.if-tag-ne0.false).1) }
 
-add-input-requires : tie.Need-add-input-requires
+add-input-requires : tie.Need-add_input-requires
 add-input-requires c κs =
-    let t = c.before.before.before.before in
-    let s = start t in
-    let found = t.signal-tag.ensures.1 c.before.before.if4.false in
-    (omega (arith, found.1, s.pre.0.second, s.pre.0.second_in), found.0, t.before.before.before.before.before.before.before.if1.false, s.pre.1, s.pre.2)
+    let s = start c.before.before.before.before in
+    let found = c.signal_tag-tag.ensures.1 c.if-tag-ne0.false in
+    (omega (arith, found.1, s.requires.0.second, s.requires.0.second_in), found.0, c.if-table-gt1.false, s.requires.1, s.requires.2)
 
-returns-5 : tie.Need-returns-5
+returns-5 : tie.Need-returns
 returns-5 c =
-    let m = c.before.before.before.before in
-    let t = m.before.before.before.before.before in
-    let s = start t in
+    let s = start c.before.before.before.before.before.before.before.before.before in
     let a = s.args in
-    (λ left rules l e. ap gives (m.add-input.ensures.0 left rules) ∙ input_given a.text.now a.starts.now a.lengths.now left s.pre.1 rules a.few.count (first s) (second s) l e t.before.before.before.before.before.if2.false t.before.before.before.if3.false t.signal-tag.result.refusal t.signal-tag.result.value t.before.before.before.before.before.before.before.if1.false t.signal-tag.ensures.0 m.before.before.before.if4.false, m.add-input.ensures.1, m.add-input.ensures.2)
+    (λ left rules l e. ap gives (c.add_input.ensures.0 left rules) ∙ input_given a.text.now a.starts.now a.lengths.now left s.requires.1 rules a.few.count (first s) (second s) l e c.if-few-lt1.false c.if-few-gt2.false c.signal_tag-tag.result.refusal c.signal_tag-tag.result.value c.if-table-gt1.false c.signal_tag-tag.ensures.0 c.if-tag-ne0.false, c.add_input.ensures.1, c.add_input.ensures.2)
 
 pub input_line_spec : {M : Type 1} → statement M
-input_line_spec =
-    tie.close
-    (tie.spec
-    returns returns-2 returns-3 (λ c κs. search rules) (λ c. search rules) (λ c. search rules) returns-4 (λ c. omega (arith, (start c.before.before).requires.0.second)) cast-size add-input-requires (λ c. search rules)
-    (λ c. search rules) returns-5)
+input_line_spec = tie.close (tie.spec returns returns-2 returns-3 (λ c κs. search rules) (λ c. search rules) (λ c. search rules) returns-4 (λ c. omega (arith, (start c.before.before).requires.0.second)) cast-size add-input-requires (λ c. search rules) (λ c. search rules) returns-5)

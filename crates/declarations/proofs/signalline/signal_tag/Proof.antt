@@ -13,10 +13,10 @@ use Rattle.declarations.proofs.signalline.signal_tag.Statement.{statement}
 use Rattle.declarations.proofs.signalline.signal_tag.Tie as tie
 
 -- Earlier places in the code.
-abbrev start : tie.After-letter-of → tie.Start
+abbrev start : tie.After-letter_of-tag → tie.Start
 start c = c.before.before.before.before.before.before
 
-abbrev at-letter : tie.After-second-refusal → tie.After-letter-of
+abbrev at-letter : tie.After-second_refusal-refusal → tie.After-letter_of-tag
 at-letter c = c.before.before.before
 
 -- The first word, the letters so far, and the refusal of the second word.
@@ -31,35 +31,28 @@ refusal s =
     let f = s.args.few in
     wanted f.count (name_found s.args.text.now s.args.starts.now s.args.lengths.now s.args.table (part s.args.text.now f.from (f.to - f.from)))
 
-returns : tie.Need-returns
+returns : tie.Need-returns-then-tag-ne0
 returns c =
-    let t = c.before.before in
-    let s = start t in
-    (tag_not (letters s) s.args.count (first s) t.letter-of.result.refusal t.letter-of.result.value t.letter-of.ensures (refusal s) c.if1.true, λ z. absurd (c.if1.true z))
+    let s = start c.before.before in
+    (tag_not (letters s) s.args.count (first s) c.letter_of-tag.result.refusal c.letter_of-tag.result.value c.letter_of-tag.ensures (refusal s) c.if-tag-ne0.true, λ z. absurd (c.if-tag-ne0.true z))
 
-returns-2 : tie.Need-returns-2
+returns-2 : tie.Need-returns-then-refusal-ne0
 returns-2 c =
-    let n = c.before in
-    let t = at-letter n in
+    let t = at-letter c.before in
     let s = start t in
-    (tag_named (letters s) s.args.count (first s) t.letter-of.result.refusal t.letter-of.result.value t.letter-of.ensures n.before.if1.false n.second-refusal.result 0 n.second-refusal.ensures.0 c.if2.true, λ z. absurd (c.if2.true z))
+    (tag_named (letters s) s.args.count (first s) t.letter_of-tag.result.refusal t.letter_of-tag.result.value t.letter_of-tag.ensures c.if-tag-ne0.false c.second_refusal-refusal.result 0 c.second_refusal-refusal.ensures.0 c.if-refusal-ne0.true, λ z. absurd (c.if-refusal-ne0.true z))
 
-returns-3 : tie.Need-returns-3
+returns-3 : tie.Need-returns-then-count-ge4
 returns-3 c =
-    let n = c.before.before in
-    let t = at-letter n in
+    let t = at-letter c.before.before in
     let s = start t in
-    (tag_full (letters s) s.args.count (first s) t.letter-of.result.refusal t.letter-of.result.value t.letter-of.ensures n.before.if1.false (sym c.before.if2.false ∙ n.second-refusal.ensures.0) c.if3.true, λ z. absurd (omega arith))
+    (tag_full (letters s) s.args.count (first s) t.letter_of-tag.result.refusal t.letter_of-tag.result.value t.letter_of-tag.ensures c.if-tag-ne0.false (sym c.if-refusal-ne0.false ∙ c.second_refusal-refusal.ensures.0) c.if-count-ge4.true, λ z. absurd (omega arith))
 
-returns-4 : tie.Need-returns-4
+returns-4 : tie.Need-returns
 returns-4 c =
-    let n = c.before.before in
-    let t = at-letter n in
+    let t = at-letter c.before.before in
     let s = start t in
-    (tag_given (letters s) s.args.count (first s) t.letter-of.result.refusal t.letter-of.result.value t.letter-of.ensures n.before.if1.false (sym c.before.if2.false ∙ n.second-refusal.ensures.0) c.if3.false, λ z. (c.if3.false, n.second-refusal.ensures.1 c.before.if2.false))
+    (tag_given (letters s) s.args.count (first s) t.letter_of-tag.result.refusal t.letter_of-tag.result.value t.letter_of-tag.ensures c.if-tag-ne0.false (sym c.if-refusal-ne0.false ∙ c.second_refusal-refusal.ensures.0) c.if-count-ge4.false, λ z. (c.if-count-ge4.false, c.second_refusal-refusal.ensures.1 c.if-refusal-ne0.false))
 
 pub signal_tag_spec : {M : Type 1} → statement M
-signal_tag_spec =
-    tie.close
-    (tie.spec
-    (λ c. search rules) (λ c. search rules) (λ c. search rules) (λ c κs. search rules) returns (λ c κs. search rules) returns-2 returns-3 returns-4)
+signal_tag_spec = tie.close (tie.spec (λ c. search rules) (λ c. search rules) (λ c. search rules) (λ c κs. search rules) returns (λ c κs. search rules) returns-2 returns-3 returns-4)
