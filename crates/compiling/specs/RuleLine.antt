@@ -7,7 +7,7 @@ use Rattle.policy.specs.Rules.{Rule}
 use Rattle.policy.specs.Check.{bounds_good}
 use Rattle.wording.specs.Words.{Line}
 use Rattle.wording.specs.Names.{◌and_then◌, must, through}
-use Rattle.wording.specs.Reader.{Draft, Begun, scope, tags, bare, rule_word, ends as may_end, rule_of, add_rule, rule_line}
+use Rattle.wording.specs.Reader.{Draft, Begun, scope, bare, rule_word, ends as may_end, rule_of, add_rule, rule_line}
 use Rattle.words.specs.Spans.{spans, place_below}
 use Rattle.conditions.specs.Steps.{bounds_of, begun_of, step_said, part_of}
 use Rattle.conditions.specs.Conditions.{scope_of}
