@@ -6,11 +6,11 @@ use Rattle.pointing.specs.NameAt.{name_stops, name-given}
 use Rattle.pointing.proofs.nameat.name_of.Statement.{statement}
 use Rattle.pointing.proofs.nameat.name_of.Tie as tie
 
-returns : tie.Need-returns
-returns c = let a = c.before.before.before.before.before.before.args in name_stops a.kind a.text.now a.i (judged_not c.before.before.before.judge.ensures (not-true _ c.if1.true))
+returns : tie.Need-returns-then-not-judged
+returns c = let a = c.args in name_stops a.kind a.text.now a.i (judged_not c.judge-judged.ensures (not-true _ c.if-not-judged.true))
 
-returns-2 : tie.Need-returns-2
-returns-2 c = let a = c.before.before.before.before.before.before.before.args in name-given a.kind a.text.now a.i (judged_good c.before.before.before.before.judge.ensures (not-false _ c.before.if1.false)).1 c.find-named.ensures
+returns-2 : tie.Need-returns
+returns-2 c = let a = c.args in name-given a.kind a.text.now a.i (judged_good c.judge-judged.ensures (not-false _ c.if-not-judged.false)).1 c.find_named.ensures
 
 pub name_of_spec : {M : Type 1} → statement M
 name_of_spec = tie.close (tie.spec (λ c. search rules) (λ c κs. search rules) returns (λ c κs. search rules) returns-2)

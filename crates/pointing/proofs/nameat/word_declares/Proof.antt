@@ -3,14 +3,14 @@ use Rattle.pointing.specs.NameAt.{declares_signal, declares_clock, declares_plac
 use Rattle.pointing.proofs.nameat.word_declares.Statement.{statement}
 use Rattle.pointing.proofs.nameat.word_declares.Tie as tie
 
-returns : tie.Need-returns
-returns c = declares_signal c.before.args.kind c.before.args.k c.if1.true
+returns : tie.Need-returns-then-kind-eq0
+returns c = declares_signal c.args.kind c.args.k c.if-kind-eq0.true
 
-returns-2 : tie.Need-returns-2
-returns-2 c = declares_clock c.before.before.args.kind c.before.before.args.k c.if2.true
+returns-2 : tie.Need-returns-then-kind-eq1
+returns-2 c = declares_clock c.args.kind c.args.k c.if-kind-eq1.true
 
-returns-3 : tie.Need-returns-3
-returns-3 c = declares_place c.before.before.args.kind c.before.before.args.k c.before.if1.false c.if2.false
+returns-3 : tie.Need-returns
+returns-3 c = declares_place c.args.kind c.args.k c.if-kind-eq0.false c.if-kind-eq1.false
 
 pub word_declares_spec : {M : Type 1} → statement M
 word_declares_spec = tie.close (tie.spec returns returns-2 returns-3)

@@ -6,14 +6,14 @@ use Rattle.pointing.specs.RuleAt.{rule_stops, rule_none, rule_there}
 use Rattle.pointing.proofs.ruleat.line_of_rule.Statement.{statement}
 use Rattle.pointing.proofs.ruleat.line_of_rule.Tie as tie
 
-returns : tie.Need-returns
-returns c = let a = c.before.before.before.before.before.before.args in rule_stops a.text.now a.i (judged_not c.before.before.before.judge.ensures (not-true _ c.if1.true))
+returns : tie.Need-returns-then-not-judged
+returns c = let a = c.args in rule_stops a.text.now a.i (judged_not c.judge-judged.ensures (not-true _ c.if-not-judged.true))
 
-returns-2 : tie.Need-returns-2
-returns-2 c = let a = c.before.before.before.before.before.before.before.before.args in rule_none a.text.now a.i (judged_good c.before.before.before.before.before.judge.ensures (not-false _ c.before.before.if1.false)).1 c.before.find-rule.ensures c.if2.true
+returns-2 : tie.Need-returns-then-line-eq0
+returns-2 c = let a = c.args in rule_none a.text.now a.i (judged_good c.judge-judged.ensures (not-false _ c.if-not-judged.false)).1 c.find_rule-line.ensures c.if-line-eq0.true
 
-returns-3 : tie.Need-returns-3
-returns-3 c = let a = c.before.before.before.before.before.before.before.before.args in rule_there a.text.now a.i (judged_good c.before.before.before.before.before.judge.ensures (not-false _ c.before.before.if1.false)).1 c.before.find-rule.ensures c.if2.false
+returns-3 : tie.Need-returns
+returns-3 c = let a = c.args in rule_there a.text.now a.i (judged_good c.judge-judged.ensures (not-false _ c.if-not-judged.false)).1 c.find_rule-line.ensures c.if-line-eq0.false
 
 pub line_of_rule_spec : {M : Type 1} → statement M
 line_of_rule_spec = tie.close (tie.spec (λ c. search rules) (λ c κs. search rules) returns (λ c κs. search rules) returns-2 returns-3)
