@@ -7,41 +7,36 @@ use Rattle.rule_text.specs.Pieces.{bounds_on, bounds_start, bounds_turn, bounds_
 use Rattle.rule_text.proofs.limits.put_bounds.Statement.{statement}
 use Rattle.rule_text.proofs.limits.put_bounds.Tie as tie
 
-abbrev invariant-loop : tie.invariant-loop
+abbrev invariant-loop : tie.invariant-loop-i
 invariant-loop text₀ at file from clocks next₀ i₀ text next i = (i ≤ clocks) × (next ≤ at + 32 * i) × LinesUnder text₀ at (bounds_on file from clocks 0) next text (bounds_on file from clocks i)
 
-abbrev decreases-loop : tie.decreases-loop
+abbrev decreases-loop : tie.decreases-loop-i
 decreases-loop text₀ at file from clocks next₀ i₀ text next i = clocks - i
 
 -- Earlier places in the code.
-abbrev start : tie.At-loop invariant-loop decreases-loop → tie.Start invariant-loop decreases-loop
+abbrev start : tie.At-loop-i invariant-loop decreases-loop → tie.Start invariant-loop decreases-loop
 start c = c.before.before.before
 
-loop-holds : tie.Need-loop-init invariant-loop decreases-loop
+loop-holds : tie.Need-loop-i-init invariant-loop decreases-loop
 loop-holds c = (omega arith, omega arith, under_start _ _ _)
 
-loop-again : tie.Need-loop-preserved invariant-loop decreases-loop
+loop-again : tie.Need-loop-i-preserved invariant-loop decreases-loop
 loop-again c =
-    let w = c.before.before.before.before.before.before.before in
-    let p = c.before.before.put-bound in
-    let high = c.before.before.before.before.pair-within2 in
-    let low = c.before.before.before.before.before.pair-within in
-    let l = w.loop in
-    let a = (start w).args in (
+    let p = c.put_bound-next in
+    let high = c.pair_within-high in
+    let low = c.pair_within-low in
+    let l = c.loop-i in
+    let a = (start c.before.before.before.before.before.before.before).args in (
       omega arith,
       omega arith,
-      under_on (omega arith) l.invariant.2 (bounds_turn a.file.now a.from a.clocks l.i (omega arith) low.ensures.0 high.ensures.0 high.ensures.1) p.ensures.0 p.auto.0,
+      under_on (omega arith) l.invariant.2 (bounds_turn a.file.now a.from a.clocks l.i (omega arith) low.ensures.0 high.ensures.0 high.ensures.1) p.ensures.0 p.auto.text,
     )
 
 returns : tie.Need-returns invariant-loop decreases-loop
 returns c =
-    let l = c.before.loop in
+    let l = c.loop-i in
     let a = (start c.before).args in
     (rw (← bounds_start a.file.now a.from a.clocks) (under_all l.invariant.2 (bounds_end a.file.now a.from a.clocks l.i (omega arith))), omega arith)
 
 pub put_bounds_spec : {M : Type 1} → statement M
-put_bounds_spec =
-    tie.close
-    (tie.spec
-    invariant-loop decreases-loop loop-holds (λ c. search rules) (λ c. search rules) (λ c κs. search rules) (λ c. search rules) (λ c. search rules)
-    (λ c. search rules) (λ c κs. search rules) (λ c κs. search rules) (λ c. search rules) (λ c. search rules) loop-again (λ c. search rules) returns)
+put_bounds_spec = tie.close (tie.spec invariant-loop decreases-loop loop-holds (λ c. search rules) (λ c. search rules) (λ c κs. search rules) (λ c. search rules) (λ c. search rules) (λ c. search rules) (λ c κs. search rules) (λ c κs. search rules) (λ c. search rules) (λ c. search rules) loop-again (λ c. search rules) returns)

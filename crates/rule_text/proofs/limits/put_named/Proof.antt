@@ -8,18 +8,17 @@ use Rattle.rule_text.proofs.limits.put_named.Statement.{statement}
 use Rattle.rule_text.proofs.limits.put_named.Tie as tie
 
 -- Earlier places in the code.
-abbrev start : tie.After-put-bytes → tie.Start
+abbrev start : tie.After-put_bytes-number → tie.Start
 start c = c.before.before.before.before.before
 
-put-number-requires : tie.Need-put-number-requires
-put-number-requires c κs = let p = c.before.before.before.put-bytes in (omega arith, omega (arith, p.ensures.next))
+put-number-requires : tie.Need-put_number-requires
+put-number-requires c κs = let p = c.put_bytes-number in (omega arith, omega (arith, p.ensures.next))
 
 returns : tie.Need-returns
 returns c =
-    let w = c.before.before.before.before.before.before in
-    let a = (start w).args in
-    let p = w.put-bytes in
-    let q = c.before.before.put-number in
+    let a = (start c.before.before.before.before.before.before).args in
+    let p = c.put_bytes-number in
+    let q = c.put_number in
     (rw (append_assoc a.before.now (decimal a.n) a.after.now) (wrote_then (omega arith) p.ensures q.ensures.0), omega (arith, p.ensures.next, q.ensures.1))
 
 pub put_named_spec : {M : Type 1} → statement M

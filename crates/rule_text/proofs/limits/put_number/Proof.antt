@@ -7,21 +7,20 @@ use Rattle.rule_text.proofs.limits.put_number.Statement.{statement}
 use Rattle.rule_text.proofs.limits.put_number.Tie as tie
 
 -- Earlier places in the code.
-abbrev start : tie.After-put-digits → tie.Start
+abbrev start : tie.After-put_digits-next → tie.Start
 start c = c.before.before.before.before
 
-put-digits-requires : tie.Need-put-digits-requires
-put-digits-requires c κs = omega (arith, decimal_short c.before.before.before.args.n 4 (omega arith))
+put-digits-requires : tie.Need-put_digits-next-requires
+put-digits-requires c κs = omega (arith, decimal_short c.args.n 4 (omega arith))
 
-put-bytes-requires : tie.Need-put-bytes-requires
-put-bytes-requires c κs = omega (arith, c.before.before.before.put-digits.ensures.next, decimal_short (start c.before.before.before).args.n 4 (omega arith))
+put-bytes-requires : tie.Need-put_bytes-requires
+put-bytes-requires c κs = omega (arith, c.put_digits-next.ensures.next, decimal_short (start c.before.before.before).args.n 4 (omega arith))
 
 returns : tie.Need-returns
 returns c =
-    let w = c.before.before.before.before.before.before in
-    let a = (start w).args in
-    let p = w.put-digits in
-    let q = c.before.before.put-bytes in
+    let a = (start c.before.before.before.before.before.before).args in
+    let p = c.put_digits-next in
+    let q = c.put_bytes in
     (wrote_then (omega arith) p.ensures q.ensures, omega (arith, p.ensures.next, q.ensures.next, decimal_short a.n 4 (omega arith)))
 
 pub put_number_spec : {M : Type 1} → statement M

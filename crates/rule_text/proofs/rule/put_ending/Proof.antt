@@ -6,14 +6,11 @@ use Rattle.rule_text.proofs.rule.put_ending.Statement.{statement}
 use Rattle.rule_text.proofs.rule.put_ending.Tie as tie
 
 -- Earlier places in the code.
-abbrev put-goal : tie.After-put-clears → tie.After-put-target
+abbrev put-goal : tie.After-put_clears-end → tie.After-put_target-next
 put-goal c = c.before.before.before.before
 
 returns : tie.Need-returns
-returns c = let p = c.before.before.before.before.before.before.before in (wrote_then (omega arith) (wrote_then (omega arith) (put-goal p).put-target.ensures.0 p.put-clears.ensures.0) c.before.before.put-bytes.ensures, omega (arith, c.before.before.put-bytes.ensures.next))
+returns c = (wrote_then (omega arith) (wrote_then (omega arith) (put-goal c.before.before.before.before.before.before.before.before).put_target-next.ensures.0 c.put_clears-end.ensures.0) c.put_bytes.ensures, omega (arith, c.put_bytes.ensures.next))
 
 pub put_ending_spec : {M : Type 1} → statement M
-put_ending_spec =
-    tie.close
-    (tie.spec
-    (λ c κs. search rules) (λ c κs. search rules) (λ c. search rules) (λ c κs. search rules) (λ c. search rules) returns)
+put_ending_spec = tie.close (tie.spec (λ c κs. search rules) (λ c κs. search rules) (λ c κs. search rules) (λ c. search rules) returns)

@@ -8,33 +8,30 @@ use Rattle.rule_text.specs.Pieces.{leading, resets_start, resets_turn, resets_en
 use Rattle.rule_text.proofs.rule.put_resets.Statement.{statement}
 use Rattle.rule_text.proofs.rule.put_resets.Tie as tie
 
-abbrev invariant-loop : tie.invariant-loop
+abbrev invariant-loop : tie.invariant-loop-i
 invariant-loop text₀ at clocks mask next₀ mask_on₀ i₀ text next mask_on i = (i ≤ clocks) × (next ≤ at + 7 * i) × LinesUnder text₀ at (leading (reset_names 0 (clocks - 0) mask)) next text (leading (reset_names i (clocks - i) mask_on))
 
-abbrev decreases-loop : tie.decreases-loop
+abbrev decreases-loop : tie.decreases-loop-i
 decreases-loop text₀ at clocks mask next₀ mask_on₀ i₀ text next mask_on i = clocks - i
 
-loop-holds : tie.Need-loop-init invariant-loop decreases-loop
+loop-holds : tie.Need-loop-i-init invariant-loop decreases-loop
 loop-holds c = (omega arith, omega arith, under_start _ _ _)
 
-loop-again : tie.Need-loop-preserved invariant-loop decreases-loop
+loop-again : tie.Need-loop-i-preserved invariant-loop decreases-loop
 loop-again c =
-    let p = c.before.before.put-reset in
-    let l = c.before.before.before.before.before.loop in
-    let a = c.before.before.before.before.before.before.before.args in (
+    let p = c.put_reset-next in
+    let l = c.loop-i in
+    let a = c.args in (
       omega arith,
       omega arith,
-      under_on (omega arith) l.invariant.2 (resets_turn a.clocks l.i l.mask-on (omega arith)) p.ensures.0 p.auto.0,
+      under_on (omega arith) l.invariant.2 (resets_turn a.clocks l.i l.mask_on (omega arith)) p.ensures.0 p.auto.text,
     )
 
 returns : tie.Need-returns invariant-loop decreases-loop
 returns c =
-    let l = c.before.loop in
-    let a = c.before.before.before.args in
-    (rw (← resets_start a.clocks a.mask) (under_all l.invariant.2 (resets_end a.clocks l.i l.mask-on (omega arith))), omega arith)
+    let l = c.loop-i in
+    let a = c.args in
+    (rw (← resets_start a.clocks a.mask) (under_all l.invariant.2 (resets_end a.clocks l.i l.mask_on (omega arith))), omega arith)
 
 pub put_resets_spec : {M : Type 1} → statement M
-put_resets_spec =
-    tie.close
-    (tie.spec
-    invariant-loop decreases-loop loop-holds (λ c κs. search rules) (λ c. search rules) (λ c. search rules) loop-again (λ c. search rules) returns)
+put_resets_spec = tie.close (tie.spec invariant-loop decreases-loop loop-holds (λ c κs. search rules) (λ c. search rules) (λ c. search rules) loop-again (λ c. search rules) returns)

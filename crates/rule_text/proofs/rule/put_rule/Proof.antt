@@ -11,18 +11,11 @@ use Rattle.rule_text.proofs.rule.put_rule.Tie as tie
 
 returns : tie.Need-returns
 returns c =
-    let conditions = c.before.before.before.before.before.before in
-    let indent = conditions.before.before.before.before in
-    let s = indent.before.before.before.before.before.before.before.before.before in
-    let a = s.args in
-    let e = c.before.before.put-ending in
-    let made = rule_made a.inputs.now a.outputs.now a.file.now a.clocks a.rule indent.before.before.before.before.byte-within.ensures.0 indent.before.before.before.byte-within2.ensures.0 in
-    let all = wrote_then (omega (arith, s.requires.4)) (wrote_then (omega (arith, s.requires.4)) indent.put-bytes.ensures conditions.put-conditions.ensures.0) e.ensures.0 in
-    (subst (λ (z : List _). Wrote a.text.now a.at z e.result e.new.0) made all, omega (arith, indent.put-bytes.ensures.next, conditions.put-conditions.ensures.1, e.ensures.1))
+    let a = c.args in
+    let e = c.put_ending in
+    let made = rule_made a.inputs.now a.outputs.now a.file.now a.clocks a.rule c.byte_within-mask.ensures.0 c.byte_within-target.ensures.0 in
+    let all = wrote_then (omega (arith, c.requires.4)) (wrote_then (omega (arith, c.requires.4)) c.put_bytes-next.ensures c.put_conditions-end.ensures.0) e.ensures.0 in
+    (subst (λ (z : List _). Wrote a.text.now a.at z e.result e.new.text) made all, omega (arith, c.put_bytes-next.ensures.next, c.put_conditions-end.ensures.1, e.ensures.1))
 
 pub put_rule_spec : {M : Type 1} → statement M
-put_rule_spec =
-    tie.close
-    (tie.spec
-    (λ c. search rules) (λ c κs. search rules) (λ c. search rules) (λ c κs. search rules) (λ c. search rules) (λ c κs. search rules)
-    (λ c κs. search rules) (λ c κs. search rules) (λ c. search rules) returns)
+put_rule_spec = tie.close (tie.spec (λ c. search rules) (λ c κs. search rules) (λ c. search rules) (λ c κs. search rules) (λ c κs. search rules) (λ c κs. search rules) (λ c κs. search rules) (λ c. search rules) returns)
