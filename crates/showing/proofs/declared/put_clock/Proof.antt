@@ -6,10 +6,7 @@ use Rattle.showing.proofs.declared.put_clock.Statement.{statement}
 use Rattle.showing.proofs.declared.put_clock.Tie as tie
 
 returns : tie.Need-returns
-returns c = (wrote_then (omega arith) c.before.before.before.before.before.before.before.put-named.ensures.0 c.before.before.put-number.ensures.0, omega arith)
+returns c = (wrote_then (omega arith) c.put_named-next.ensures.0 c.put_number.ensures.0, omega arith)
 
 pub put_clock_spec : {M : Type 1} → statement M
-put_clock_spec =
-    tie.close
-    (tie.spec
-    (λ c. search rules) (λ c. search rules) (λ c κs. search rules) (λ c. search rules) (λ c κs. search rules) (λ c. search rules) returns)
+put_clock_spec = tie.close (tie.spec (λ c κs. search rules) (λ c κs. search rules) (λ c. search rules) returns)

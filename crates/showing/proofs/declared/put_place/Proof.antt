@@ -5,15 +5,11 @@ use borrow.Author.Rules.{rules}
 use Rattle.showing.proofs.declared.put_place.Statement.{statement}
 use Rattle.showing.proofs.declared.put_place.Tie as tie
 
-returns : tie.Need-returns
-returns c = (rw (eq-eqb c.before.before.before.before.before.before.before.before.args.byte 1 c.before.before.before.before.before.before.if1.true) c.before.before.put-named.ensures.0, omega arith)
+returns : tie.Need-returns-then-byte-eq1
+returns c = (rw (eq-eqb c.args.byte 1 c.if-byte-eq1.true) c.put_named.ensures.0, omega arith)
 
-returns-2 : tie.Need-returns-2
-returns-2 c = (rw (ne_eqb c.before.before.before.before.before.before.before.before.args.byte 1 c.before.before.before.before.before.before.if1.false) c.before.before.put-named2.ensures.0, omega arith)
+returns-2 : tie.Need-returns
+returns-2 c = (rw (ne_eqb c.args.byte 1 c.if-byte-eq1.false) c.put_named-2.ensures.0, omega arith)
 
 pub put_place_spec : {M : Type 1} → statement M
-put_place_spec =
-    tie.close
-    (tie.spec
-    (λ c. search rules) (λ c. search rules) (λ c κs. search rules) (λ c. search rules) returns (λ c. search rules) (λ c. search rules)
-    (λ c κs. search rules) (λ c. search rules) returns-2)
+put_place_spec = tie.close (tie.spec (λ c κs. search rules) (λ c. search rules) returns (λ c κs. search rules) (λ c. search rules) returns-2)

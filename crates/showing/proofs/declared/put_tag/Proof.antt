@@ -6,7 +6,7 @@ use Rattle.showing.proofs.declared.put_tag.Statement.{statement}
 use Rattle.showing.proofs.declared.put_tag.Tie as tie
 
 returns : tie.Need-returns
-returns c = (wrote_then (omega arith) c.before.before.before.before.before.before.before.put-bytes.ensures c.before.before.put-bytes2.ensures, omega (arith, c.before.before.before.before.before.before.before.put-bytes.ensures.next, c.before.before.put-bytes2.ensures.next))
+returns c = (wrote_then (omega arith) c.put_bytes-next.ensures c.put_bytes.ensures, omega (arith, c.put_bytes-next.ensures.next, c.put_bytes.ensures.next))
 
 pub put_tag_spec : {M : Type 1} → statement M
 put_tag_spec = tie.close (tie.spec (λ c κs. search rules) (λ c. search rules) (λ c κs. search rules) (λ c. search rules) returns)

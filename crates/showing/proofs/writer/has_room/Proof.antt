@@ -11,14 +11,13 @@ use Rattle.wording.specs.Longest.{written_at_most}
 use Rattle.showing.proofs.writer.has_room.Statement.{statement}
 use Rattle.showing.proofs.writer.has_room.Tie as tie
 
-returns : tie.Need-returns
+returns : tie.Need-returns-then-room-ge-LONGEST
 returns c =
-    let s = c.before.before.before in
-    let f = s.args.file.now in
-    sym (le-leb (length (text_of_file f)) s.args.room (omega (arith, written_at_most f s.requires.0.passes, c.if1.true)))
+    let f = c.args.file.now in
+    sym (le-leb (length (text_of_file f)) c.args.room (omega (arith, written_at_most f c.requires.0.passes, c.if-room-ge-LONGEST.true)))
 
-returns-2 : tie.Need-returns-2
-returns-2 c = ap (λ (n : ℕ). leb n c.before.before.before.before.before.before.before.args.room) c.before.before.text-length.ensures
+returns-2 : tie.Need-returns
+returns-2 c = ap (λ (n : ℕ). leb n c.args.room) c.text_length.ensures
 
 pub has_room_spec : {M : Type 1} → statement M
 has_room_spec = tie.close (tie.spec returns (λ c κs. search rules) (λ c. search rules) returns-2)
