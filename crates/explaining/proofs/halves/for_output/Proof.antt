@@ -3,14 +3,14 @@ use Rattle.explaining.specs.Halves.{output_kept, output_edited}
 use Rattle.explaining.proofs.halves.for_output.Statement.{statement}
 use Rattle.explaining.proofs.halves.for_output.Tie as tie
 
-reason-of-requires : tie.Need-reason-of-requires
-reason-of-requires c κs = let s = c.before.before.before.before in (s.requires.0, (s.requires.1.0, s.requires.1.1 c.if1.false))
+reason-of-requires : tie.Need-reason_of-requires
+reason-of-requires c κs = (c.requires.0, (c.requires.1.0, c.requires.1.1 c.if-y-released.false))
 
-returns : tie.Need-returns
-returns c = output_kept c.if1.true
+returns : tie.Need-returns-then-y-released
+returns c = output_kept c.if-y-released.true
 
-returns-2 : tie.Need-returns-2
-returns-2 c = output_edited c.before.if1.false c.reason-of.ensures
+returns-2 : tie.Need-returns-else-y-released
+returns-2 c = output_edited c.if-y-released.false c.reason_of.ensures
 
 pub for_output_spec : {M : Type 1} → statement M
 for_output_spec = tie.close (tie.spec reason-of-requires returns returns-2)

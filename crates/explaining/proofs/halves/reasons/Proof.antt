@@ -3,13 +3,12 @@ use borrow.Author.Rules.{rules}
 use Rattle.explaining.proofs.halves.reasons.Statement.{statement}
 use Rattle.explaining.proofs.halves.reasons.Tie as tie
 
-tell-requires : tie.Need-tell-requires
+tell-requires : tie.Need-tell-told-requires
 tell-requires c κs =
-    let s = c.before.before.before.before.before in
-    (s.requires.0, (s.requires.1.0, s.requires.1.1, s.requires.1.2, c.own_of_lem.ensures))
+    (c.requires.0, (c.requires.1.0, c.requires.1.1, c.requires.1.2, c.own_of-own.ensures))
 
 returns : tie.Need-returns
-returns c = c.before.tell.ensures.0
+returns c = c.tell-told.ensures.0
 
 pub reasons_spec : {M : Type 1} → statement M
 reasons_spec = tie.close (tie.spec (λ c κs. search rules) tell-requires returns)

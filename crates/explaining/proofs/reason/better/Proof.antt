@@ -7,15 +7,11 @@ use borrow.Author.Rules.{rules}
 use Rattle.explaining.proofs.reason.better.Statement.{statement}
 use Rattle.explaining.proofs.reason.better.Tie as tie
 
-returns : tie.Need-returns
-returns c = c.with-rests.ensures ∙ sym (ap (λ (z : Reason). better (reason_said c.before.before.before.before.args.best) (reason_said z)) c.before.before.one.given.1)
+returns : tie.Need-returns-in-Rests
+returns c = c.with_rests.ensures ∙ sym (ap (λ (z : Reason). better (reason_said c.args.best) (reason_said z)) c.in-Rests.is)
 
-returns-2 : tie.Need-returns-2
-returns-2 c = c.with-ticks.ensures ∙ sym (ap (λ (z : Reason). better (reason_said c.before.before.before.before.args.best) (reason_said z)) c.before.before.one2.given.1)
+returns-2 : tie.Need-returns-in-Ticks
+returns-2 c = c.with_ticks.ensures ∙ sym (ap (λ (z : Reason). better (reason_said c.args.best) (reason_said z)) c.in-Ticks.is)
 
 pub better_spec : {M : Type 1} → statement M
-better_spec =
-    tie.close
-    (tie.spec
-    (λ c. search rules) (λ c κs. search rules) (λ c. search rules) (λ c κs. search rules) (λ c. search rules) (λ c. search rules) (λ c. search rules)
-    returns returns-2 (λ c. search rules) (λ c. search rules) (λ c. search rules))
+better_spec = tie.close (tie.spec (λ c. search rules) (λ c κs. search rules) (λ c. search rules) (λ c κs. search rules) (λ c. search rules) (λ c. search rules) (λ c. search rules) returns returns-2 (λ c. search rules) (λ c. search rules) (λ c. search rules))

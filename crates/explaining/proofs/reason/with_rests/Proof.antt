@@ -8,24 +8,20 @@ use borrow.Author.Rules.{rules}
 use Rattle.explaining.proofs.reason.with_rests.Statement.{statement}
 use Rattle.explaining.proofs.reason.with_rests.Tie as tie
 
-returns : tie.Need-returns
-returns c = ap rests c.most.ensures ∙ sym (ap (λ (z : Reason). with_rests c.before.before.before.before.args.j (reason_said z)) c.before.before.best.given.1)
+returns : tie.Need-returns-in-Rests
+returns c = ap rests c.most.ensures ∙ sym (ap (λ (z : Reason). with_rests c.args.j (reason_said z)) c.in-Rests.is)
 
-returns-2 : tie.Need-returns-2
-returns-2 c = sym (ap (λ (z : Reason). with_rests c.before.before.args.j (reason_said z)) c.enum_told.given.1)
+returns-2 : tie.Need-returns-in-Kept
+returns-2 c = sym (ap (λ (z : Reason). with_rests c.args.j (reason_said z)) c.in-Kept.is)
 
-returns-3 : tie.Need-returns-3
-returns-3 c = sym (ap (λ (z : Reason). with_rests c.before.before.args.j (reason_said z)) c.enum-told2.given.1)
+returns-3 : tie.Need-returns-in-Rule
+returns-3 c = sym (ap (λ (z : Reason). with_rests c.args.j (reason_said z)) c.in-Rule.is)
 
-returns-4 : tie.Need-returns-4
-returns-4 c = sym (ap (λ (z : Reason). with_rests c.before.before.args.j (reason_said z)) c.enum-told3.given.1)
+returns-4 : tie.Need-returns-in-Unmatched
+returns-4 c = sym (ap (λ (z : Reason). with_rests c.args.j (reason_said z)) c.in-Unmatched.is)
 
-returns-5 : tie.Need-returns-5
-returns-5 c = sym (ap (λ (z : Reason). with_rests c.before.before.args.j (reason_said z)) c.enum-told4.given.1)
+returns-5 : tie.Need-returns-in-Ticks
+returns-5 c = sym (ap (λ (z : Reason). with_rests c.args.j (reason_said z)) c.in-Ticks.is)
 
 pub with_rests_spec : {M : Type 1} → statement M
-with_rests_spec =
-    tie.close
-    (tie.spec
-    (λ c. search rules) (λ c κs. search rules) (λ c. search rules) (λ c. search rules) (λ c. search rules) (λ c. search rules) returns returns-2
-    returns-3 returns-4 returns-5)
+with_rests_spec = tie.close (tie.spec (λ c. search rules) (λ c κs. search rules) (λ c. search rules) (λ c. search rules) (λ c. search rules) (λ c. search rules) returns returns-2 returns-3 returns-4 returns-5)

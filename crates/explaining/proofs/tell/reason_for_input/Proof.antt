@@ -13,62 +13,57 @@ use Rattle.explaining.specs.CodeReasons.{reason_said}
 use Rattle.explaining.proofs.tell.reason_for_input.Statement.{statement}
 use Rattle.explaining.proofs.tell.reason_for_input.Tie as tie
 
-abbrev invariant-loop : tie.invariant-loop
+abbrev invariant-loop : tie.invariant-loop-y
 invariant-loop file layout here ticks rests x outputs best₀ y₀ best y =
     ((0 < y) × (y ≤ outputs) × (outputs ≤ 16)) × ToldIn (policy_of layout.reading file) (place layout.clocks here.state) y x (reason_said best)
 
-abbrev decreases-loop : tie.decreases-loop
+abbrev decreases-loop : tie.decreases-loop-y
 decreases-loop file layout here ticks rests x outputs best₀ y₀ best y =
     outputs - y
 
 -- The values counted are those of the outputs.
-counted : (c : tie.After-values invariant-loop decreases-loop) →
-    (c.values.result ≡ output_values (policy_of c.before.before.before.before.args.layout.reading c.before.before.before.before.args.file.now)) × (c.values.result ≤ 16) × (0 < c.values.result)
-counted c = let k = c.before.before.before.before.requires.0.0 in rw c.values.ensures ((laid_outputs k).0, (laid_outputs k).1, pow_pos c.before.before.before.before.args.layout.outputs)
+counted : (c : tie.After-values-outputs invariant-loop decreases-loop) →
+    (c.values-outputs.result ≡ output_values (policy_of c.args.layout.reading c.args.file.now)) × (c.values-outputs.result ≤ 16) × (0 < c.values-outputs.result)
+counted c = let k = c.requires.0.0 in rw c.values-outputs.ensures ((laid_outputs k).0, (laid_outputs k).1, pow_pos c.args.layout.outputs)
 
-values-requires : tie.Need-values-requires invariant-loop decreases-loop
-values-requires c κs = omega (arith, laid_limits c.before.before.before.requires.0.0)
+values-requires : tie.Need-values-outputs-requires invariant-loop decreases-loop
+values-requires c κs = omega (arith, laid_limits c.requires.0.0)
 
-reason-of-requires : tie.Need-reason-of-requires invariant-loop decreases-loop
+reason-of-requires : tie.Need-reason_of-best-requires invariant-loop decreases-loop
 reason-of-requires c κs =
-    let s = c.before.before.before.before in
-    (s.requires.0, (s.requires.1.0, s.requires.1.1 0 (omega (arith, counted c))))
+    (c.requires.0, (c.requires.1.0, c.requires.1.1 0 (omega (arith, counted c))))
 
-loop-holds : tie.Need-loop-init invariant-loop decreases-loop
-loop-holds c = ((omega arith, omega (arith, counted c.before), (counted c.before).1), told_first c.reason-of.ensures)
+loop-holds : tie.Need-loop-y-init invariant-loop decreases-loop
+loop-holds c = ((omega arith, omega (arith, counted c.before), (counted c.before).1), told_first c.reason_of-best.ensures)
 
-cast-loop : tie.Need-overflow-cast-loop invariant-loop decreases-loop
-cast-loop c = omega (arith, c.loop.invariant.0)
+cast-loop : tie.Need-overflow_cast-y invariant-loop decreases-loop
+cast-loop c = omega (arith, c.loop-y.invariant.0)
 
-reason-of-requires-2 : tie.Need-reason-of-requires-2 invariant-loop decreases-loop
+reason-of-requires-2 : tie.Need-reason_of-one-requires invariant-loop decreases-loop
 reason-of-requires-2 c κs =
-    let s = c.before.before.before.before.before.before.before in
-    (s.requires.0, (s.requires.1.0, s.requires.1.1 c.before.loop.y (omega (arith, c.loop-test.true, counted c.before.before.before))))
+    (c.requires.0, (c.requires.1.0, c.requires.1.1 c.loop-y.y (omega (arith, c.loop-y-test.true, counted c.before.before.before))))
 
-better-requires : tie.Need-better-requires invariant-loop decreases-loop
+better-requires : tie.Need-better-best-requires invariant-loop decreases-loop
 better-requires c κs = tt
 
-add-y : tie.Need-overflow-add-y invariant-loop decreases-loop
-add-y c = omega (arith, c.before.before.loop-test.true, c.before.before.before.loop.invariant.0)
+add-y : tie.Need-overflow_add-y invariant-loop decreases-loop
+add-y c = omega (arith, c.loop-y-test.true, c.loop-y.invariant.0)
 
-loop-less : tie.Need-loop-smaller invariant-loop decreases-loop
-loop-less c = omega (arith, c.before.before.loop-test.true)
+loop-less : tie.Need-loop-y-smaller invariant-loop decreases-loop
+loop-less c = omega (arith, c.loop-y-test.true)
 
-loop-again : tie.Need-loop-preserved invariant-loop decreases-loop
+loop-again : tie.Need-loop-y-preserved invariant-loop decreases-loop
 loop-again c =
-    let l = c.before.before.before.loop in (
-      (omega arith, omega (arith, c.before.before.loop-test.true), l.invariant.0.2),
-      rw (add-one, c.better.ensures) (told_more l.invariant.0.0 l.invariant.1 c.before.reason-of2.ensures),
+    let l = c.loop-y in (
+      (omega arith, omega (arith, c.loop-y-test.true), l.invariant.0.2),
+      rw (add-one, c.better-best.ensures) (told_more l.invariant.0.0 l.invariant.1 c.reason_of-one.ensures),
     )
 
 returns : tie.Need-returns invariant-loop decreases-loop
 returns c =
-    let l = c.before.loop in
-    let e : l.y ≡ output_values (policy_of c.before.before.before.before.before.before.before.args.layout.reading c.before.before.before.before.before.before.before.args.file.now) = omega (arith, l.invariant.0, (counted c.before.before.before).0, c.loop-test.false) in
+    let l = c.loop-y in
+    let e : l.y ≡ output_values (policy_of c.args.layout.reading c.args.file.now) = omega (arith, l.invariant.0, (counted c.before.before.before).0, c.loop-y-test.false) in
     rw e at l.invariant.1
 
 pub reason_for_input_spec : {M : Type 1} → statement M
-reason_for_input_spec =
-    tie.close
-    (tie.spec
-    invariant-loop decreases-loop values-requires reason-of-requires loop-holds cast-loop reason-of-requires-2 better-requires add-y loop-less loop-again returns)
+reason_for_input_spec = tie.close (tie.spec invariant-loop decreases-loop values-requires reason-of-requires loop-holds cast-loop reason-of-requires-2 better-requires add-y loop-less loop-again returns)

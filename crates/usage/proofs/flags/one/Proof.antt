@@ -5,11 +5,11 @@ use Rattle.resting.specs.Table.{bit}
 use Rattle.usage.proofs.flags.one.Statement.{statement}
 use Rattle.usage.proofs.flags.one.Tie as tie
 
-returns : tie.Need-returns
-returns c = sym (ap bit (eq-eqb _ 1 c.if1.true))
+returns : tie.Need-returns-then-byte-eq1
+returns c = sym (ap bit (eq-eqb _ 1 c.if-byte-eq1.true))
 
-returns-2 : tie.Need-returns-2
-returns-2 c = sym (ap bit (ne_eqb _ 1 c.if1.false))
+returns-2 : tie.Need-returns-else-byte-eq1
+returns-2 c = sym (ap bit (ne_eqb _ 1 c.if-byte-eq1.false))
 
 pub one_spec : {M : Type 1} → statement M
 one_spec = tie.close (tie.spec returns returns-2)

@@ -11,22 +11,20 @@ use Rattle.usage.specs.Code.{flags_of}
 use Rattle.usage.proofs.flags.renumber.Statement.{statement}
 use Rattle.usage.proofs.flags.renumber.Tie as tie
 
-returns : tie.Need-returns
+returns : tie.Need-returns-then-target-eq-VIOLATION
 returns c =
-    let a = c.before.before.args in
-    (sym (ap (λ (b : Bool). cond b 255 (rank (flags_of a.entered.now) a.target)) (eq-eqb a.target 255 c.if1.true)), omega arith)
+    let a = c.args in
+    (sym (ap (λ (b : Bool). cond b 255 (rank (flags_of a.entered.now) a.target)) (eq-eqb a.target 255 c.if-target-eq-VIOLATION.true)), omega arith)
 
 rank-requires : tie.Need-rank-requires
 rank-requires c κs =
-    let s = c.before.before in
-    let l : s.args.target < length s.args.entered.now = ⊎_elim (λ h. h) (λ e. absurd (c.if1.false e)) s.requires.0 in
+    let l : c.args.target < length c.args.entered.now = ⊎_elim (λ h. h) (λ e. absurd (c.if-target-eq-VIOLATION.false e)) c.requires.0 in
     (omega arith, omega arith)
 
-returns-2 : tie.Need-returns-2
+returns-2 : tie.Need-returns
 returns-2 c =
-    let h = c.before in
-    let a = h.before.before.args in
-    (c.rank.ensures.0 ∙ sym (ap (λ (b : Bool). cond b 255 (rank (flags_of a.entered.now) a.target)) (ne_eqb a.target 255 h.if1.false)), c.rank.ensures.1)
+    let a = c.args in
+    (c.rank.ensures.0 ∙ sym (ap (λ (b : Bool). cond b 255 (rank (flags_of a.entered.now) a.target)) (ne_eqb a.target 255 c.if-target-eq-VIOLATION.false)), c.rank.ensures.1)
 
 pub renumber_spec : {M : Type 1} → statement M
 renumber_spec = tie.close (tie.spec returns rank-requires returns-2)
