@@ -8,35 +8,30 @@ use Rattle.laying.specs.Laying.{LeftToLay, left_start, left_same, left_turn, lef
 use Rattle.laying.proofs.lay.copy.Statement.{statement}
 use Rattle.laying.proofs.lay.copy.Tie as tie
 
-abbrev invariant-loop : tie.invariant-loop
+abbrev invariant-loop : tie.invariant-loop-i
 invariant-loop from start n out₀ at next₀ i₀ out next i =
     (i ≤ n) × (next ≡ at + i) × LeftToLay (bytes_from from start n) (bytes_from from (start + i) (n - i)) out₀ at out next
 
-abbrev decreases-loop : tie.decreases-loop
+abbrev decreases-loop : tie.decreases-loop-i
 decreases-loop from start n out₀ at next₀ i₀ out next i = n - i
 
-loop-holds : tie.Need-loop-init invariant-loop decreases-loop
+loop-holds : tie.Need-loop-i-init invariant-loop decreases-loop
 loop-holds c = (omega arith, omega arith, left_same (left_start _ _ _) (bytes_start _ _ _))
 
-loop-again : tie.Need-loop-preserved invariant-loop decreases-loop
-loop-again c =
-    let l = c.before.before.before.before.before in (
-      omega arith,
-      omega (arith, c.before.before.put.ensures.ends),
-      left_turn l.before.loop.invariant.2
-          (bytes_turn _ _ _ _ l.loop-test.true c.before.before.before.before.byte-within.ensures.0)
-          c.before.before.put.ensures,
-    )
+loop-again : tie.Need-loop-i-preserved invariant-loop decreases-loop
+loop-again c = (
+  omega arith,
+  omega (arith, c.put-next.ensures.ends),
+  left_turn c.loop-i.invariant.2
+      (bytes_turn _ _ _ _ c.loop-i-test.true c.byte_within.ensures.0)
+      c.put-next.ensures,
+)
 
-same_length : tie.Need-same-length invariant-loop decreases-loop
-same_length c = left_length c.before.loop.invariant.2
+same_length : tie.Need-shape_of-out invariant-loop decreases-loop
+same_length c = left_length c.loop-i.invariant.2
 
 returns : tie.Need-returns invariant-loop decreases-loop
-returns c = left_end c.before.loop.invariant.2 (bytes_end _ _ _ _ c.loop-test.false)
+returns c = left_end c.loop-i.invariant.2 (bytes_end _ _ _ _ c.loop-i-test.false)
 
 pub copy_spec : {M : Type 1} → statement M
-copy_spec =
-    tie.close
-    (tie.spec
-    invariant-loop decreases-loop loop-holds (λ c. search rules) (λ c κs. search rules) (λ c κs. search rules) (λ c. search rules) (λ c. search rules) loop-again
-    same_length returns)
+copy_spec = tie.close (tie.spec invariant-loop decreases-loop loop-holds (λ c. search rules) (λ c κs. search rules) (λ c κs. search rules) (λ c. search rules) (λ c. search rules) loop-again same_length returns)
