@@ -16,7 +16,8 @@ use Rattle.policy.specs.Frame.{frame, inputs_length, outputs_length, pairs_lengt
 use Rattle.policy.specs.Checked.{checked_file, well_sound, well_rising}
 use Rattle.policy.specs.ReadBack.{rules_length}
 use Rattle.join.specs.Left.{left_length}
-use Rattle.pairing.specs.Joins.{join_sound, join_clocks}
+use Rattle.pairing.specs.Joins.{join_clocks}
+use Rattle.pairing.proofs.JoinsSound.{join_sound}
 use Rattle.policy.specs.Number.{states}
 use Rattle.policy.specs.Layout.{layout_of}
 use Rattle.policy.specs.declared.Layout.{Layout}

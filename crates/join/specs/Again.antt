@@ -19,7 +19,8 @@ use Rattle.policy.specs.Checked.{all_append, Ordered, ordered_none, ordered_more
 use Rattle.pairing.specs.Join.{of, both, rows, join}
 use Rattle.join.specs.Entry.{same_tags, same_signals, join_fits}
 use Rattle.join.specs.Left.{left_length, left_good}
-use Rattle.pairing.specs.Joins.{Joins, each_any, each_rows, both_formed}
+use Rattle.pairing.specs.Joins.{Joins, each_any, each_rows}
+use Rattle.pairing.proofs.JoinsSound.{both_formed}
 use Rattle.join.specs.Decide.{cell_at}
 
 same_itself : (xs : List ℕ) → same_tags xs xs ≡ true
@@ -93,9 +94,9 @@ rising_lower : {low mid : ℕ} {rs : List Rule} → low ≤ mid → Rising mid r
 rising_lower l rising_none = rising_none
 rising_lower {low = low} l (rising_more {r = r} k h) = let i : low ≤ r.source = omega arith in rising_more i h
 
-rising_same : {low m : ℕ} {rs : List Rule} → low ≤ m → Each (λ r. r.source ≡ m) rs → Rising low rs
+rising_same : {m low : ℕ} {rs : List Rule} → low ≤ m → Each (λ r. r.source ≡ m) rs → Rising low rs
 rising_same l each_none = rising_none
-rising_same {low = low} {m = m} l (each_more {r = r} e h) =
+rising_same {m = m} {low = low} l (each_more {r = r} e h) =
     let i : low ≤ r.source = omega arith in
     let j : r.source ≤ m = omega arith in
     rising_more i (rising_same j h)

@@ -7,7 +7,7 @@ use Rattle.policy.specs.Number.{states_of}
 use Rattle.policy.specs.Check.{all_pass, among, tags_good, ceiling_good, location_good, mask_good, head_good, bound_good, bounds_good, rule_refusal, rules_refusal}
 use Rattle.policy.specs.Sound.{WellFormed}
 use Rattle.policy.specs.Checked.{well_sound}
-use Rattle.pairing.specs.Join.{target, join}
+use Rattle.pairing.specs.Join.{join}
 use Rattle.join.specs.Entry.{join_fits}
 use Rattle.join.specs.Laws.{Equal, associates}
 use Rattle.join.specs.Again.{fitting, joins_of, join_well}

@@ -12,7 +12,8 @@ use Rattle.streams.specs.Languages.{◌narrows◌}
 use Rattle.policy.specs.Rules.{Policy, Runs, Permits}
 use Rattle.policy.specs.Sound.{Sound}
 use Rattle.pairing.specs.Join.{join}
-use Rattle.pairing.specs.Joins.{Joins, join_sound}
+use Rattle.pairing.specs.Joins.{Joins}
+use Rattle.pairing.proofs.JoinsSound.{join_sound}
 use Rattle.join.specs.Steps.{fits_same, within_both, both_within}
 use Rattle.join.specs.Free.{free}
 use Rattle.join.specs.FreeLaws.{free_sound, free_permits, free_rests}

@@ -7,29 +7,28 @@ use Rattle.join.proofs.counts.lay_clocks.Statement.{statement}
 use Rattle.join.proofs.counts.lay_clocks.Tie as tie
 
 -- Earlier places in the code.
-abbrev start : tie.After-put → tie.Start
+abbrev start : tie.After-put-ceilings → tie.Start
 start c = c.before.before.before.before.before
 
-abbrev put_count : tie.After-copy → tie.After-put
+abbrev put_count : tie.After-copy-others → tie.After-put-ceilings
 put_count c = c.before.before.before.before
 
-copy-requires-2 : tie.Need-copy-requires-2
+copy-requires-2 : tie.Need-copy-requires
 copy-requires-2 c κs =
     let a = (start (put_count c.before.before.before)).args in
-    (omega arith, omega arith, omega (arith, c.before.before.before.copy.ensures.ends, bytes_length a.a.now (a.p + 1) (2 * a.firsts)))
+    (omega arith, omega arith, omega (arith, c.copy-others.ensures.ends, bytes_length a.a.now (a.p + 1) (2 * a.firsts)))
 
 returns : tie.Need-returns
 returns c =
-    let w = c.before.before.before.before.before.before in
-    let s = start (put_count w) in
+    let s = start (put_count c.before.before.before.before.before.before) in
     let a = s.args in
-    let h = (put_count w).put.ensures in
-    let f = w.copy.ensures in
-    let g = c.before.before.copy2.ensures in (
+    let h = (put_count c.before.before.before.before.before.before).put-ceilings.ensures in
+    let f = c.copy-others.ensures in
+    let g = c.copy.ensures in (
       laid_more (laid_more h f) g,
       omega (
         arith,
-        s.pre,
+        s.requires,
         h.ends,
         f.ends,
         g.ends,
@@ -39,8 +38,4 @@ returns c =
     )
 
 pub lay_clocks_spec : {M : Type 1} → statement M
-lay_clocks_spec =
-    tie.close
-    (tie.spec
-    (λ c. search rules) (λ c κs. search rules) (λ c. search rules) (λ c. search rules) (λ c κs. search rules) (λ c. search rules) (λ c. search rules)
-    copy-requires-2 (λ c. search rules) returns)
+lay_clocks_spec = tie.close (tie.spec (λ c. search rules) (λ c κs. search rules) (λ c. search rules) (λ c. search rules) (λ c κs. search rules) (λ c. search rules) (λ c. search rules) copy-requires-2 (λ c. search rules) returns)

@@ -12,40 +12,34 @@ use Rattle.join.proofs.SizeLaws.{same_turn, same_end, same_long}
 use Rattle.join.proofs.counts.same_tags.Statement.{statement}
 use Rattle.join.proofs.counts.same_tags.Tie as tie
 
-abbrev invariant-loop : tie.invariant-loop
+abbrev invariant-loop : tie.invariant-loop-i
 invariant-loop a b i₀ i = (i ≤ length a) × (same_tags (drop i a) (drop i b) ≡ same_tags a b)
 
-abbrev decreases-loop : tie.decreases-loop
+abbrev decreases-loop : tie.decreases-loop-i
 decreases-loop a b i₀ i = length a - i
 
-turn : (c : tie.In-loop invariant-loop decreases-loop) →
-    let xs = c.before.before.before.args.a.now in
-    let ys = c.before.before.before.args.b.now in
-    let i = c.before.loop.i in
+turn : (c : tie.In-loop-i invariant-loop decreases-loop) →
+    let xs = c.args.a.now in
+    let ys = c.args.b.now in
+    let i = c.loop-i.i in
     same_tags (drop i xs) (drop i ys) ≡ (eqb (get_or xs i 0) (get_or ys i 0) && same_tags (drop (i + 1) xs) (drop (i + 1) ys))
-turn c = same_turn _ _ _ c.loop-test.true (omega arith)
+turn c = same_turn _ _ _ c.loop-i-test.true (omega arith)
 
-returns : tie.Need-returns invariant-loop decreases-loop
-returns c = sym (same_long _ _ c.if1.true)
+returns : tie.Need-returns-then-a-b invariant-loop decreases-loop
+returns c = sym (same_long _ _ c.if-a-b.true)
 
-returns-2 : tie.Need-returns-2 invariant-loop decreases-loop
+returns-2 : tie.Need-returns-then-a-i invariant-loop decreases-loop
 returns-2 c =
-    let l = c.before.before.before in
-    rw (← l.before.loop.invariant.1, turn l, ne_eqb _ _ c.if2.true)
+    rw (← c.loop-i.invariant.1, turn c.before.before.before, ne_eqb _ _ c.if-a-i.true)
 
-loop-again : tie.Need-loop-preserved invariant-loop decreases-loop
+loop-again : tie.Need-loop-i-preserved invariant-loop decreases-loop
 loop-again c =
-    let l = c.before.before.before in
-    (omega arith, rw (← l.before.loop.invariant.1, turn l, eq-eqb _ _ c.if2.false))
+    (omega arith, rw (← c.loop-i.invariant.1, turn c.before.before.before, eq-eqb _ _ c.if-a-i.false))
 
-returns-3 : tie.Need-returns-3 invariant-loop decreases-loop
+returns-3 : tie.Need-returns invariant-loop decreases-loop
 returns-3 c =
-    let a = c.before.before.before.args in
-    rw (← c.before.loop.invariant.1, same_end a.a.now a.b.now c.before.loop.i (omega arith) (omega arith))
+    let a = c.args in
+    rw (← c.loop-i.invariant.1, same_end a.a.now a.b.now c.loop-i.i (omega arith) (omega arith))
 
 pub same_tags_spec : {M : Type 1} → statement M
-same_tags_spec =
-    tie.close
-    (tie.spec
-    invariant-loop decreases-loop returns (λ c. search rules) (λ c. search rules) (λ c. search rules) returns-2 (λ c. search rules) (λ c. search rules) loop-again
-    returns-3)
+same_tags_spec = tie.close (tie.spec invariant-loop decreases-loop returns (λ c. search rules) (λ c. search rules) (λ c. search rules) returns-2 (λ c. search rules) (λ c. search rules) loop-again returns-3)
