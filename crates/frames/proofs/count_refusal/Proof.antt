@@ -5,39 +5,34 @@ use Rattle.frames.specs.Frame.{count_refusal}
 use Rattle.frames.proofs.count_refusal.Statement.{statement}
 use Rattle.frames.proofs.count_refusal.Tie as tie
 
-returns : tie.Need-returns
+returns : tie.Need-returns-then-input-at
 unfolding count_refusal
-returns c = simp (lt-leb _ _ c.if1.true)
+returns c = simp (lt-leb _ _ c.if-input-at.true)
 
-returns-2 : tie.Need-returns-2
+returns-2 : tie.Need-returns-then-most-n
 unfolding count_refusal
 returns-2 c =
-    simp (le-leb _ _ c.before.before.if1.false, ← c.before.pair-at.ensures.0, lt-leb _ _ c.if2.true)
+    simp (le-leb _ _ c.if-input-at.false, ← c.pair_at-n.ensures.0, lt-leb _ _ c.if-most-n.true)
 
-returns-3 : tie.Need-returns-3
+returns-3 : tie.Need-returns-then-input-at-2
 unfolding count_refusal
 returns-3 c =
-    let g = c.before.before.before in
     simp (
-      le-leb _ _ g.if1.false,
-      ← c.before.before.pair-at.ensures.0,
-      le-leb _ _ c.before.if2.false,
-      lt-leb _ _ c.if3.true,
+      le-leb _ _ c.if-input-at.false,
+      ← c.pair_at-n.ensures.0,
+      le-leb _ _ c.if-most-n.false,
+      lt-leb _ _ c.if-input-at-2.true,
     )
 
-returns-4 : tie.Need-returns-4
+returns-4 : tie.Need-returns
 unfolding count_refusal
 returns-4 c =
-    let g = c.before.before.before in
     simp (
-      le-leb _ _ g.if1.false,
-      ← c.before.before.pair-at.ensures.0,
-      le-leb _ _ c.before.if2.false,
-      le-leb _ _ c.if3.false,
+      le-leb _ _ c.if-input-at.false,
+      ← c.pair_at-n.ensures.0,
+      le-leb _ _ c.if-most-n.false,
+      le-leb _ _ c.if-input-at-2.false,
     )
 
 pub count_refusal_spec : {M : Type 1} → statement M
-count_refusal_spec =
-    tie.close
-    (tie.spec
-    (λ c. search rules) returns (λ c κs. search rules) returns-2 (λ c. search rules) (λ c. search rules) returns-3 returns-4)
+count_refusal_spec = tie.close (tie.spec (λ c. search rules) returns (λ c κs. search rules) returns-2 (λ c. search rules) (λ c. search rules) returns-3 returns-4)

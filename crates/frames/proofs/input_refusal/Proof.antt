@@ -5,14 +5,14 @@ use Rattle.policy.specs.CheckLaws.{a_reading, no_reading}
 use Rattle.frames.proofs.input_refusal.Statement.{statement}
 use Rattle.frames.proofs.input_refusal.Tie as tie
 
-returns : tie.Need-returns
-returns c = rw (no_reading _ (◌⊎◌.inl c.if1.true))
+returns : tie.Need-returns-then-reading-lt1
+returns c = rw (no_reading _ (◌⊎◌.inl c.if-reading-lt1.true))
 
-returns-2 : tie.Need-returns-2
-returns-2 c = rw (no_reading _ (◌⊎◌.inr c.if2.true))
+returns-2 : tie.Need-returns-then-reading-gt2
+returns-2 c = rw (no_reading _ (◌⊎◌.inr c.if-reading-gt2.true))
 
-returns-3 : tie.Need-returns-3
-returns-3 c = rw (a_reading _ c.before.before.if1.false c.before.if2.false) c.count-refusal.ensures
+returns-3 : tie.Need-returns
+returns-3 c = rw (a_reading _ c.if-reading-lt1.false c.if-reading-gt2.false) c.count_refusal.ensures
 
 pub input_refusal_spec : {M : Type 1} → statement M
 input_refusal_spec = tie.close (tie.spec returns returns-2 (λ c κs. search rules) returns-3)
