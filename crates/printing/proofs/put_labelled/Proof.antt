@@ -7,8 +7,7 @@ use Rattle.printing.proofs.put_labelled.Tie as tie
 
 returns : tie.Need-returns
 returns c =
-    let b = c.before.before.before.before.before.before in
-    wrote_then (omega (arith, b.before.before.before.before.requires)) b.put-bytes.ensures c.before.before.put-decimal.ensures
+    wrote_then (omega (arith, c.requires)) c.put_bytes-next.ensures c.put_decimal.ensures
 
 pub put_labelled_spec : {M : Type 1} → statement M
 put_labelled_spec = tie.close (tie.spec (λ c κs. search rules) (λ c κs. search rules) (λ c. search rules) returns)

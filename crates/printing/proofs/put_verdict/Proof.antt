@@ -21,38 +21,29 @@ short c =
       decimal_short a.live 19 (omega arith),
     )
 
-put-labelled-requires : tie.Need-put-labelled-requires
-put-labelled-requires c κs = omega (arith, short c.before.before.before)
+put-labelled-requires : tie.Need-put_labelled-verdict_end-requires
+put-labelled-requires c κs = omega (arith, short c.before.before.before.before)
 
-put-labelled-requires-2 : tie.Need-put-labelled-requires-2
+put-labelled-requires-2 : tie.Need-put_labelled-states_end-requires
 put-labelled-requires-2 c κs =
-    let v = c.before.before.before.before in omega (arith, short v.before.before.before.before)
+    omega (arith, short c.before.before.before.before.before.before.before.before.before.before)
 
-put-labelled-requires-3 : tie.Need-put-labelled-requires-3
+put-labelled-requires-3 : tie.Need-put_labelled-live_end-requires
 put-labelled-requires-3 c κs =
-    let v = c.before.before.before.before.before.before.before.before.before in omega (arith, short v.before.before.before.before)
+    omega (arith, short c.before.before.before.before.before.before.before.before.before.before.before.before.before.before.before.before)
 
-put-bytes-requires : tie.Need-put-bytes-requires
+put-bytes-requires : tie.Need-put_bytes-requires
 put-bytes-requires c κs =
-    let s = c.before.before.before.before.before.before.before.before.before in
-    let v = s.before.before.before.before.before in omega (arith, short v.before.before.before.before)
+    omega (arith, short c.before.before.before.before.before.before.before.before.before.before.before.before.before.before.before.before.before.before.before.before.before.before)
 
 returns : tie.Need-returns
 unfolding verdict_line
 returns c =
-    let l = c.before.before.before.before.before.before.before in
-    let s = l.before.before.before.before.before in
-    let v = s.before.before.before.before.before in
-    let start = v.before.before.before.before in
-    let room = start.requires in
-    let two = wrote_then (omega arith) v.put-labelled.ensures s.put-labelled2.ensures in
-    let three = wrote_then (omega arith) two l.put-labelled3.ensures in
-    let all = wrote_then (omega arith) three c.before.before.put-bytes.ensures in
-    (all, omega (arith, short start, all.next))
+    let room = c.requires in
+    let two = wrote_then (omega arith) c.put_labelled-verdict_end.ensures c.put_labelled-states_end.ensures in
+    let three = wrote_then (omega arith) two c.put_labelled-live_end.ensures in
+    let all = wrote_then (omega arith) three c.put_bytes.ensures in
+    (all, omega (arith, short c.before.before.before.before.before.before.before.before.before.before.before.before.before.before.before.before.before.before.before.before.before.before.before.before.before, all.next))
 
 pub put_verdict_spec : {M : Type 1} → statement M
-put_verdict_spec =
-    tie.close
-    (tie.spec
-    (λ c. search rules) put-labelled-requires (λ c. search rules) put-labelled-requires-2 (λ c. search rules) put-labelled-requires-3
-    (λ c. search rules) put-bytes-requires (λ c. search rules) returns)
+put_verdict_spec = tie.close (tie.spec put-labelled-requires put-labelled-requires-2 put-labelled-requires-3 put-bytes-requires (λ c. search rules) returns)
