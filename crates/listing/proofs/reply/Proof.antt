@@ -60,7 +60,7 @@ put-left-requires c κs =
     let l = c.before.before.before in
     let k = l.before.before.before.before in
     let h : l.put-list.result + 32 ≤ length l.put-list.new.0 =
-    omega (arith, l.put-list.ensures.1, l.put-list.auto.0, listed k, (start k).requires.2) in h
+    omega (arith, l.put-list.ensures.1, l.put-list.auto.text, listed k, (start k).requires.2) in h
 
 returns : tie.Need-returns
 returns c =
@@ -72,7 +72,7 @@ returns c =
     let w = refused_way a.reading a.file.now a.cleaned.now a.list.now s.pre.0 s.pre.1
     (subst (λ (r : Cleaned). CleanPromise a.reading a.file.now a.cleaned.now a.list.now r d.new.1.1.0 d.new.1.1.1.0) k.n.given.1 d.ensures) in (
       rw w.1 (replied (subst (Wrote a.cleaned.now 0 [] 0) (sym w.2) (wrote_none a.cleaned.now 0)) d.auto.1.1.0),
-      rw w.0 (replied r.ensures r.auto.0),
+      rw w.0 (replied r.ensures r.auto.text),
     )
 
 returns-2 : tie.Need-returns-2
@@ -82,7 +82,7 @@ returns-2 c =
     let k = l.before.before.before.before in
     let g = goes k in (
       replied g.left k.before.before.before.before.before.before.clean.auto.1.1.0,
-      rw g.says (replied (wrote_then zero-le l.put-list.ensures.0 r.ensures) (r.auto.0 ∙ l.put-list.auto.0)),
+      rw g.says (replied (wrote_then zero-le l.put-list.ensures.0 r.ensures) (r.auto.text ∙ l.put-list.auto.text)),
     )
 
 pub reply_spec : {M : Type 1} → statement M

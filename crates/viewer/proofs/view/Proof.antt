@@ -51,7 +51,7 @@ returns c =
     let k = f.before.before.before in
     let o = k.before.before.before.before.before.before in
     rw (shown_refused (start o).args.reading (start o).args.input.now (sym (ap prepared_said k.n.given.1) ∙ o.outcome.ensures.said))
-    (replied f.Put-refused.ensures f.Put-refused.auto.0)
+    (replied f.Put-refused.ensures f.Put-refused.auto.text)
 
 returns-2 : tie.Need-returns-2
 returns-2 c =

@@ -32,7 +32,7 @@ returns-2 c =
     rw f.0
     (replied
     (subst (λ (text : List ℕ). Wrote text 0 (refused_line n.n2.given.0.0) r.Put-refused.result r.Put-refused.new.0) f.1 r.Put-refused.ensures)
-    (r.Put-refused.auto.0 ∙ w.write.auto.1.1.0))
+    (r.Put-refused.auto.text ∙ w.write.auto.1.1.0))
 
 pub write_file_spec : {M : Type 1} → statement M
 write_file_spec =

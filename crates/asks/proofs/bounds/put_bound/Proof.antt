@@ -6,78 +6,53 @@ use borrow.Author.Rules.{rules}
 use Rattle.asks.proofs.bounds.put_bound.Statement.{statement}
 use Rattle.asks.proofs.bounds.put_bound.Tie as tie
 
-put-clock-requires : tie.Need-put-clock-requires
+put-clock-requires : tie.Need-put_clock-next-requires
 put-clock-requires c κs =
-    let s = c.before.before.before in
-    let a = s.args in
-    omega (arith, s.requires, to_length a.number a.low a.high c.before.if1.true)
+    let a = c.args in
+    omega (arith, c.requires, to_length a.number a.low a.high c.if-high-ne-NO_HIGH.true)
 
-put-bytes-requires : tie.Need-put-bytes-requires
+put-bytes-requires : tie.Need-put_bytes-to-requires
 put-bytes-requires c κs =
-    let k = c.before.before.before.before in
-    let i = k.before.before in
-    let s = i.before.before in
-    let a = s.args in
-    omega (arith, s.requires, k.put-clock.ensures.next, k.put-clock.auto.0, to_length a.number a.low a.high i.if1.true)
+    let a = c.args in
+    omega (arith, c.requires, c.put_clock-next.ensures.next, c.put_clock-next.auto.text, to_length a.number a.low a.high c.if-high-ne-NO_HIGH.true)
 
-put-decimal-requires : tie.Need-put-decimal-requires
+put-decimal-requires : tie.Need-put_decimal-requires
 put-decimal-requires c κs =
-    let b = c.before.before.before in
-    let k = b.before.before.before.before.before in
-    let i = k.before.before in
-    let s = i.before.before in
-    let a = s.args in
+    let a = c.args in
     omega (
       arith,
-      s.requires,
-      k.put-clock.ensures.next,
-      k.put-clock.auto.0,
-      b.put-bytes.ensures.next,
-      b.put-bytes.auto.0,
-      to_length a.number a.low a.high i.if1.true,
+      c.requires,
+      c.put_clock-next.ensures.next,
+      c.put_clock-next.auto.text,
+      c.put_bytes-to.ensures.next,
+      c.put_bytes-to.auto.text,
+      to_length a.number a.low a.high c.if-high-ne-NO_HIGH.true,
     )
 
-returns : tie.Need-returns
+returns : tie.Need-returns-then-high-ne-NO_HIGH
 returns c =
-    let d = c.before.before in
-    let b = d.before.before.before.before in
-    let k = b.before.before.before.before.before in
-    let i = k.before.before in
-    let s = i.before.before in
-    let two = wrote_then (omega (arith, s.requires)) k.put-clock.ensures b.put-bytes.ensures in
-    rw (bound_to s.args.number s.args.low s.args.high i.if1.true) (wrote_then (omega (arith, s.requires)) two d.put-decimal.ensures)
+    let two = wrote_then (omega (arith, c.requires)) c.put_clock-next.ensures c.put_bytes-to.ensures in
+    rw (bound_to c.args.number c.args.low c.args.high c.if-high-ne-NO_HIGH.true) (wrote_then (omega (arith, c.requires)) two c.put_decimal.ensures)
 
-returns-2 : tie.Need-returns-2
+returns-2 : tie.Need-returns-then-low-eq0
 returns-2 c =
-    let a = c.before.before.before.args in
-    rw (bound_none a.number a.low a.high c.before.if1.false c.if2.true) (wrote_none _ _)
+    let a = c.args in
+    rw (bound_none a.number a.low a.high c.if-high-ne-NO_HIGH.false c.if-low-eq0.true) (wrote_none _ _)
 
-put-clock-requires-2 : tie.Need-put-clock-requires-2
+put-clock-requires-2 : tie.Need-put_clock-next-requires-2
 put-clock-requires-2 c κs =
-    let s = c.before.before.before.before in
-    let a = s.args in
-    omega (arith, s.requires, on_length a.number a.low a.high c.before.before.if1.false c.before.if2.false)
+    let a = c.args in
+    omega (arith, c.requires, on_length a.number a.low a.high c.if-high-ne-NO_HIGH.false c.if-low-eq0.false)
 
-put-bytes-requires-2 : tie.Need-put-bytes-requires-2
+put-bytes-requires-2 : tie.Need-put_bytes-requires
 put-bytes-requires-2 c κs =
-    let k = c.before.before.before.before in
-    let i = k.before.before in
-    let s = i.before.before.before in
-    let a = s.args in
-    omega (arith, s.requires, k.put-clock2.ensures.next, k.put-clock2.auto.0, on_length a.number a.low a.high i.before.if1.false i.if2.false)
+    let a = c.args in
+    omega (arith, c.requires, c.put_clock-next-2.ensures.next, c.put_clock-next-2.auto.text, on_length a.number a.low a.high c.if-high-ne-NO_HIGH.false c.if-low-eq0.false)
 
-returns-3 : tie.Need-returns-3
+returns-3 : tie.Need-returns
 returns-3 c =
-    let b = c.before.before in
-    let k = b.before.before.before.before.before in
-    let i = k.before.before in
-    let s = i.before.before.before in
-    rw (bound_on s.args.number s.args.low s.args.high i.before.if1.false i.if2.false)
-    (wrote_then (omega (arith, s.requires)) k.put-clock2.ensures b.put-bytes2.ensures)
+    rw (bound_on c.args.number c.args.low c.args.high c.if-high-ne-NO_HIGH.false c.if-low-eq0.false)
+    (wrote_then (omega (arith, c.requires)) c.put_clock-next-2.ensures c.put_bytes.ensures)
 
 pub put_bound_spec : {M : Type 1} → statement M
-put_bound_spec =
-    tie.close
-    (tie.spec
-    put-clock-requires (λ c. search rules) put-bytes-requires put-decimal-requires (λ c. search rules) returns returns-2 put-clock-requires-2
-    (λ c. search rules) put-bytes-requires-2 (λ c. search rules) returns-3)
+put_bound_spec = tie.close (tie.spec put-clock-requires put-bytes-requires put-decimal-requires (λ c. search rules) returns returns-2 put-clock-requires-2 put-bytes-requires-2 (λ c. search rules) returns-3)

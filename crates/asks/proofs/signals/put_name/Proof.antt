@@ -7,17 +7,16 @@ use borrow.Author.Rules.{rules}
 use Rattle.asks.proofs.signals.put_name.Statement.{statement}
 use Rattle.asks.proofs.signals.put_name.Tie as tie
 
-put-bytes-requires : tie.Need-put-bytes-requires
+put-bytes-requires : tie.Need-put_bytes-requires
 put-bytes-requires c κs =
-    let i = c.before.before in
-    let a = i.before.before.args in
-    omega (arith, i.before.before.requires, name_length a.tag a.mask i.if1.true)
+    let a = c.args in
+    omega (arith, c.requires, name_length a.tag a.mask c.if-mask-eq1.true)
 
-returns : tie.Need-returns
-returns c = let i = c.before.before.before.before.before in rw (eq-eqb _ 1 i.if1.true) c.before.before.put-bytes.ensures
+returns : tie.Need-returns-then-mask-eq1
+returns c = rw (eq-eqb _ 1 c.if-mask-eq1.true) c.put_bytes.ensures
 
-returns-2 : tie.Need-returns-2
-returns-2 c = rw (ne_eqb _ 1 c.if1.false) (wrote_none _ _)
+returns-2 : tie.Need-returns
+returns-2 c = rw (ne_eqb _ 1 c.if-mask-eq1.false) (wrote_none _ _)
 
 pub put_name_spec : {M : Type 1} → statement M
 put_name_spec = tie.close (tie.spec (λ c. search rules) put-bytes-requires (λ c. search rules) returns returns-2)

@@ -10,68 +10,49 @@ use borrow.Author.Rules.{rules}
 use Rattle.asks.proofs.signals.put_signals.Statement.{statement}
 use Rattle.asks.proofs.signals.put_signals.Tie as tie
 
-returns : tie.Need-returns
+returns : tie.Need-returns-then-x-y-eq0
 returns c =
-    let a = c.before.before.before.before.before.args in
-    rw (signals_none a.inputs.now a.outputs.now a.x a.y a.word.now c.if1.true) (wrote_none _ _)
+    let a = c.args in
+    rw (signals_none a.inputs.now a.outputs.now a.x a.y a.word.now c.if-x-y-eq0.true) (wrote_none _ _)
 
 -- How long the parts are together, where there is one.
-parts : (c : tie.Else1) →
-    let a = c.before.before.before.before.before.args in
+parts : (c : tie.Else-x-y-eq0) →
+    let a = c.args in
     length (signals a.inputs.now a.outputs.now a.x a.y a.word.now)
     ≡ 1 + length (names a.inputs.now a.x) + length (names a.outputs.now a.y) + length a.word.now
-parts c = let a = c.before.before.before.before.before.args in signals_length a.inputs.now a.outputs.now a.x a.y a.word.now c.if1.false
+parts c = let a = c.args in signals_length a.inputs.now a.outputs.now a.x a.y a.word.now c.if-x-y-eq0.false
 
-put-bytes-requires : tie.Need-put-bytes-requires
-put-bytes-requires c κs = let i = c.before.before in omega (arith, i.before.before.before.before.before.requires, parts i)
+put-bytes-requires : tie.Need-put_bytes-first-requires
+put-bytes-requires c κs = omega (arith, c.requires, parts c.before.before.before)
 
-put-names-requires : tie.Need-put-names-requires
+put-names-requires : tie.Need-put_names-more-requires
 put-names-requires c κs =
-    let b = c.before.before.before in
-    let i = b.before.before.before in
-    omega (arith, i.before.before.before.before.before.requires, parts i, b.put-bytes.ensures.next, b.put-bytes.auto.0)
+    omega (arith, c.requires, parts c.before.before.before.before.before.before.before, c.put_bytes-first.ensures.next, c.put_bytes-first.auto.text)
 
-put-names-requires-2 : tie.Need-put-names-requires-2
+put-names-requires-2 : tie.Need-put_names-end-requires
 put-names-requires-2 c κs =
-    let n = c.before.before.before in
-    let b = n.before.before.before.before in
-    let i = b.before.before.before in
-    omega (arith, i.before.before.before.before.before.requires, parts i, b.put-bytes.ensures.next, b.put-bytes.auto.0, n.put-names.ensures.next, n.put-names.auto.0)
+    omega (arith, c.requires, parts c.before.before.before.before.before.before.before.before.before.before.before, c.put_bytes-first.ensures.next, c.put_bytes-first.auto.text, c.put_names-more.ensures.next, c.put_names-more.auto.text)
 
-put-bytes-requires-2 : tie.Need-put-bytes-requires-2
+put-bytes-requires-2 : tie.Need-put_bytes-requires
 put-bytes-requires-2 c κs =
-    let m = c.before.before.before in
-    let n = m.before.before.before.before in
-    let b = n.before.before.before.before in
-    let i = b.before.before.before in
     omega (
       arith,
-      i.before.before.before.before.before.requires,
-      parts i,
-      b.put-bytes.ensures.next,
-      b.put-bytes.auto.0,
-      n.put-names.ensures.next,
-      n.put-names.auto.0,
-      m.put-names2.ensures.next,
-      m.put-names2.auto.0,
+      c.requires,
+      parts c.before.before.before.before.before.before.before.before.before.before.before.before.before.before.before,
+      c.put_bytes-first.ensures.next,
+      c.put_bytes-first.auto.text,
+      c.put_names-more.ensures.next,
+      c.put_names-more.auto.text,
+      c.put_names-end.ensures.next,
+      c.put_names-end.auto.text,
     )
 
-returns-2 : tie.Need-returns-2
+returns-2 : tie.Need-returns
 returns-2 c =
-    let e = c.before.before in
-    let m = e.before.before.before.before in
-    let n = m.before.before.before.before in
-    let b = n.before.before.before.before in
-    let i = b.before.before.before in
-    let s = i.before.before.before.before.before in
-    let a = s.args in
-    let two = wrote_then (omega (arith, s.requires)) b.put-bytes.ensures n.put-names.ensures in
-    let three = wrote_then (omega (arith, s.requires)) two m.put-names2.ensures in
-    rw (signals_some a.inputs.now a.outputs.now a.x a.y a.word.now i.if1.false) (wrote_then (omega (arith, s.requires)) three e.put-bytes2.ensures)
+    let a = c.args in
+    let two = wrote_then (omega (arith, c.requires)) c.put_bytes-first.ensures c.put_names-more.ensures in
+    let three = wrote_then (omega (arith, c.requires)) two c.put_names-end.ensures in
+    rw (signals_some a.inputs.now a.outputs.now a.x a.y a.word.now c.if-x-y-eq0.false) (wrote_then (omega (arith, c.requires)) three c.put_bytes.ensures)
 
 pub put_signals_spec : {M : Type 1} → statement M
-put_signals_spec =
-    tie.close
-    (tie.spec
-    (λ c. search rules) returns (λ c. search rules) put-bytes-requires put-names-requires put-names-requires-2 put-bytes-requires-2
-    (λ c. search rules) returns-2)
+put_signals_spec = tie.close (tie.spec (λ c. search rules) returns put-bytes-requires put-names-requires put-names-requires-2 put-bytes-requires-2 (λ c. search rules) returns-2)

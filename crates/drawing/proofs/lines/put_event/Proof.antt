@@ -19,7 +19,7 @@ put-values-requires-2 : tie.Need-put-values-requires-2
 put-values-requires-2 c κs =
     let p = c.before.before.before in
     let a = (start p).args in
-    omega (arith, event_length a.inputs.now a.outputs.now a.shown a.event, p.put-values.ensures.next, p.put-values.auto.0)
+    omega (arith, event_length a.inputs.now a.outputs.now a.shown a.event, p.put-values.ensures.next, p.put-values.auto.text)
 
 returns : tie.Need-returns
 unfolding event_lines

@@ -35,7 +35,7 @@ loop-again c =
     let s = l.before.before.before in
     let p = c.before.before.put-value in (
       search rules,
-      under_more s.requires l.loop.invariant.1 (values_turn s.args.tags.now l.loop.i l.loop.shown-on l.loop.values-on (omega arith)) p.ensures p.auto.0,
+      under_more s.requires l.loop.invariant.1 (values_turn s.args.tags.now l.loop.i l.loop.shown-on l.loop.values-on (omega arith)) p.ensures p.auto.text,
     )
 
 returns : tie.Need-returns invariant-loop decreases-loop

@@ -34,7 +34,7 @@ loop-again c =
     let s = l.before.before.before in
     let p = c.before.before.put-bytes in (
       search rules,
-      under_more s.requires l.loop.invariant.1 (rw v.var-line.ensures (vars_turn s.args.tags.now l.loop.i (omega arith))) p.ensures p.auto.0,
+      under_more s.requires l.loop.invariant.1 (rw v.var-line.ensures (vars_turn s.args.tags.now l.loop.i (omega arith))) p.ensures p.auto.text,
     )
 
 returns : tie.Need-returns invariant-loop decreases-loop

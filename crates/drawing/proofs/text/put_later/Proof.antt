@@ -44,7 +44,7 @@ loop-again c =
     let y = s.args.outputs.now in
     let z = s.args.events.now in
     let i = l.loop.i in
-    (search rules, under_more s.requires.0 l.loop.invariant.1 (later_turn x y z i l.loop.before (omega arith)) p.ensures p.auto.0)
+    (search rules, under_more s.requires.0 l.loop.invariant.1 (later_turn x y z i l.loop.before (omega arith)) p.ensures p.auto.text)
 
 put-time-requires : tie.Need-put-time-requires invariant-loop decreases-loop
 put-time-requires c κs =
@@ -65,7 +65,7 @@ returns c =
     let y = s.args.outputs.now in
     let z = s.args.events.now in
     let i = l.loop.i in
-    under_all (under_more s.requires.0 l.loop.invariant.1 (later_end x y z i l.loop.before (omega arith) ∙ sym (append-nil (time_line i))) p.ensures p.auto.0) refl
+    under_all (under_more s.requires.0 l.loop.invariant.1 (later_end x y z i l.loop.before (omega arith) ∙ sym (append-nil (time_line i))) p.ensures p.auto.text) refl
 
 pub put_later_spec : {M : Type 1} → statement M
 put_later_spec =

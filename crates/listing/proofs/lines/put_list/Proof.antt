@@ -35,7 +35,7 @@ loop-again c =
     let line : Wrote l.loop.text l.loop.next (entry_line (get_or list i 0) n.result) p.result p.new.0 = p.ensures in
     let short = line_short (get_or list i 0) n.result (omega (arith, n.ensures.1)) in (
       omega (arith, t.loop-test.true),
-      omega (arith, p.auto.0, l.loop.invariant.1),
+      omega (arith, p.auto.text, l.loop.invariant.1),
       omega (arith, short, line.next, l.loop.invariant.2),
       λ r after w. l.loop.invariant.3 r after (rw (lines_step list i t.loop-test.true, ← n.ensures.0) (wrote_then (omega (arith, s.requires, l.loop.invariant)) line w)),
     )

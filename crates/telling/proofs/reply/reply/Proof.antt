@@ -65,7 +65,7 @@ returns c =
     record {
       text = refused_line k.n.given.0.0;
       said = refuses (sym o.outcome.ensures.said ∙ ap prepared_said k.n.given.1);
-      replied = replied f.Put-refused.ensures f.Put-refused.auto.0;
+      replied = replied f.Put-refused.ensures f.Put-refused.auto.text;
     }
 
 returns-2 : tie.Need-returns-2

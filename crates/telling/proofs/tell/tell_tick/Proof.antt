@@ -51,7 +51,7 @@ put-reasons-requires c κs =
     let s = start e.before in
     let b = e.tell.ensures.0 in
     let n = explained_named s.args.layout.reading s.args.file.now b.explained in
-    ((s.pre.0.0.standing.laid, omega (arith, line_ends p, p.put-tick.auto.0)), ((n.0, b.few_input), (n.1, b.few_output)))
+    ((s.pre.0.0.standing.laid, omega (arith, line_ends p, p.put-tick.auto.text)), ((n.0, b.few_input), (n.1, b.few_output)))
 
 returns : tie.Need-returns
 returns c =
