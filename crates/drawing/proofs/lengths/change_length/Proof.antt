@@ -6,14 +6,13 @@ use borrow.Author.Rules.{rules}
 use Rattle.drawing.proofs.lengths.change_length.Statement.{statement}
 use Rattle.drawing.proofs.lengths.change_length.Tie as tie
 
-returns : tie.Need-returns
-returns c = (rw (eq-eqb _ 0 c.if1.true), omega arith)
+returns : tie.Need-returns-then-shown-eq0
+returns c = (rw (eq-eqb _ 0 c.if-shown-eq0.true), omega arith)
 
-returns-2 : tie.Need-returns-2
+returns-2 : tie.Need-returns
 returns-2 c =
-    let i = c.before.before in
-    let a = i.before.before.before.args in
-    (omega (arith, change_long a.inputs.now a.outputs.now a.time a.shown 0 i.if1.false), omega arith)
+    let a = c.args in
+    (omega (arith, change_long a.inputs.now a.outputs.now a.time a.shown 0 c.if-shown-eq0.false), omega arith)
 
 pub change_length_spec : {M : Type 1} → statement M
 change_length_spec = tie.close (tie.spec returns (λ c κs. search rules) (λ c κs. search rules) (λ c. search rules) returns-2)

@@ -6,7 +6,7 @@ use Rattle.drawing.proofs.lengths.event_length.Statement.{statement}
 use Rattle.drawing.proofs.lengths.event_length.Tie as tie
 
 returns : tie.Need-returns
-returns c = let a = c.before.before.before.before.args in (omega (arith, event_length a.inputs.now a.outputs.now a.shown 0), omega arith)
+returns c = let a = c.args in (omega (arith, event_length a.inputs.now a.outputs.now a.shown 0), omega arith)
 
 pub event_length_spec : {M : Type 1} → statement M
 event_length_spec = tie.close (tie.spec (λ c κs. search rules) (λ c κs. search rules) (λ c. search rules) returns)

@@ -7,20 +7,13 @@ use borrow.Author.Rules.{rules}
 use Rattle.drawing.proofs.lengths.text_length.Statement.{statement}
 use Rattle.drawing.proofs.lengths.text_length.Tie as tie
 
-returns : tie.Need-returns
+returns : tie.Need-returns-then-events-eq0
 returns c =
-    let s = c.before.before.before.before in
-    omega (arith, opening_long s.args.inputs.now s.args.outputs.now, ap length (text_empty s.args.inputs.now s.args.outputs.now s.args.events.now c.if1.true))
+    omega (arith, opening_long c.args.inputs.now c.args.outputs.now, ap length (text_empty c.args.inputs.now c.args.outputs.now c.args.events.now c.if-events-eq0.true))
 
-returns-2 : tie.Need-returns-2
+returns-2 : tie.Need-returns
 returns-2 c =
-    let i = c.before.before in
-    let s = i.before.before.before.before in
-    omega (arith, opening_long s.args.inputs.now s.args.outputs.now, text_long s.args.inputs.now s.args.outputs.now s.args.events.now (omega arith))
+    omega (arith, opening_long c.args.inputs.now c.args.outputs.now, text_long c.args.inputs.now c.args.outputs.now c.args.events.now (omega arith))
 
 pub text_length_spec : {M : Type 1} → statement M
-text_length_spec =
-    tie.close
-    (tie.spec
-    (λ c. search rules) (λ c. search rules) (λ c. search rules) (λ c. search rules) returns (λ c κs. search rules) (λ c. search rules)
-    (λ c κs. search rules) (λ c. search rules) returns-2)
+text_length_spec = tie.close (tie.spec (λ c. search rules) (λ c. search rules) (λ c. search rules) (λ c. search rules) returns (λ c κs. search rules) (λ c. search rules) (λ c κs. search rules) (λ c. search rules) returns-2)

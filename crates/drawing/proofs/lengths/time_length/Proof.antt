@@ -6,7 +6,7 @@ use Rattle.drawing.proofs.lengths.time_length.Statement.{statement}
 use Rattle.drawing.proofs.lengths.time_length.Tie as tie
 
 returns : tie.Need-returns
-returns c = (omega (arith, time_length c.before.args.time), omega arith)
+returns c = (omega (arith, time_length c.args.time), omega arith)
 
 pub time_length_spec : {M : Type 1} → statement M
 time_length_spec = tie.close (tie.spec (λ c κs. search rules) (λ c. search rules) returns)

@@ -8,26 +8,24 @@ use Rattle.drawing.proofs.lines.put_event.Statement.{statement}
 use Rattle.drawing.proofs.lines.put_event.Tie as tie
 
 -- Earlier places in the code.
-abbrev start : tie.After-put-values → tie.Start
+abbrev start : tie.After-put_values-next → tie.Start
 start c = c.before.before.before.before.before
 
-put-values-requires : tie.Need-put-values-requires
+put-values-requires : tie.Need-put_values-next-requires
 put-values-requires c κs =
-    let a = c.before.before.before.before.args in omega (arith, event_length a.inputs.now a.outputs.now a.shown a.event)
+    let a = c.args in omega (arith, event_length a.inputs.now a.outputs.now a.shown a.event)
 
-put-values-requires-2 : tie.Need-put-values-requires-2
+put-values-requires-2 : tie.Need-put_values-requires
 put-values-requires-2 c κs =
-    let p = c.before.before.before in
-    let a = (start p).args in
-    omega (arith, event_length a.inputs.now a.outputs.now a.shown a.event, p.put-values.ensures.next, p.put-values.auto.text)
+    let a = (start c.before.before.before).args in
+    omega (arith, event_length a.inputs.now a.outputs.now a.shown a.event, c.put_values-next.ensures.next, c.put_values-next.auto.text)
 
 returns : tie.Need-returns
 unfolding event_lines
 returns c =
-    let p = c.before.before.before.before.before.before in
-    let a = (start p).args in
+    let a = (start c.before.before.before.before.before.before).args in
     let l = event_length a.inputs.now a.outputs.now a.shown a.event in
-    wrote_then (omega arith) p.put-values.ensures c.before.before.put-values2.ensures
+    wrote_then (omega arith) c.put_values-next.ensures c.put_values.ensures
 
 pub put_event_spec : {M : Type 1} → statement M
 put_event_spec = tie.close (tie.spec put-values-requires put-values-requires-2 (λ c. search rules) returns)

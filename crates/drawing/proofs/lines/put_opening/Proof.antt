@@ -7,55 +7,36 @@ use borrow.Author.Rules.{rules}
 use Rattle.drawing.proofs.lines.put_opening.Statement.{statement}
 use Rattle.drawing.proofs.lines.put_opening.Tie as tie
 
-put-bytes-requires : tie.Need-put-bytes-requires
-put-bytes-requires c κs = let a = c.before.before.before.before.before.args in omega (arith, opening_length a.inputs.now a.outputs.now)
+put-bytes-requires : tie.Need-put_bytes-vars-requires
+put-bytes-requires c κs = let a = c.args in omega (arith, opening_length a.inputs.now a.outputs.now)
 
-put-vars-requires : tie.Need-put-vars-requires
+put-vars-requires : tie.Need-put_vars-more-requires
 put-vars-requires c κs =
-    let p = c.before.before.before in
-    let a = p.before.before.before.before.before.before.args in
+    let a = c.args in
     omega (arith, opening_length a.inputs.now a.outputs.now)
 
-put-vars-requires-2 : tie.Need-put-vars-requires-2
+put-vars-requires-2 : tie.Need-put_vars-end-requires
 put-vars-requires-2 c κs =
-    let q = c.before.before.before in
-    let p = q.before.before.before.before in
-    let a = p.before.before.before.before.before.before.args in
+    let a = c.args in
     omega (arith, opening_length a.inputs.now a.outputs.now)
 
-put-bytes-requires-2 : tie.Need-put-bytes-requires-2
+put-bytes-requires-2 : tie.Need-put_bytes-start-requires
 put-bytes-requires-2 c κs =
-    let o = c.before.before.before.before in
-    let q = o.before.before.before.before in
-    let p = q.before.before.before.before in
-    let a = p.before.before.before.before.before.before.args in
+    let a = c.args in
     omega (arith, opening_length a.inputs.now a.outputs.now)
 
-put-time-requires : tie.Need-put-time-requires
+put-time-requires : tie.Need-put_time-requires
 put-time-requires c κs =
-    let e = c.before.before.before in
-    let o = e.before.before.before.before.before in
-    let q = o.before.before.before.before in
-    let p = q.before.before.before.before in
-    let a = p.before.before.before.before.before.before.args in
+    let a = c.args in
     omega (arith, opening_length a.inputs.now a.outputs.now)
 
 returns : tie.Need-returns
 unfolding header
 returns c =
-    let e = c.before.before.before.before.before.before in
-    let o = e.before.before.before.before.before in
-    let q = o.before.before.before.before in
-    let p = q.before.before.before.before in
-    let s = p.before.before.before.before.before.before in
-    let l = opening_length s.args.inputs.now s.args.outputs.now in
-    let two = wrote_then (omega arith) p.put-bytes.ensures q.put-vars.ensures in
-    let three = wrote_then (omega arith) two o.put-vars2.ensures in
-    wrote_then (omega arith) (wrote_then (omega arith) three e.put-bytes2.ensures) c.before.before.put-time.ensures
+    let l = opening_length c.args.inputs.now c.args.outputs.now in
+    let two = wrote_then (omega arith) c.put_bytes-vars.ensures c.put_vars-more.ensures in
+    let three = wrote_then (omega arith) two c.put_vars-end.ensures in
+    wrote_then (omega arith) (wrote_then (omega arith) three c.put_bytes-start.ensures) c.put_time.ensures
 
 pub put_opening_spec : {M : Type 1} → statement M
-put_opening_spec =
-    tie.close
-    (tie.spec
-    (λ c. search rules) put-bytes-requires put-vars-requires put-vars-requires-2 (λ c. search rules) put-bytes-requires-2 put-time-requires
-    (λ c. search rules) returns)
+put_opening_spec = tie.close (tie.spec put-bytes-requires put-vars-requires put-vars-requires-2 put-bytes-requires-2 put-time-requires (λ c. search rules) returns)

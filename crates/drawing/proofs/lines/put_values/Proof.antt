@@ -9,42 +9,35 @@ use Rattle.drawing.specs.Under.{values_turn, values_end}
 use Rattle.drawing.proofs.lines.put_values.Statement.{statement}
 use Rattle.drawing.proofs.lines.put_values.Tie as tie
 
-abbrev invariant-loop : tie.invariant-loop
+abbrev invariant-loop : tie.invariant-loop-i
 invariant-loop text₀ at tags shown values next₀ shown_on₀ values_on₀ i₀ text next shown_on values_on i =
     (i ≤ length tags) × LinesUnder text₀ at (value_lines tags shown values) next text (value_lines (drop i tags) shown_on values_on)
 
-abbrev decreases-loop : tie.decreases-loop
+abbrev decreases-loop : tie.decreases-loop-i
 decreases-loop text₀ at tags shown values next₀ shown_on₀ values_on₀ i₀ text next shown_on values_on i = length tags - i
 
-loop-holds : tie.Need-loop-init invariant-loop decreases-loop
+loop-holds : tie.Need-loop-i-init invariant-loop decreases-loop
 loop-holds c = (search rules, under_start _ _ _)
 
-put-value-requires : tie.Need-put-value-requires invariant-loop decreases-loop
+put-value-requires : tie.Need-put_value-next-requires invariant-loop decreases-loop
 put-value-requires c κs =
-    let l = c.before.before.before in
-    let s = l.before.before.before in
-    let t = s.args.tags.now in
-    let i = l.loop.i in
-    let a = l.loop.shown-on in
-    let b = l.loop.values-on in
-    under_room s.requires l.loop.invariant.1 (value_line (get_or t i 0) a b) (value_lines (drop (i + 1) t) (a / 2) (b / 2)) (values_turn t i a b (omega arith))
+    let t = c.args.tags.now in
+    let i = c.loop-i.i in
+    let a = c.loop-i.shown_on in
+    let b = c.loop-i.values_on in
+    under_room c.requires c.loop-i.invariant.1 (value_line (get_or t i 0) a b) (value_lines (drop (i + 1) t) (a / 2) (b / 2)) (values_turn t i a b (omega arith))
 
-loop-again : tie.Need-loop-preserved invariant-loop decreases-loop
+loop-again : tie.Need-loop-i-preserved invariant-loop decreases-loop
 loop-again c =
-    let l = c.before.before.before.before.before.before in
-    let s = l.before.before.before in
-    let p = c.before.before.put-value in (
+    let p = c.put_value-next in (
       search rules,
-      under_more s.requires l.loop.invariant.1 (values_turn s.args.tags.now l.loop.i l.loop.shown-on l.loop.values-on (omega arith)) p.ensures p.auto.text,
+      under_more c.requires c.loop-i.invariant.1 (values_turn c.args.tags.now c.loop-i.i c.loop-i.shown_on c.loop-i.values_on (omega arith)) p.ensures p.auto.text,
     )
 
 returns : tie.Need-returns invariant-loop decreases-loop
 returns c =
-    let l = c.before.loop in
-    under_all l.invariant.1 (values_end c.before.before.before.before.args.tags.now l.i l.shown-on l.values-on (omega arith))
+    let l = c.loop-i in
+    under_all l.invariant.1 (values_end c.args.tags.now l.i l.shown_on l.values_on (omega arith))
 
 pub put_values_spec : {M : Type 1} → statement M
-put_values_spec =
-    tie.close
-    (tie.spec
-    invariant-loop decreases-loop loop-holds (λ c. search rules) put-value-requires (λ c. search rules) (λ c. search rules) loop-again (λ c. search rules) returns)
+put_values_spec = tie.close (tie.spec invariant-loop decreases-loop loop-holds (λ c. search rules) put-value-requires (λ c. search rules) (λ c. search rules) loop-again (λ c. search rules) returns)

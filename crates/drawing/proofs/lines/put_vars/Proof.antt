@@ -9,42 +9,33 @@ use Rattle.drawing.specs.Under.{vars_turn, vars_end}
 use Rattle.drawing.proofs.lines.put_vars.Statement.{statement}
 use Rattle.drawing.proofs.lines.put_vars.Tie as tie
 
-abbrev invariant-loop : tie.invariant-loop
+abbrev invariant-loop : tie.invariant-loop-i
 invariant-loop text₀ at tags next₀ i₀ text next i =
     (i ≤ length tags) × LinesUnder text₀ at (var_lines tags) next text (var_lines (drop i tags))
 
-abbrev decreases-loop : tie.decreases-loop
+abbrev decreases-loop : tie.decreases-loop-i
 decreases-loop text₀ at tags next₀ i₀ text next i = length tags - i
 
-loop-holds : tie.Need-loop-init invariant-loop decreases-loop
+loop-holds : tie.Need-loop-i-init invariant-loop decreases-loop
 loop-holds c = (search rules, under_start _ _ _)
 
-put-bytes-requires : tie.Need-put-bytes-requires invariant-loop decreases-loop
+put-bytes-requires : tie.Need-put_bytes-next-requires invariant-loop decreases-loop
 put-bytes-requires c κs =
-    let l = c.before.before.before.before.before in
-    let s = l.before.before.before in
-    let t = s.args.tags.now in
-    let i = l.loop.i in
-    rw c.before.before.var-line.ensures (under_room s.requires l.loop.invariant.1 (var_line (get_or t i 0)) (var_lines (drop (i + 1) t)) (vars_turn t i (omega arith)))
+    let t = c.args.tags.now in
+    let i = c.loop-i.i in
+    rw c.var_line-line.ensures (under_room c.requires c.loop-i.invariant.1 (var_line (get_or t i 0)) (var_lines (drop (i + 1) t)) (vars_turn t i (omega arith)))
 
-loop-again : tie.Need-loop-preserved invariant-loop decreases-loop
+loop-again : tie.Need-loop-i-preserved invariant-loop decreases-loop
 loop-again c =
-    let v = c.before.before.before.before.before in
-    let l = v.before.before.before in
-    let s = l.before.before.before in
-    let p = c.before.before.put-bytes in (
+    let p = c.put_bytes-next in (
       search rules,
-      under_more s.requires l.loop.invariant.1 (rw v.var-line.ensures (vars_turn s.args.tags.now l.loop.i (omega arith))) p.ensures p.auto.text,
+      under_more c.requires c.loop-i.invariant.1 (rw c.var_line-line.ensures (vars_turn c.args.tags.now c.loop-i.i (omega arith))) p.ensures p.auto.text,
     )
 
 returns : tie.Need-returns invariant-loop decreases-loop
 returns c =
-    let l = c.before.loop in
-    under_all l.invariant.1 (vars_end c.before.before.before.before.args.tags.now l.i (omega arith))
+    let l = c.loop-i in
+    under_all l.invariant.1 (vars_end c.args.tags.now l.i (omega arith))
 
 pub put_vars_spec : {M : Type 1} → statement M
-put_vars_spec =
-    tie.close
-    (tie.spec
-    invariant-loop decreases-loop loop-holds (λ c. search rules) (λ c κs. search rules) (λ c. search rules) put-bytes-requires (λ c. search rules)
-    (λ c. search rules) loop-again (λ c. search rules) returns)
+put_vars_spec = tie.close (tie.spec invariant-loop decreases-loop loop-holds (λ c. search rules) (λ c κs. search rules) (λ c. search rules) put-bytes-requires (λ c. search rules) (λ c. search rules) loop-again (λ c. search rules) returns)
