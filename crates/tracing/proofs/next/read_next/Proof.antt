@@ -7,60 +7,47 @@ use borrow.Author.Rules.{rules}
 use Rattle.tracing.proofs.next.read_next.Statement.{statement}
 use Rattle.tracing.proofs.next.read_next.Tie as tie
 
-returns : tie.Need-returns
+returns : tie.Need-returns-then-not-line
 returns c =
-    let t = c.before.before in
-    let a = t.before.before.before.before.args in
-    record { said = sym (next_untimed a.inputs.now a.outputs.now a.text.now a.at a.from a.before t.read-time.ensures (not-true _ c.if1.true)); between = tt }
+    let a = c.args in
+    record { said = sym (next_untimed a.inputs.now a.outputs.now a.text.now a.at a.from a.before c.read_time-line.ensures (not-true _ c.if-not-line.true)); between = tt }
 
-returns-2 : tie.Need-returns-2
+returns-2 : tie.Need-returns-then-time-from
 returns-2 c =
-    let t = c.before.before.before in
-    let a = t.before.before.before.before.args in
-    record { said = sym (next_early a.inputs.now a.outputs.now a.text.now a.at a.from a.before t.read-time.ensures c.if2.true); between = tt }
+    let a = c.args in
+    record { said = sym (next_early a.inputs.now a.outputs.now a.text.now a.at a.from a.before c.read_time-line.ensures c.if-time-from.true); between = tt }
 
-returns-3 : tie.Need-returns-3
+returns-3 : tie.Need-returns-then-after-text
 returns-3 c =
-    let t = c.before.before.before.before in
-    let a = t.before.before.before.before.args in
-    record { said = sym (next_closes a.inputs.now a.outputs.now a.text.now a.at a.from a.before t.read-time.ensures (not-false _ c.before.before.if1.false) c.before.if2.false c.if3.true); between = tt }
+    let a = c.args in
+    record { said = sym (next_closes a.inputs.now a.outputs.now a.text.now a.at a.from a.before c.read_time-line.ensures (not-false _ c.if-not-line.false) c.if-time-from.false c.if-after-text.true); between = tt }
 
-read-event-requires : tie.Need-read-event-requires
+read-event-requires : tie.Need-read_event-lines-requires
 read-event-requires c κs =
-    let t = c.before.before.before.before in
-    let a = t.before.before.before.before.args in
-    let k = t.read-time.ensures.between (not-false _ c.before.before.if1.false) in
+    let a = c.args in
+    let k = c.read_time-line.ensures.between (not-false _ c.if-not-line.false) in
     (k.within, omega arith, omega arith)
 
-returns-4 : tie.Need-returns-4
+returns-4 : tie.Need-returns-then-shown-eq0
 returns-4 c =
-    let e = c.before in
-    let o = e.before in
-    let t = o.before.before.before.before in
-    let a = t.before.before.before.before.args in
-    let g = not-false _ o.before.before.if1.false in
-    record { said = sym (next_none a.inputs.now a.outputs.now a.text.now a.at a.from a.before t.read-time.ensures g o.before.if2.false (omega arith) e.read-event.ensures c.if4.true); between = tt }
+    let a = c.args in
+    let g = not-false _ c.if-not-line.false in
+    record { said = sym (next_none a.inputs.now a.outputs.now a.text.now a.at a.from a.before c.read_time-line.ensures g c.if-time-from.false (omega arith) c.read_event-lines.ensures c.if-shown-eq0.true); between = tt }
 
-returns-5 : tie.Need-returns-5
+returns-5 : tie.Need-returns-then-event-shown
 returns-5 c =
-    let e = c.before.before.before in
-    let o = e.before in
-    let t = o.before.before.before.before in
-    let a = t.before.before.before.before.args in
-    let g = not-false _ o.before.before.if1.false in
-    record { said = sym (next_other a.inputs.now a.outputs.now a.text.now a.at a.from a.before t.read-time.ensures g o.before.if2.false (omega arith) e.read-event.ensures c.if5.true); between = tt }
+    let a = c.args in
+    let g = not-false _ c.if-not-line.false in
+    record { said = sym (next_other a.inputs.now a.outputs.now a.text.now a.at a.from a.before c.read_time-line.ensures g c.if-time-from.false (omega arith) c.read_event-lines.ensures c.if-event-shown.true); between = tt }
 
-returns-6 : tie.Need-returns-6
+returns-6 : tie.Need-returns
 returns-6 c =
-    let e = c.before.before.before in
-    let o = e.before in
-    let t = o.before.before.before.before in
-    let a = t.before.before.before.before.args in
-    let g = not-false _ o.before.before.if1.false in
-    let k = t.read-time.ensures.between g in
-    let m = e.read-event.ensures.between in
+    let a = c.args in
+    let g = not-false _ c.if-not-line.false in
+    let k = c.read_time-line.ensures.between g in
+    let m = c.read_event-lines.ensures.between in
     record {
-      said = next_changes a.inputs.now a.outputs.now a.text.now a.at a.from a.before t.read-time.ensures g o.before.if2.false (omega arith) e.read-event.ensures c.before.before.if4.false c.if5.false;
+      said = next_changes a.inputs.now a.outputs.now a.text.now a.at a.from a.before c.read_time-line.ensures g c.if-time-from.false (omega arith) c.read_event-lines.ensures c.if-shown-eq0.false c.if-event-shown.false;
       between = record { after = omega (arith, k.after); within = m.within };
     }
 
