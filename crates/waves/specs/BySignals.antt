@@ -17,9 +17,7 @@ use Rattle.drawing.specs.Streams.{text_one}
 use Rattle.drawing.specs.Entry.{Makes, written_over, write_refusal, write_of, written_out, Reads, policy_refused, no_stream, no_room, taken}
 use Rattle.tracing.specs.Found.{FoundStream}
 use Rattle.waves.specs.declared.writer.Written.{Written}
-use Rattle.waves.specs.declared.writer.Written.TheVariants as Written
 use Rattle.waves.specs.declared.reader.Taken.{Taken}
-use Rattle.waves.specs.declared.reader.Taken.TheVariants as Taken
 use Rattle.tracing.specs.declared.stream.StreamRead.{StreamRead}
 use Rattle.tracing.specs.declared.stream.StreamRead.TheVariants.{Nothing, Events}
 use Rattle.waves.specs.Promise.{TakePromise, WritePromise, written_said}

@@ -16,9 +16,7 @@ use Rattle.drawing.specs.Streams.{stream_one}
 use Rattle.drawing.specs.Entry.{event_good, text_of, Makes, write_refusal, write_of, written_out, Reads, policy_refused, no_stream, no_room, taken}
 use Rattle.waves.specs.Promise.{written_said, taken_said, WritePromise, TakePromise}
 use Rattle.waves.specs.declared.writer.Written.{Written}
-use Rattle.waves.specs.declared.writer.Written.TheVariants as Written
 use Rattle.waves.specs.declared.reader.Taken.{Taken}
-use Rattle.waves.specs.declared.reader.Taken.TheVariants as Taken
 
 written_same : (r s : Written) → written_said r ≡ written_said s → r ≡ s
 written_same (Written.Length n) (Written.Length m) e = let h : n ≡ m = cc in rw h

@@ -3,9 +3,7 @@ use Rattle.std.specs.Prelude.{◌≡◌, List, ℕ}
 use Rattle.streams.specs.Answer.{Answer, refused, gives}
 use Rattle.drawing.specs.Entry.{write_of, written_out, Reads}
 use Rattle.waves.specs.declared.writer.Written.{Written}
-use Rattle.waves.specs.declared.writer.Written.TheVariants as Written
 use Rattle.waves.specs.declared.reader.Taken.{Taken}
-use Rattle.waves.specs.declared.reader.Taken.TheVariants as Taken
 
 -- The answer of the writer's code, as the definitions say it.
 abbrev pub written_said : Written → Answer ℕ

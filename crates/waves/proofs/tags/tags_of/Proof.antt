@@ -6,20 +6,20 @@ use borrow.Author.Rules.{rules}
 use Rattle.waves.proofs.tags.tags_of.Statement.{statement}
 use Rattle.waves.proofs.tags.tags_of.Tie as tie
 
-returns : tie.Need-returns
-returns c = record { refused = refused_as c.before.before.check.ensures; tagged = λ z. absurd (c.if1.true z) }
+returns : tie.Need-returns-then-checked-ne0
+returns c = record { refused = refused_as c.check-checked.ensures; tagged = λ z. absurd (c.if-checked-ne0.true z) }
 
-add-inputs-end : tie.Need-overflow-add-inputs-end
-add-inputs-end c = let t = counted c.before.before.before.before.check.ensures c.before.before.if1.false in omega arith
+add-inputs-end : tie.Need-overflow_add-inputs_end
+add-inputs-end c = let t = counted c.check-checked.ensures c.if-checked-ne0.false in omega arith
 
-add-outputs-start : tie.Need-overflow-add-outputs-start
-add-outputs-start c = let t = counted c.before.before.before.before.check.ensures c.before.before.if1.false in omega arith
+add-outputs-start : tie.Need-overflow_add-outputs_start
+add-outputs-start c = let t = counted c.check-checked.ensures c.if-checked-ne0.false in omega arith
 
-add-outputs-end : tie.Need-overflow-add-outputs-end
-add-outputs-end c = let t = counted c.before.before.before.before.before.check.ensures c.before.before.before.if1.false in omega arith
+add-outputs-end : tie.Need-overflow_add-outputs_end
+add-outputs-end c = let t = counted c.check-checked.ensures c.if-checked-ne0.false in omega arith
 
-returns-2 : tie.Need-returns-2
-returns-2 c = tags_stand c.before.before.before.before.before.check.ensures c.before.before.before.if1.false refl refl refl refl
+returns-2 : tie.Need-returns
+returns-2 c = tags_stand c.check-checked.ensures c.if-checked-ne0.false refl refl refl refl
 
 pub tags_of_spec : {M : Type 1} → statement M
 tags_of_spec = tie.close (tie.spec (λ c κs. search rules) returns add-inputs-end add-outputs-start add-outputs-end returns-2)
