@@ -1,8 +1,8 @@
 -- `tracing::next::read_next` meets its contract, test by test.
 use mathlib.Core.Path.{sym}
 use native.Mathlib.Omega.{arith}
-use borrow.Author.Tests.{not-true, not-false}
 use Rattle.tracing.specs.Next.{next_untimed, next_early, next_closes, next_none, next_other, next_changes}
+use borrow.Author.Tests.{not-true, not-false}
 use borrow.Author.Rules.{rules}
 use Rattle.tracing.proofs.next.read_next.Statement.{statement}
 use Rattle.tracing.proofs.next.read_next.Tie as tie
@@ -28,12 +28,6 @@ read-event-requires c κs =
     let k = c.read_time-line.ensures.between (not-false _ c.if-not-line.false) in
     (k.within, omega arith, omega arith)
 
-returns-4 : tie.Need-returns-then-shown-eq0
-returns-4 c =
-    let a = c.args in
-    let g = not-false _ c.if-not-line.false in
-    record { said = sym (next_none a.inputs.now a.outputs.now a.text.now a.at a.from a.before c.read_time-line.ensures g c.if-time-from.false (omega arith) c.read_event-lines.ensures c.if-shown-eq0.true); between = tt }
-
 returns-5 : tie.Need-returns-then-event-shown
 returns-5 c =
     let a = c.args in
@@ -47,9 +41,13 @@ returns-6 c =
     let k = c.read_time-line.ensures.between g in
     let m = c.read_event-lines.ensures.between in
     record {
-      said = next_changes a.inputs.now a.outputs.now a.text.now a.at a.from a.before c.read_time-line.ensures g c.if-time-from.false (omega arith) c.read_event-lines.ensures c.if-shown-eq0.false c.if-event-shown.false;
+      said = next_changes a.inputs.now a.outputs.now a.text.now a.at a.from a.before c.read_time-line.ensures g c.if-time-from.false (omega arith) c.read_event-lines.ensures (omega arith) c.if-event-shown.false;
       between = record { after = omega (arith, k.after); within = m.within };
     }
 
 pub read_next_spec : {M : Type 1} → statement M
-read_next_spec = tie.close (tie.spec (λ c κs. search rules) returns returns-2 returns-3 read-event-requires returns-4 returns-5 returns-6)
+read_next_spec = tie.close (tie.spec (λ c κs. search rules) returns returns-2 returns-3 read-event-requires
+    (λ c.
+    let a = c.args in
+    record { said = sym (next_none a.inputs.now a.outputs.now a.text.now a.at a.from a.before c.read_time-line.ensures (not-false _ c.if-not-line.false) c.if-time-from.false (omega arith) c.read_event-lines.ensures (omega arith)); between = tt })
+    returns-5 returns-6)
