@@ -23,6 +23,7 @@ rule_of stays i = record { kind = cond stays 3 2; number = i }
 -- ---- the locations from l on
 locations_in :
     (L : List Bool) (l : ℕ) {x : Struck} → Memᴰ x (locations_struck l L) → (i : ℕ) × (i < length L) × (flag L i ≡ false) × (x ≡ location (l + i))
+locations_in [] l m = elim m [ ]
 locations_in (true ∷ L) l m =
     let r = locations_in L (suc l) m in
     (suc r.0, omega (arith, r.1), r.2, r.3 ∙ ap location (omega arith))
@@ -45,6 +46,9 @@ module _ (L : List Bool) where
   rules_in :
       (U : List Bool) (rs : List Rule) (i : ℕ) {x : Struck} → Memᴰ x (rules_struck L i U rs) →
       (j : ℕ) × (r : Rule) × (nth rs j ≡ some r) × (flag U j ≡ false) × (x ≡ rule_of (flag L r.source) (i + j))
+  rules_in [] rs i m = elim m [ ]
+  rules_in (false ∷ U) [] i m = elim m [ ]
+  rules_in (true ∷ U) [] i m = elim m [ ]
   rules_in (true ∷ U) (r ∷ rs) i m =
       let k = rules_in U rs (suc i) m in
       (suc k.0, k.1, k.2, k.3, k.4 ∙ ap (rule_of (flag L k.1.source)) (omega arith))

@@ -48,7 +48,7 @@ module _ (p : Policy) (ok : WellFormed p) (marks : List ℕ) (by : AsPrepared p 
   ran_ready k [] = k
   ran_ready {s} k (e ∷ es) =
       let r = tick_ready p ok marks by k e in
-      subst (λ (q : Progress). MarkedPlace p marks q.place) (sym (ran_on p marks s e es r.0 r.1)) (ran_ready r.2 es)
+      subst (λ (q : Progress). MarkedPlace p marks q.place) (sym (ran_on p marks s e es r.0 r.1)) (ran_ready {s = r.0.place} r.2 es)
 
   -- One event more.
   pub ran_more : {s : Place} → MarkedPlace p marks s → (es : Stream) (e : Event) (t : ReleasedTick) → tick p marks (ran p marks s es).place e ≡ some t →
@@ -58,7 +58,7 @@ module _ (p : Policy) (ok : WellFormed p) (marks : List ℕ) (by : AsPrepared p 
   ran_more {s} k (d ∷ es) e t h =
       let r = tick_ready p ok marks by k d in
       ap (λ (q : Progress). q.place) (ran_on p marks s d (es ++ (e ∷ [])) r.0 r.1)
-      ∙ ran_more r.2 es e t (subst (λ (q : Progress). tick p marks q.place e ≡ some t) (ran_on p marks s d es r.0 r.1) h)
+      ∙ ran_more {s = r.0.place} r.2 es e t (subst (λ (q : Progress). tick p marks q.place e ≡ some t) (ran_on p marks s d es r.0 r.1) h)
 
 -- Where the run stands before the event i.
 abbrev pub place_before : Policy → List ℕ → Place → List ℕ → ℕ → Place

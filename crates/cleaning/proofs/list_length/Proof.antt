@@ -5,11 +5,11 @@ use Rattle.laying.specs.Laying.{laid_nowhere}
 use Rattle.cleaning.proofs.list_length.Statement.{statement}
 use Rattle.cleaning.proofs.list_length.Tie as tie
 
-lay-list-requires : tie.Need-lay-list-requires
-lay-list-requires c κs = c.before.before.before.before.before.requires
+lay-list-requires : tie.Need-lay_list-requires
+lay-list-requires c κs = c.requires
 
 returns : tie.Need-returns
-returns c = let e = c.before.before.lay-list.ensures in (omega (arith, e.ends), rw (laid_nowhere e))
+returns c = let e = c.lay_list.ensures in (omega (arith, e.ends), rw (laid_nowhere e))
 
 pub list_length_spec : {M : Type 1} → statement M
 list_length_spec = tie.close (tie.spec (λ c. search rules) (λ c. search rules) lay-list-requires (λ c. search rules) returns)

@@ -8,20 +8,18 @@ use Rattle.cleaning.proofs.LayLaws.{rule_long}
 use Rattle.cleaning.proofs.rules.lay_kept.Statement.{statement}
 use Rattle.cleaning.proofs.rules.lay_kept.Tie as tie
 
-returns : tie.Need-returns
-returns c = (rw (not-true c.before.before.before.before.args.kept c.if1.true) (laid_none _ _), omega arith)
+returns : tie.Need-returns-then-not-kept
+returns c = (rw (c.if-not-kept.true) (laid_none _ _), omega arith)
 
-lay-rule-requires : tie.Need-lay-rule-requires
-lay-rule-requires c κs = c.before.before.before.before.before.requires
+lay-rule-requires : tie.Need-lay_rule-requires
+lay-rule-requires c κs = c.requires
 
-returns-2 : tie.Need-returns-2
+returns-2 : tie.Need-returns
 returns-2 c =
-    let h = c.before.before.before.before in
-    let s = h.before.before.before.before in
-    let a = s.args in
-    let w = c.before.before.lay-rule.ensures in (
-      rw (not-false a.kept h.if1.false) w,
-      omega (arith, w.ends, rule_long (flags_of a.entered.now) a.clocks a.file.now a.p, s.requires.0.1),
+    let a = c.args in
+    let w = c.lay_rule.ensures in (
+      rw (c.if-not-kept.false) w,
+      omega (arith, w.ends, rule_long (flags_of a.entered.now) a.clocks a.file.now a.p, c.requires.0.1),
     )
 
 pub lay_kept_spec : {M : Type 1} → statement M

@@ -13,85 +13,76 @@ use Rattle.cleaning.proofs.rules.lay_rule.Statement.{statement}
 use Rattle.cleaning.proofs.rules.lay_rule.Tie as tie
 
 -- Earlier places in the code.
-abbrev start : tie.After-renumber → tie.Start
+abbrev start : tie.After-renumber-target → tie.Start
 start c = c.before.before.before.before.before.before.before
 
-abbrev numbered : tie.After-put → tie.After-renumber
+abbrev numbered : tie.After-put-cares → tie.After-renumber-target
 numbered c = c.before.before
 
-abbrev put-source : tie.After-copy → tie.After-put
+abbrev put-source : tie.After-copy-targets → tie.After-put-cares
 put-source c = c.before.before.before.before
 
-abbrev copied : tie.After-put2 → tie.After-copy
+abbrev copied : tie.After-put-bounds → tie.After-copy-targets
 copied c = c.before.before.before.before
 
-byte-within-requires : tie.Need-byte-within-requires
-byte-within-requires c κs = omega (arith, c.before.before.before.requires.0)
+byte-within-requires : tie.Need-byte_within-requires
+byte-within-requires c κs = omega (arith, c.requires.0)
 
-rank-requires : tie.Need-rank-requires
+rank-requires : tie.Need-rank-source-requires
 rank-requires c κs =
-    let s = c.before.before.before.before in
-    (omega (arith, c.byte-within.ensures.0, s.requires.1.0.source), omega (arith, c.byte-within.ensures.0, s.requires.1.0.source, s.requires.1.1))
+    (omega (arith, c.byte_within.ensures.0, c.requires.1.0.source), omega (arith, c.byte_within.ensures.0, c.requires.1.0.source, c.requires.1.1))
 
-add-byte-within : tie.Need-overflow-add-byte-within
-add-byte-within c = omega (arith, c.before.before.before.before.before.requires.0)
+add-byte-within : tie.Need-overflow_add-p
+add-byte-within c = omega (arith, c.requires.0)
 
-byte-within-requires-2 : tie.Need-byte-within-requires-2
-byte-within-requires-2 c κs = omega (arith, c.before.before.before.before.before.requires.0)
+byte-within-requires-2 : tie.Need-byte_within-requires-2
+byte-within-requires-2 c κs = omega (arith, c.requires.0)
 
-renumber-requires : tie.Need-renumber-requires
-renumber-requires c κs = let s = c.before.before.before.before.before.before in (rw c.byte-within2.ensures.0 s.requires.1.0.target, s.requires.1.1)
+renumber-requires : tie.Need-renumber-target-requires
+renumber-requires c κs = (rw c.byte_within-2.ensures.0 c.requires.1.0.target, c.requires.1.1)
 
-put-requires : tie.Need-put-requires
+put-requires : tie.Need-put-cares-requires
 put-requires c κs =
-    let r = c.before.before.before in
-    (omega (arith, r.rank.ensures.1, r.before.byte-within.ensures.1), omega (arith, (start c.before).requires.0))
+    (omega (arith, c.rank-source.ensures.1, c.byte_within.ensures.1), omega (arith, (start c.before).requires.0))
 
-add-copy : tie.Need-overflow-add-copy
+add-copy : tie.Need-overflow_add-p-2
 add-copy c = omega (arith, (start (numbered c.before.before)).requires.0)
 
-copy-requires : tie.Need-copy-requires
+copy-requires : tie.Need-copy-targets-requires
 copy-requires c κs =
     let s = start (numbered c.before.before.before) in
-    (omega (arith, s.pre.0), omega arith, omega (arith, c.before.before.before.put.ensures.ends, s.pre.0))
+    (omega (arith, s.requires.0), omega arith, omega (arith, c.put-cares.ensures.ends, s.requires.0))
 
-put-requires-2 : tie.Need-put-requires-2
+put-requires-2 : tie.Need-put-bounds-requires
 put-requires-2 c κs =
-    let w = c.before.before.before in
-    let r = numbered (put-source w) in
+    let r = numbered (put-source c.before.before.before) in
     let s = start r in
-    (omega (arith, r.renumber.ensures.1, r.before.byte-within2.ensures.1), omega (arith, w.copy.ensures.ends, bytes_length s.args.file.now (s.args.p + 1) 5, (put-source w).put.ensures.ends, s.pre.0))
+    (omega (arith, r.renumber-target.ensures.1, r.byte_within-2.ensures.1), omega (arith, c.copy-targets.ensures.ends, bytes_length s.args.file.now (s.args.p + 1) 5, (put-source c.before.before.before).put-cares.ensures.ends, s.requires.0))
 
-add-copy-2 : tie.Need-overflow-add-copy-2
+add-copy-2 : tie.Need-overflow_add-p-3
 add-copy-2 c = omega (arith, (start (numbered (put-source (copied c.before.before)))).requires.0)
 
-mul-copy : tie.Need-overflow-mul-copy
+mul-copy : tie.Need-overflow_mul-clocks
 mul-copy c = omega (arith, (start (numbered (put-source (copied c.before.before)))).requires.0)
 
-copy-requires-2 : tie.Need-copy-requires-2
+copy-requires-2 : tie.Need-copy-requires
 copy-requires-2 c κs =
-    let w = c.before.before.before in
-    let s = start (numbered (put-source (copied w))) in (
-      omega (arith, s.pre.0),
-      omega (arith, s.pre.0),
-      omega (arith, w.put2.ensures.ends, (copied w).copy.ensures.ends, bytes_length s.args.file.now (s.args.p + 1) 5, (put-source (copied w)).put.ensures.ends, s.pre.0),
+    let s = start (numbered (put-source (copied c.before.before.before))) in (
+      omega (arith, s.requires.0),
+      omega (arith, s.requires.0),
+      omega (arith, c.put-bounds.ensures.ends, (copied c.before.before.before).copy-targets.ensures.ends, bytes_length s.args.file.now (s.args.p + 1) 5, (put-source (copied c.before.before.before)).put-cares.ensures.ends, s.requires.0),
     )
 
 returns : tie.Need-returns
 returns c =
-    let w = c.before.before.before.before.before.before in
-    let s = start (numbered (put-source (copied w))) in
+    let s = start (numbered (put-source (copied c.before.before.before.before.before.before))) in
     let a = s.args in
-    let r = numbered (put-source (copied w)) in
-    let bytes : (i : ℕ) → byte_at a.file.now i < 256 = λ i. omega (arith, r.before.before.before.before.before.before.shared-slice-known.given i) in
+    let r = numbered (put-source (copied c.before.before.before.before.before.before)) in
+    let bytes : (i : ℕ) → byte_at a.file.now i < 256 = λ i. omega (arith, r.shared_slice_known-1.given i) in
     laid_as
-    (rule_laid (flags_of a.entered.now) a.clocks a.file.now a.p bytes (r.before.before.rank.ensures.0 ∙ ap (rank (flags_of a.entered.now)) r.before.before.before.byte-within.ensures.0)
-    (r.renumber.ensures.0 ∙ ap (renumbered (flags_of a.entered.now)) r.before.byte-within2.ensures.0))
-    (laid_more (laid_more (laid_more (put-source (copied w)).put.ensures (copied w).copy.ensures) w.put2.ensures) c.before.before.copy2.ensures)
+    (rule_laid (flags_of a.entered.now) a.clocks a.file.now a.p bytes (r.rank-source.ensures.0 ∙ ap (rank (flags_of a.entered.now)) r.byte_within.ensures.0)
+    (r.renumber-target.ensures.0 ∙ ap (renumbered (flags_of a.entered.now)) r.byte_within-2.ensures.0))
+    (laid_more (laid_more (laid_more (put-source (copied c.before.before.before.before.before.before)).put-cares.ensures (copied c.before.before.before.before.before.before).copy-targets.ensures) c.put-bounds.ensures) c.copy.ensures)
 
 pub lay_rule_spec : {M : Type 1} → statement M
-lay_rule_spec =
-    tie.close
-    (tie.spec
-    byte-within-requires rank-requires add-byte-within byte-within-requires-2 renumber-requires put-requires add-copy copy-requires put-requires-2
-    add-copy-2 mul-copy copy-requires-2 (λ c. search rules) returns)
+lay_rule_spec = tie.close (tie.spec byte-within-requires rank-requires add-byte-within byte-within-requires-2 renumber-requires put-requires add-copy copy-requires put-requires-2 add-copy-2 mul-copy copy-requires-2 (λ c. search rules) returns)

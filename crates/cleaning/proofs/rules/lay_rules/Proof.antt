@@ -13,86 +13,78 @@ use Rattle.cleaning.proofs.LayLaws.{Rest, rest_start, rest_first, rest_more, fla
 use Rattle.cleaning.proofs.rules.lay_rules.Statement.{statement}
 use Rattle.cleaning.proofs.rules.lay_rules.Tie as tie
 
-abbrev invariant-loop : tie.invariant-loop
+abbrev invariant-loop : tie.invariant-loop-i
 invariant-loop file entered used out₀ at clocks size next₀ p₀ i₀ out next p i =
     Rest file clocks (length used) (length entered) i p × (next ≤ at + 23 * i)
     × LeftToLay (cleaned_rules (flags_of entered) (flags_of used) (rules_of file)) (cleaned_rules (flags_of entered) (drop i (flags_of used)) (rules_from clocks file p (length used - i))) out₀ at out next
 
-abbrev decreases-loop : tie.decreases-loop
+abbrev decreases-loop : tie.decreases-loop-i
 decreases-loop file entered used out₀ at clocks size next₀ p₀ i₀ out next p i = length used - i
 
-abbrev entry : tie.In-loop invariant-loop decreases-loop → tie.Start invariant-loop decreases-loop
+abbrev entry : tie.In-loop-i invariant-loop decreases-loop → tie.Start invariant-loop decreases-loop
 entry i = i.before.before.before.before.before.before
 
 -- The rule at hand lies within the file, and is of a location.
-first : (i : tie.In-loop invariant-loop decreases-loop) →
+first : (i : tie.In-loop-i invariant-loop decreases-loop) →
     let a = (entry i).args in
-    let l = i.before.loop in
+    let l = i.loop-i in
     (l.p + rule_size a.layout.clocks ≤ length a.file.now) × EndsAt a.file.now l.p (length a.entered.now)
 first i =
     let a = (entry i).args in
-    let l = i.before.loop in
-    rest_first a.file.now a.layout.clocks (length a.used.now) (length a.entered.now) l.i l.p l.invariant.0 i.loop-test.true
+    let l = i.loop-i in
+    rest_first a.file.now a.layout.clocks (length a.used.now) (length a.entered.now) l.i l.p l.invariant.0 i.loop-i-test.true
 
-mul-size : tie.Need-overflow-mul-size invariant-loop decreases-loop
-mul-size c = omega (arith, laid_limits c.before.before.before.before.requires.0.laid)
+mul-size : tie.Need-overflow_mul-size invariant-loop decreases-loop
+mul-size c = omega (arith, laid_limits c.requires.0.laid)
 
-add-size : tie.Need-overflow-add-size invariant-loop decreases-loop
-add-size c = omega (arith, laid_limits c.before.before.before.before.requires.0.laid)
+add-size : tie.Need-overflow_add-size invariant-loop decreases-loop
+add-size c = omega (arith, laid_limits c.requires.0.laid)
 
-loop-holds : tie.Need-loop-init invariant-loop decreases-loop
+loop-holds : tie.Need-loop-i-init invariant-loop decreases-loop
 loop-holds c =
-    let s = c.before.before.before.before in
-    let k = s.requires.0 in
-    (rest_start k, omega arith, left_same (left_start _ _ _) (cleaned_start (flags_of s.args.entered.now) s.args.used.now k.laid k.rules))
+    let k = c.requires.0 in
+    (rest_start k, omega arith, left_same (left_start _ _ _) (cleaned_start (flags_of c.args.entered.now) c.args.used.now k.laid k.rules))
 
-lay-kept-requires : tie.Need-lay-kept-requires invariant-loop decreases-loop
+lay-kept-requires : tie.Need-lay_kept-next-requires invariant-loop decreases-loop
 lay-kept-requires c κs =
-    let i = c.before.before in
-    let s = entry i in
-    let l = i.before.loop in
-    let n = flags_few s.pre.0 in
-    let f = first i in (
-      (f.0, omega (arith, laid_limits s.pre.0.laid), omega (arith, f.0, laid_short s.pre.0.laid), omega (arith, l.invariant.1, i.loop-test.true, n.1, s.pre.1)),
+    let s = entry c.before.before in
+    let l = c.loop-i in
+    let n = flags_few s.requires.0 in
+    let f = first c.before.before in (
+      (f.0, omega (arith, laid_limits s.requires.0.laid), omega (arith, f.0, laid_short s.requires.0.laid), omega (arith, l.invariant.1, c.loop-i-test.true, n.1, s.requires.1)),
       (f.1, n.0),
     )
 
-add-p : tie.Need-overflow-add-p invariant-loop decreases-loop
+add-p : tie.Need-overflow_add-p invariant-loop decreases-loop
 add-p c =
-    let i = c.before.before.before.before.before in
-    omega (arith, (first i).0, laid_short (entry i).requires.0.laid)
+    omega (arith, (first c.before.before.before.before.before).0, laid_short (entry c.before.before.before.before.before).requires.0.laid)
 
-add-i : tie.Need-overflow-add-i invariant-loop decreases-loop
+add-i : tie.Need-overflow_add-i invariant-loop decreases-loop
 add-i c =
-    let i = c.before.before.before.before.before in
-    omega (arith, i.loop-test.true, (flags_few (entry i).requires.0).1)
+    omega (arith, c.loop-i-test.true, (flags_few (entry c.before.before.before.before.before).requires.0).1)
 
-loop-less : tie.Need-loop-smaller invariant-loop decreases-loop
-loop-less c = let i = c.before.before.before.before.before in omega (arith, i.loop-test.true)
+loop-less : tie.Need-loop-i-smaller invariant-loop decreases-loop
+loop-less c = omega (arith, c.loop-i-test.true)
 
-loop-again : tie.Need-loop-preserved invariant-loop decreases-loop
+loop-again : tie.Need-loop-i-preserved invariant-loop decreases-loop
 loop-again c =
-    let i = c.before.before.before.before.before in
-    let a = (entry i).args in
-    let l = i.before.loop in
-    let w = c.before.before.lay-kept.ensures in (
-      rest_more a.file.now a.layout.clocks (length a.used.now) (length a.entered.now) l.i l.p l.invariant.0 i.loop-test.true,
+    let a = (entry c.before.before.before.before.before).args in
+    let l = c.loop-i in
+    let w = c.lay_kept-next.ensures in (
+      rest_more a.file.now a.layout.clocks (length a.used.now) (length a.entered.now) l.i l.p l.invariant.0 c.loop-i-test.true,
       omega (arith, l.invariant.1, w.1),
       left_turn l.invariant.2
-          (cleaned_turn (flags_of a.entered.now) a.used.now a.layout.clocks a.file.now l.p (length a.used.now) l.i refl i.loop-test.true refl) w.0,
+          (cleaned_turn (flags_of a.entered.now) a.used.now a.layout.clocks a.file.now l.p (length a.used.now) l.i refl c.loop-i-test.true refl) w.0,
     )
 
-same_length : tie.Need-same-length invariant-loop decreases-loop
-same_length c = left_length c.before.loop.invariant.2
+same_length : tie.Need-shape_of-out invariant-loop decreases-loop
+same_length c = left_length c.loop-i.invariant.2
 
 returns : tie.Need-returns invariant-loop decreases-loop
 returns c =
-    let l = c.before.loop in
-    let a = c.before.before.before.before.before.before.args in
-    left_end l.invariant.2 (cleaned_end (flags_of a.entered.now) a.used.now a.layout.clocks a.file.now l.p (length a.used.now) l.i c.loop-test.false)
+    let l = c.loop-i in
+    let a = c.args in
+    left_end l.invariant.2 (cleaned_end (flags_of a.entered.now) a.used.now a.layout.clocks a.file.now l.p (length a.used.now) l.i c.loop-i-test.false)
 
 pub lay_rules_spec : {M : Type 1} → statement M
-lay_rules_spec =
-    tie.close
-    (tie.spec
-    invariant-loop decreases-loop mul-size add-size loop-holds (λ c. search rules) lay-kept-requires add-p add-i loop-less loop-again same_length returns)
+lay_rules_spec = tie.close (tie.spec invariant-loop decreases-loop mul-size add-size loop-holds (λ c. search rules) lay-kept-requires add-p add-i loop-less loop-again same_length returns)

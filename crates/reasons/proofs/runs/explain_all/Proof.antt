@@ -12,15 +12,12 @@ abbrev start : tie.After-fill → tie.Start
 start c = c.before.before.before.before.before.before.before.before
 
 fill-requires : tie.Need-fill-requires
-fill-requires c κs = (laid_sections c.before.before.before.before.before.before.before.requires.0.0.standing.laid, omega arith)
+fill-requires c κs = (laid_sections c.requires.0.0.standing.laid, omega arith)
 
-explain-each-requires : tie.Need-explain-each-requires
+explain-each-requires : tie.Need-explain_each-requires
 explain-each-requires c κs =
     let s = start c.before.before.before in
-    (s.pre.0, (s.pre.1.0, s.pre.1.1, s.pre.1.2, c.before.before.before.fill.ensures ∙ append-nil _))
+    (s.requires.0, (s.requires.1.0, s.requires.1.1, s.requires.1.2, c.fill.ensures ∙ append-nil _))
 
 pub explain_all_spec : {M : Type 1} → statement M
-explain_all_spec =
-    tie.close
-    (tie.spec
-    (λ c. search rules) fill-requires (λ c. search rules) explain-each-requires (λ c. search rules) (λ c. search rules))
+explain_all_spec = tie.close (tie.spec (λ c. search rules) fill-requires (λ c. search rules) explain-each-requires (λ c. search rules) (λ c. search rules))

@@ -17,7 +17,7 @@ use Rattle.reasons.proofs.runs.explained.Statement.{statement}
 use Rattle.reasons.proofs.runs.explained.Tie as tie
 
 -- Earlier places in the code.
-abbrev start : tie.Else1 → tie.Start
+abbrev start : tie.Else-others → tie.Start
 start c = c.before.before.before.before.before.before.before
 
 clocks : (c : tie.Start) → length c.args.state.clocks ≡ 4
@@ -32,40 +32,32 @@ starts s =
     (ap (λ (z : Place). is_marked s.args.marks.now (number_of (policy_of s.args.layout.reading s.args.file.now) z)) (laid_place k s.args.state) ∙ g.1)
     (good_back k s.args.state (clocks s) g.0)
 
-returns : tie.Need-returns
+returns : tie.Need-returns-then-others
 returns c =
-    let s = c.before.before.before.before.before.before.before.before in
-    λ work z. rw c.refused.ensures (answers_no _ _ _ _ _ _ work (run_20 _ _ _ _ _ _ work z (sym s.requires.0.1 ∙ c.before.if1.true)) (λ e. omega arith))
+    λ work z. rw c.refused.ensures (answers_no _ _ _ _ _ _ work (run_20 _ _ _ _ _ _ work z (sym c.requires.0.1 ∙ c.if-others.true)) (λ e. omega arith))
 
-returns-2 : tie.Need-returns-2
+returns-2 : tie.Need-returns-then-not-events_good
 returns-2 c =
-    let f = c.before.before in
-    let s = start f.before in
+    let s = start c.before.before.before in
     λ work z.
-    rw c.refused2.ensures
+    rw c.refused-then-not-events_good.ensures
     (answers_no _ _ _ _ _ _ work
-    (run_15 _ _ _ _ _ _ work z (sym s.pre.0.1 ∙ f.before.if1.false) (sym f.events-good.ensures ∙ not-true _ c.before.if2.true)) (λ e. omega arith))
+    (run_15 _ _ _ _ _ _ work z (sym s.requires.0.1 ∙ c.if-others.false) (sym c.events_good.ensures ∙ c.if-not-events_good.true)) (λ e. omega arith))
 
-explain-all-requires : tie.Need-explain-all-requires
+explain-all-requires : tie.Need-explain_all-after-requires
 explain-all-requires c κs =
-    let f = c.before.before in
-    let s = start f.before in (
-      (starts s, s.pre.1.2),
-      (marks_prepared (policy_of s.args.layout.reading s.args.file.now) s.args.marks.now (sym s.pre.0.1 ∙ f.before.if1.false), s.pre.0.2, sym f.events-good.ensures ∙ not-false _ c.before.if2.false),
+    let s = start c.before.before.before in (
+      (starts s, s.requires.1.2),
+      (marks_prepared (policy_of s.args.layout.reading s.args.file.now) s.args.marks.now (sym s.requires.0.1 ∙ c.if-others.false), s.requires.0.2, sym c.events_good.ensures ∙ c.if-not-events_good.false),
     )
 
-returns-3 : tie.Need-returns-3
+returns-3 : tie.Need-returns
 returns-3 c =
-    let g = c.before.before.explain-all.ensures in
-    let d = c.before.before.before.before in
-    let f = d.before in
-    let s = start f.before in
+    let g = c.explain_all-after.ensures in
+    let s = start c.before.before.before.before.before.before in
     λ work z.
-    answers_all _ _ s.pre.0.0 _ _ _ work z (sym s.pre.0.1 ∙ f.before.if1.false) (sym f.events-good.ensures ∙ not-false _ d.if2.false) g.ready
-    s.pre.1.2 g
+    answers_all _ _ s.requires.0.0 _ _ _ work z (sym s.requires.0.1 ∙ c.if-others.false) (sym c.events_good.ensures ∙ c.if-not-events_good.false) g.ready
+    s.requires.1.2 g
 
 pub explained_spec : {M : Type 1} → statement M
-explained_spec =
-    tie.close
-    (tie.spec
-    (λ c κs. search rules) returns (λ c κs. search rules) (λ c κs. search rules) returns-2 explain-all-requires (λ c. search rules) returns-3)
+explained_spec = tie.close (tie.spec (λ c κs. search rules) returns (λ c κs. search rules) (λ c κs. search rules) returns-2 explain-all-requires (λ c. search rules) returns-3)

@@ -6,18 +6,14 @@ use Rattle.reasons.proofs.runs.shortest.Tie as tie
 returns : tie.Need-returns
 returns c =
     rw (
-      c.least7.ensures,
-      c.before.least6.ensures,
-      c.before.before.least5.ensures,
-      c.before.before.before.least4.ensures,
-      c.before.before.before.before.least3.ensures,
-      c.before.before.before.before.before.least2.ensures,
-      c.before.before.before.before.before.before.least.ensures,
+      c.least-7.ensures,
+      c.least-6.ensures,
+      c.least-5.ensures,
+      c.least-4.ensures,
+      c.least-3.ensures,
+      c.least-2.ensures,
+      c.least.ensures,
     )
 
 pub shortest_spec : {M : Type 1} → statement M
-shortest_spec =
-    tie.close
-    (tie.spec
-    (λ c κs. search rules) (λ c κs. search rules) (λ c κs. search rules) (λ c κs. search rules) (λ c κs. search rules) (λ c κs. search rules)
-    (λ c κs. search rules) returns)
+shortest_spec = tie.close (tie.spec (λ c κs. search rules) (λ c κs. search rules) (λ c κs. search rules) (λ c κs. search rules) (λ c κs. search rules) (λ c κs. search rules) (λ c κs. search rules) returns)
