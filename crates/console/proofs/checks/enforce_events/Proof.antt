@@ -13,46 +13,41 @@ use Rattle.console.specs.OutcomeLaws.{events_refused, events_ran}
 use Rattle.console.proofs.checks.enforce_events.Statement.{statement}
 use Rattle.console.proofs.checks.enforce_events.Tie as tie
 
-returns : tie.Need-returns
+returns : tie.Need-returns-then-refusal-ne0
 returns c =
-    let a = c.before.before.before.before.before.before.args in
-    record { refusal = events_refused a.reading a.input.now c.before.events-refusal.ensures c.if1.true; front = λ z. absurd (c.if1.true z) }
+    let a = c.args in
+    record { refusal = events_refused a.reading a.input.now c.events_refusal-refusal.ensures c.if-refusal-ne0.true; front = λ z. absurd (c.if-refusal-ne0.true z) }
 
 -- The frame is not refused.
-abbrev start : tie.Else1 → tie.Start
+abbrev start : tie.Else-refusal-ne0 → tie.Start
 start c = c.before.before.before.before.before.before
 
-passed : (c : tie.Else1) → events_frame_refusal (start c).args.input.now ≡ 0
-passed c = sym c.before.events-refusal.ensures ∙ c.if1.false
+passed : (c : tie.Else-refusal-ne0) → events_frame_refusal (start c).args.input.now ≡ 0
+passed c = sym c.events_refusal-refusal.ensures ∙ c.if-refusal-ne0.false
 
-events-in-requires : tie.Need-events-in-requires
+events-in-requires : tie.Need-events_in-events-requires
 events-in-requires c κs = passed c
 
 -- What the run promises of the events.
-abbrev place : tie.After-run → tie.Else1
+abbrev place : tie.After-run-ran → tie.Else-refusal-ne0
 place c = c.before.before.before.before
 
-abbrev Promised : tie.After-run → State → List ℕ → Type 0
+abbrev Promised : tie.After-run-ran → State → List ℕ → Type 0
 Promised c state events =
     let a = (start (place c)).args in
-    RunPromise a.reading a.file.now a.marks.now state events a.released.now c.run.result c.run.new.1.1.1.1.1.0
+    RunPromise a.reading a.file.now a.marks.now state events a.released.now c.run-ran.result c.run-ran.new.out
 
-ran : (c : tie.After-run) → Promised c start_state (events_part (start (place c)).args.input.now)
+ran : (c : tie.After-run-ran) → Promised c start_state (events_part (start (place c)).args.input.now)
 ran c =
-    let e = c.before.before.before in
-    subst (Promised c start_state) e.events-in.ensures
-    (subst (λ (state : State). Promised c state e.events-in.result.now) c.before.before.start.ensures c.run.ensures)
+    subst (Promised c start_state) c.events_in-events.ensures
+    (subst (λ (state : State). Promised c state c.events_in-events.result.now) c.start.ensures c.run-ran.ensures)
 
-returns-2 : tie.Need-returns-2
+returns-2 : tie.Need-returns
 returns-2 c =
-    let r = c.before.before in
-    let p = place r in
+    let p = place c.before.before in
     let s = start p in
     let input = s.args.input.now in
-    events_ran s.args.reading input s.pre.0 (passed p) (omega (arith, events_few input (passed p), s.pre.1)) (ran r)
+    events_ran s.args.reading input s.requires.0 (passed p) (omega (arith, events_few input (passed p), s.requires.1)) (ran c.before.before)
 
 pub enforce_events_spec : {M : Type 1} → statement M
-enforce_events_spec =
-    tie.close
-    (tie.spec
-    (λ c κs. search rules) returns events-in-requires (λ c κs. search rules) (λ c κs. search rules) (λ c. search rules) returns-2)
+enforce_events_spec = tie.close (tie.spec (λ c κs. search rules) returns events-in-requires (λ c κs. search rules) (λ c κs. search rules) (λ c. search rules) returns-2)

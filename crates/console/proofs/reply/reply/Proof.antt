@@ -17,49 +17,35 @@ abbrev start : tie.After-outcome → tie.Start
 start c = c.before.before.before.before.before.before.before
 
 -- Nothing is refused.
-abbrev place : tie.After-summary → tie.After-outcome
-place c = c.before.before.before.before.before.before
+abbrev place : tie.In-Gives → tie.After-outcome
+place c = c.before.before.before.before.before
 
-enforced : (c : tie.After-summary) →
+enforced : (c : tie.In-Gives) →
     let o = place c in
-    Enforces 1 (start o).args.input.now c.summary.given.0.0 o.outcome.last.1.1.0 o.outcome.last.1.1.1.0
-enforced c = (place c).outcome.ensures.enforces _ c.summary.given.1
+    Enforces 1 (start o).args.input.now c.in-Gives.summary o.outcome.new.marks o.outcome.new.released
+enforced c = (place c).outcome.ensures.enforces _ c.in-Gives.is
 
-events-in-requires : tie.Need-events-in-requires
-events-in-requires c κs = (enforced c.before.before.before.before.before.before).passes.events
+events-in-requires : tie.Need-events_in-requires
+events-in-requires c κs = (enforced c.before.before.before.before.before).passes.events
 
-put-ticks-requires : tie.Need-put-ticks-requires
+put-ticks-requires : tie.Need-put_ticks-requires
 put-ticks-requires c κs =
-    let e = c.before in
-    let v = e.before.before.before.before in
-    let k = v.before.before.before in
-    let o = place k in
-    let n = subst (λ (events : List ℕ). length events ≤ 16384) (sym e.events-in.ensures) (events_few (start o).args.input.now (enforced k).passes.events) in (
+    let o = place c.before.before.before.before.before.before in
+    let n = subst (λ (events : List ℕ). length events ≤ 16384) (sym c.events_in.ensures) (events_few (start o).args.input.now (enforced c.before.before.before.before.before.before).passes.events) in (
       n,
-      omega (arith, n, o.outcome.kept.1.1.1.0, (start o).pre),
-      omega (arith, n, v.put-verdict.auto.0, v.put-verdict.ensures.1, (start o).pre),
+      omega (arith, n, o.outcome.auto.released, (start o).requires),
+      omega (arith, n, c.put_verdict-next.auto.text, c.put_verdict-next.ensures.1, (start o).requires),
     )
 
-returns : tie.Need-returns
+returns : tie.Need-returns-in-Refused
 returns c =
-    let f = c.before.before in
-    let k = f.before.before.before in
-    let o = k.before.before.before.before.before.before in
-    rw (printed_refused (start o).args.input.now (sym (ap prepared_said k.n.given.1) ∙ o.outcome.ensures.said))
-    (replied f.Put-refused.ensures f.Put-refused.auto.0)
+    rw (printed_refused (start c.before.before.before.before.before.before.before.before.before).args.input.now (sym (ap prepared_said c.in-Refused.is) ∙ c.outcome.ensures.said))
+    (replied c.put_refused.ensures c.put_refused.auto.text)
 
-returns-2 : tie.Need-returns-2
+returns-2 : tie.Need-returns-in-Gives
 returns-2 c =
-    let t = c.before.before in
-    let e = t.before.before in
-    let v = e.before.before.before.before in
-    let k = v.before.before.before in
-    rw (printed_lines (start (place k)).args.input.now (enforced k), ← e.events-in.ensures)
-    (replied (wrote_then zero-le v.put-verdict.ensures.0 t.put-ticks.ensures) (t.put-ticks.auto.0 ∙ v.put-verdict.auto.0))
+    rw (printed_lines (start (place c.before.before.before.before.before.before.before.before.before)).args.input.now (enforced c.before.before.before.before.before.before.before.before.before), ← c.events_in.ensures)
+    (replied (wrote_then zero-le c.put_verdict-next.ensures.0 c.put_ticks.ensures) (c.put_ticks.auto.text ∙ c.put_verdict-next.auto.text))
 
 pub reply_spec : {M : Type 1} → statement M
-reply_spec =
-    tie.close
-    (tie.spec
-    (λ c κs. search rules) (λ c. search rules) (λ c κs. search rules) (λ c. search rules) (λ c κs. search rules) events-in-requires put-ticks-requires
-    (λ c. search rules) (λ c. search rules) (λ c. search rules) returns (λ c. search rules) (λ c. search rules) (λ c. search rules) returns-2)
+reply_spec = tie.close (tie.spec (λ c κs. search rules) (λ c. search rules) (λ c κs. search rules) (λ c. search rules) (λ c κs. search rules) events-in-requires put-ticks-requires (λ c. search rules) (λ c. search rules) (λ c. search rules) returns (λ c. search rules) (λ c. search rules) (λ c. search rules) returns-2)
