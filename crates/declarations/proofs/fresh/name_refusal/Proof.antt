@@ -32,7 +32,7 @@ returns-2 : tie.Need-returns-then-find_name-signals
 returns-2 c = (name_signal _ _ _ (named c.before) c.find_name.ensures c.if-find_name-signals.true, λ z. absurd (omega arith))
 
 find-name-requires-2 : tie.Need-find_name-requires-2
-find-name-requires-2 c κs = let s = start c.before.before in names_fewer s.requires.3 (8 + s.args.table.clocks) (omega (arith, s.requires.2.clocks))
+find-name-requires-2 c κs = names_fewer c.requires.3 _ (omega (arith, c.requires.2.clocks))
 
 returns-3 : tie.Need-returns-then-find_name-clocks
 returns-3 c =
