@@ -7,8 +7,7 @@ use Rattle.sentences.proofs.lines.put_plain.Tie as tie
 
 returns : tie.Need-returns
 returns c =
-    let h = c.before.before.before.before.before.before in
-    wrote_then (omega arith) h.put-bytes.ensures c.before.before.put-bytes2.ensures
+    wrote_then (omega arith) c.put_bytes-half_end.ensures c.put_bytes.ensures
 
 pub put_plain_spec : {M : Type 1} → statement M
 put_plain_spec = tie.close (tie.spec (λ c κs. search rules) (λ c κs. search rules) (λ c. search rules) returns)

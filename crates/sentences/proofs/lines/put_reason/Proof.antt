@@ -15,8 +15,8 @@ use Rattle.sentences.proofs.lines.put_reason.Statement.{statement}
 use Rattle.sentences.proofs.lines.put_reason.Tie as tie
 
 -- Earlier places in the code.
-abbrev start : tie.After-reason2 → tie.Start
-start c = c.before.before.before.before.before.before
+abbrev start : tie.In-Ticks → tie.Start
+start c = c.before.before.before.before.before
 
 abbrev line : tie.Start → Reason → List ℕ
 line s q = reason_line (policy_of s.args.layout.reading s.args.file.now) s.args.broken.now s.args.half.now (reason_said q)
@@ -27,49 +27,40 @@ room s e =
     subst (λ (z : Reason). s.args.at + length (line s z) ≤ length s.args.text.now) e
     (omega (arith, line_short s.requires.0.0 s.args.broken.now s.args.half.now (reason_said s.args.reason) s.requires.0.1 s.requires.0.2 s.requires.1.0))
 
-put-rule-requires : tie.Need-put-rule-requires
+put-rule-requires : tie.Need-put_rule-requires
 put-rule-requires c κs =
-    let k = c.before.before.reason.given in
-    let s = c.before.before.before.before.before.before.before.before in
-    let a = s.args in (
-      (s.requires.0.0, subst (λ (z : Reason). Named (rule_count a.file.now) (reason_said z)) k.1 s.requires.0.1),
-      omega (arith, room s k.1, length-append a.broken.now (rule_words (policy_of a.layout.reading a.file.now) k.0.0)),
+    let k = c.in-Rule in
+    let a = c.args in (
+      (c.requires.0.0, subst (λ (z : Reason). Named (rule_count a.file.now) (reason_said z)) k.is c.requires.0.1),
+      omega (arith, room c.before.before.before.before.before.before k.is, length-append a.broken.now (rule_words (policy_of a.layout.reading a.file.now) k.i)),
     )
 
-put-most-requires : tie.Need-put-most-requires
+put-most-requires : tie.Need-put_most-requires
 put-most-requires c κs =
-    let r = c.before.before.before.before in
-    let k = r.reason2.given in
-    let s = start r in
-    omega (arith, room s k.1, length-append s.args.half.now (ticks_words k.0.0))
+    let k = c.in-Ticks in
+    let s = start c.before.before.before.before.before in
+    omega (arith, room s k.is, length-append s.args.half.now (ticks_words k.k))
 
-put-rests-requires : tie.Need-put-rests-requires
+put-rests-requires : tie.Need-put_rests-requires
 put-rests-requires c κs =
-    let k = c.before.before.reason3.given in
-    let s = c.before.before.before.before.before.before.before.before in
-    omega (arith, room s k.1, length-append s.args.half.now (rests_words k.0.0))
+    let k = c.in-Rests in
+    omega (arith, room c.before.before.before.before.before.before k.is, length-append c.args.half.now (rests_words k.k))
 
-returns : tie.Need-returns
-returns c = let s = c.before.before.before.before.before.before in rw (ap (line s) c.enum_told.given.1) (wrote_none _ _)
+returns : tie.Need-returns-in-Kept
+returns c = rw (ap (line c.before.before.before.before.before) c.in-Kept.is) (wrote_none _ _)
 
-returns-2 : tie.Need-returns-2
-returns-2 c = let k = c.before.before.before.before.before in rw (ap (line k.before.before.before.before.before.before) k.reason.given.1) c.before.before.put-rule.ensures
+returns-2 : tie.Need-returns-in-Rule
+returns-2 c = rw (ap (line c.before.before.before.before.before.before.before.before.before) c.in-Rule.is) c.put_rule.ensures
 
-returns-3 : tie.Need-returns-3
-returns-3 c = let k = c.before.before.before.before.before in rw (ap (line k.before.before.before.before.before.before) k.enum-told2.given.1) c.before.before.put-plain.ensures
+returns-3 : tie.Need-returns-in-Unmatched
+returns-3 c = rw (ap (line c.before.before.before.before.before.before.before.before.before.before.before) c.in-Unmatched.is) c.put_plain.ensures
 
-returns-4 : tie.Need-returns-4
+returns-4 : tie.Need-returns-in-Ticks
 returns-4 c =
-    let k = c.before.before.before.before.before.before.before in
-    rw (ap (line (start k)) k.reason2.given.1) c.before.before.put-most.ensures
+    rw (ap (line (start c.before.before.before.before.before.before.before.before)) c.in-Ticks.is) c.put_most.ensures
 
-returns-5 : tie.Need-returns-5
-returns-5 c = let k = c.before.before.before.before.before in rw (ap (line k.before.before.before.before.before.before) k.reason3.given.1) c.before.before.put-rests.ensures
+returns-5 : tie.Need-returns-in-Rests
+returns-5 c = rw (ap (line c.before.before.before.before.before.before.before.before.before) c.in-Rests.is) c.put_rests.ensures
 
 pub put_reason_spec : {M : Type 1} → statement M
-put_reason_spec =
-    tie.close
-    (tie.spec
-    (λ c. search rules) (λ c. search rules) put-rule-requires (λ c. search rules) (λ c. search rules) (λ c κs. omega arith) (λ c. search rules)
-    (λ c. search rules) (λ c. search rules) put-most-requires (λ c. search rules) put-rests-requires returns (λ c. search rules) returns-2
-    (λ c. search rules) returns-3 (λ c. search rules) returns-4 (λ c. search rules) returns-5)
+put_reason_spec = tie.close (tie.spec (λ c. search rules) (λ c. search rules) put-rule-requires (λ c. search rules) (λ c κs. search rules) (λ c. search rules) put-most-requires (λ c. search rules) put-rests-requires returns (λ c. search rules) returns-2 (λ c. search rules) returns-3 (λ c. search rules) returns-4 (λ c. search rules) returns-5)
