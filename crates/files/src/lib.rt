@@ -1,42 +1,74 @@
-// Files read whole, and written whole or not at all.
+// Files read whole, and written whole or not at all; and what the programs need of the system beside: their words, and a line for what fails.
 #![tactic(auto)]
 
-ghost use Rattle.io.specs.Counts.{IsPrefixLen};
+pub mod faults;
+pub mod words;
 
+ghost use Rattle.std.specs.Prelude.{◌≡◌, ◌≤◌, length, take};
+
+use faults::tell;
+use std::fs::{File, OpenOptions};
+use std::io::{ErrorKind, Read, Seek, SeekFrom, Write};
+use std::{fs, io, str};
 use texts::put_bytes;
 
-// Whether a file stands at its end: there is no byte more, and reading on does not fail.
-fn is_at_end(file: i32) -> bool {
-    let mut next = [0u8; 1];
-    libc::read(file, &mut next) == 0
+// The longest name of a file, and one byte more.
+const NAME: usize = 4096;
+
+// Names of files are text here, as they are in `std`.
+fn text_of(path: &[u8]) -> io::Result<&str> {
+    match str::from_utf8(path) {
+        Ok(text) => Ok(text),
+        Err(_) => Err(io::Error::from(ErrorKind::InvalidFilename)),
+    }
+}
+
+// Opens a file to read it.
+pub fn open_read(rt: &HostRuntime, path: &[u8]) -> io::Result<File> {
+    fs::open(rt, text_of(path)?)
+}
+
+// Reads until the bytes are full, the input ends or a read fails. How many bytes were read stands beside the failure.
+pub fn read_full<R: Read>(input: &mut R, bytes: &mut [u8]) -> (usize, io::Result<()>)
+    ensures room { result.0 ≤ length bytes.new }
+    ensures front { result.0 ≡ length (take result.0 bytes.new) }
+{
+    let mut done = 0;
+    while done < bytes.len() {
+        match input.read(&mut bytes[done..]) {
+            Ok(0) => break,
+            Ok(read) => done += read,
+            Err(error) => return (done, Err(error)),
+        }
+    }
+    (done, Ok(()))
 }
 
 // Reads a file, or as much of it as the bytes have room for, and answers how much that is. A file that cannot be opened, or not be read to its end, is named
 // on standard error, and counts as empty: half of it might say something else.
-pub fn read_file(path: &[u8], bytes: &mut [u8]) -> usize
-    ensures { IsPrefixLen result bytes.new }
+pub fn read_file(rt: &HostRuntime, path: &[u8], bytes: &mut [u8]) -> usize
+    ensures room { result ≤ length bytes.new }
+    ensures front { result ≡ length (take result bytes.new) }
 {
-    let file = os::open_read(path);
-    if file < 0 {
-        os::fail(path);
-        return 0;
-    }
-    let read = io::read_full(file, bytes);
-    if read < bytes.len() {
-        let is_whole = is_at_end(file);
-        if !is_whole {
-            os::fail(path);
-            libc::close(file);
+    let mut file = match open_read(rt, path) {
+        Ok(file) => file,
+        Err(error) => {
+            tell(rt, path, error);
             return 0;
         }
+    };
+    let (read, whole) = read_full(&mut file, bytes);
+    if let Err(error) = whole {
+        tell(rt, path, error);
+        return 0;
     }
-    libc::close(file);
     read
 }
 
 // The name of the file beside the one that is named, and its length: 0 where there is no room for it.
 fn beside(path: &[u8], name: &mut [u8]) -> usize
-    ensures { IsPrefixLen result name.new }
+    ensures room { result ≤ length name.new }
+    ensures front { result ≡ length (take result name.new) }
 {
     if name.len() < 5 {
         return 0;
@@ -48,66 +80,95 @@ fn beside(path: &[u8], name: &mut [u8]) -> usize
     put_bytes(name, end, b".part")
 }
 
+// Makes a file that is not there yet, to write it.
+fn create(rt: &HostRuntime, path: &[u8]) -> io::Result<File> {
+    OpenOptions::new()
+        .write(true)
+        .create_new(true)
+        .open(rt, text_of(path)?)
+}
+
 // All bytes are in the file, and on the disk.
-fn fill(file: i32, bytes: &[u8]) -> bool {
-    let is_written = io::write_all(file, bytes);
-    if !is_written {
-        return false;
+fn fill(mut file: File, bytes: &[u8]) -> io::Result<()> {
+    file.write_all(bytes)?;
+    file.sync_all()
+}
+
+// Takes away the file that was begun. Where that fails, it stays.
+fn give_up(rt: &HostRuntime, name: &[u8]) {
+    if let Ok(name) = text_of(name) {
+        let _ = fs::remove_file(rt, name);
     }
-    libc::fsync(file) == 0
+}
+
+fn rename(rt: &HostRuntime, name: &[u8], path: &[u8]) -> io::Result<()> {
+    fs::rename(rt, text_of(name)?, text_of(path)?)
 }
 
 // Fills a file beside the one that is named, and gives it that name: whoever opens the name finds the old bytes or the new ones, and all of them. What fails
 // is named on standard error, and leaves the old file as it was.
-fn replace(path: &[u8], bytes: &[u8]) {
-    let mut name = io::buffer();
+fn replace(rt: &HostRuntime, path: &[u8], bytes: &[u8]) {
+    let mut name = [0u8; NAME];
     let length = beside(path, &mut name);
-    let file = os::create(&name[..length]);
-    if file < 0 {
-        os::fail(&name[..length]);
+    let name = &name[..length];
+    let file = match create(rt, name) {
+        Ok(file) => file,
+        Err(error) => {
+            tell(rt, name, error);
+            return;
+        }
+    };
+    if let Err(error) = fill(file, bytes) {
+        tell(rt, name, error);
+        give_up(rt, name);
         return;
     }
-    let is_filled = fill(file, bytes);
-    if !is_filled {
-        os::fail(&name[..length]);
-        libc::close(file);
-        os::unlink(&name[..length]);
-        return;
-    }
-    libc::close(file);
-    let renamed = os::rename(&name[..length], path);
-    if renamed != 0 {
-        os::fail(path);
-        os::unlink(&name[..length]);
+    if let Err(error) = rename(rt, name, path) {
+        tell(rt, path, error);
+        give_up(rt, name);
     }
 }
 
 // Writes a device or a pipe as it is: it has no bytes that could be lost.
-fn write_through(file: i32, path: &[u8], bytes: &[u8]) {
-    let is_written = io::write_all(file, bytes);
-    if !is_written {
-        os::fail(path);
+fn write_through(rt: &HostRuntime, mut file: File, path: &[u8], bytes: &[u8]) {
+    if let Err(error) = file.write_all(bytes) {
+        tell(rt, path, error);
     }
-    libc::close(file);
 }
 
-// Writes the file that is named. One that may not be written is left as it is. A regular file is known by this: it may be cut to the length that it has.
-pub fn write_file(path: &[u8], bytes: &[u8]) {
-    let file = os::open_update(path);
-    if file < 0 {
-        if os::errno() != libc::ENOENT {
-            os::fail(path);
+// Opens a file that is there, to write it.
+fn open_update(rt: &HostRuntime, path: &[u8]) -> io::Result<File> {
+    OpenOptions::new()
+        .read(true)
+        .write(true)
+        .open(rt, text_of(path)?)
+}
+
+// A regular file is known by this: it may be cut to the length that it has.
+fn is_regular(file: &mut File) -> bool {
+    match file.seek(SeekFrom::End(0)) {
+        Ok(length) => file.set_len(length).is_ok(),
+        Err(_) => false,
+    }
+}
+
+// Writes the file that is named. One that may not be written is left as it is.
+pub fn write_file(rt: &HostRuntime, path: &[u8], bytes: &[u8]) {
+    let mut file = match open_update(rt, path) {
+        Ok(file) => file,
+        Err(error) => {
+            if error.kind() == ErrorKind::NotFound {
+                replace(rt, path, bytes);
+            } else {
+                tell(rt, path, error);
+            }
             return;
         }
-        replace(path, bytes);
-        return;
+    };
+    if is_regular(&mut file) {
+        drop(file);
+        replace(rt, path, bytes);
+    } else {
+        write_through(rt, file, path, bytes);
     }
-    let length = libc::lseek(file, 0, libc::SEEK_END);
-    let cut = libc::ftruncate(file, length);
-    if cut != 0 {
-        write_through(file, path, bytes);
-        return;
-    }
-    libc::close(file);
-    replace(path, bytes);
 }
