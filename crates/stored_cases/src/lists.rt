@@ -13,12 +13,10 @@ pub fn pairs<'a>(cases: &[u8], at: usize, into: &'a mut [u16]) -> &'a mut [u16] 
         return &mut into[..0];
     }
     let mut next = head.next;
-    let mut i = 0;
-    while i < count {
+    for place in into[..count].iter_mut() {
         let number = next.pair(cases);
-        into[i] = number.value;
+        *place = number.value;
         next = number.next;
-        i += 1;
     }
     &mut into[..count]
 }
@@ -33,14 +31,12 @@ pub(crate) fn same_pairs(cases: &[u8], at: usize, held: &[u16]) -> bool {
         return false;
     }
     let mut next = head.next;
-    let mut i = 0;
-    while i < held.len() {
-        let number = next.pair(cases);
-        if held[i] != number.value {
+    for number in held {
+        let read = next.pair(cases);
+        if *number != read.value {
             return false;
         }
-        next = number.next;
-        i += 1;
+        next = read.next;
     }
     true
 }
@@ -53,12 +49,10 @@ pub fn words<'a>(cases: &[u8], at: usize, into: &'a mut [u32]) -> &'a mut [u32] 
         return &mut into[..0];
     }
     let mut next = head.next;
-    let mut i = 0;
-    while i < count {
+    for place in into[..count].iter_mut() {
         let number = next.word(cases);
-        into[i] = number.value;
+        *place = number.value;
         next = number.next;
-        i += 1;
     }
     &mut into[..count]
 }
@@ -73,14 +67,12 @@ pub(crate) fn same_words(cases: &[u8], at: usize, held: &[u32]) -> bool {
         return false;
     }
     let mut next = head.next;
-    let mut i = 0;
-    while i < held.len() {
-        let number = next.word(cases);
-        if held[i] != number.value {
+    for number in held {
+        let read = next.word(cases);
+        if *number != read.value {
             return false;
         }
-        next = number.next;
-        i += 1;
+        next = read.next;
     }
     true
 }
@@ -93,12 +85,10 @@ pub fn longs<'a>(cases: &[u8], at: usize, into: &'a mut [u64]) -> &'a mut [u64] 
         return &mut into[..0];
     }
     let mut next = head.next;
-    let mut i = 0;
-    while i < count {
+    for place in into[..count].iter_mut() {
         let number = next.long(cases);
-        into[i] = number.value;
+        *place = number.value;
         next = number.next;
-        i += 1;
     }
     &mut into[..count]
 }
@@ -113,14 +103,12 @@ pub(crate) fn same_longs(cases: &[u8], at: usize, held: &[u64]) -> bool {
         return false;
     }
     let mut next = head.next;
-    let mut i = 0;
-    while i < held.len() {
-        let number = next.long(cases);
-        if held[i] != number.value {
+    for number in held {
+        let read = next.long(cases);
+        if *number != read.value {
             return false;
         }
-        next = number.next;
-        i += 1;
+        next = read.next;
     }
     true
 }

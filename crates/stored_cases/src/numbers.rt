@@ -51,6 +51,7 @@ impl Cursor {
     }
 
     // Past the end stands 0.
+    #[tactic(auto, unfolding(crate::specs::Numbers::byte_from))]
     pub fn byte(self, cases: &[u8]) -> Byte
         ensures { result ≡ byte_from cases.now self }
     {
@@ -71,6 +72,7 @@ impl Cursor {
         }
     }
 
+    #[tactic(auto, unfolding(crate::specs::Numbers::pair_from))]
     pub fn pair(self, cases: &[u8]) -> Pair
         ensures { result ≡ pair_from cases.now self }
     {
@@ -84,6 +86,7 @@ impl Cursor {
         }
     }
 
+    #[tactic(auto, unfolding(crate::specs::Numbers::word_from))]
     pub fn word(self, cases: &[u8]) -> Word
         ensures { result ≡ word_from cases.now self }
     {
@@ -97,6 +100,7 @@ impl Cursor {
         }
     }
 
+    #[tactic(auto, unfolding(crate::specs::Numbers::long_from))]
     pub fn long(self, cases: &[u8]) -> Long
         ensures { result ≡ long_from cases.now self }
     {

@@ -171,13 +171,11 @@ impl Cursor {
 pub fn find_parts(cases: &[u8], kind: u8, start: Cursor, places: &mut [usize; PARTS]) -> Cursor {
     let parts = parts_of(kind);
     let mut next = if parts == 0 { start.lose() } else { start };
-    let mut part = 0;
-    while part < PARTS {
+    for part in 0..PARTS {
         if (parts >> part) % 2 == 1 {
             places[part] = next.at;
             next = next.past(cases, part);
         }
-        part += 1;
     }
     next
 }

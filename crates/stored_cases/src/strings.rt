@@ -98,15 +98,14 @@ impl Cursor {
     pub(crate) fn past_string(self, cases: &[u8]) -> Self {
         let head = self.word(cases);
         let start = head.next;
-        let mut left = head.value as usize;
-        if STRING < left {
+        let count = head.value as usize;
+        if STRING < count {
             return start.lose();
         }
         let mut pieces = Pieces::new(start);
-        while left > 0 {
+        for _ in 0..count {
             let made = pieces.step(cases);
             pieces = made.pieces;
-            left -= 1;
         }
         pieces.end()
     }
@@ -120,12 +119,10 @@ pub fn string<'a>(cases: &[u8], at: usize, into: &'a mut [u8]) -> &'a mut [u8] {
         return &mut into[..0];
     }
     let mut pieces = Pieces::new(head.next);
-    let mut i = 0;
-    while i < count {
+    for place in into[..count].iter_mut() {
         let made = pieces.step(cases);
-        into[i] = made.byte;
+        *place = made.byte;
         pieces = made.pieces;
-        i += 1;
     }
     &mut into[..count]
 }
@@ -140,14 +137,12 @@ pub(crate) fn same_string(cases: &[u8], at: usize, held: &[u8]) -> bool {
         return false;
     }
     let mut pieces = Pieces::new(head.next);
-    let mut i = 0;
-    while i < held.len() {
+    for byte in held {
         let made = pieces.step(cases);
-        if held[i] != made.byte {
+        if *byte != made.byte {
             return false;
         }
         pieces = made.pieces;
-        i += 1;
     }
     true
 }

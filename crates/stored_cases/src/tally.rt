@@ -1,7 +1,7 @@
 // What has been found so far.
 use crate::numbers::Cursor;
 use crate::parts::{ANSWER, KINDS, PARTS};
-use libc::STDOUT_FILENO;
+use std::io;
 
 // A record: its number, its kind, and the part that came out different, or `PARTS`.
 #[derive(Clone, Copy)]
@@ -62,27 +62,26 @@ impl Tally {
     }
 
     // How many differ, the first of them, and whether the file was one of stored cases to its end.
-    pub fn print(self, end: usize) {
+    pub fn print(self, rt: &impl Print, end: usize) -> io::Result<()> {
         let next = self.next;
-        print_count(b"different ", self.different);
+        print_count(rt, b"different ", self.different)?;
         if self.different > 0 {
-            self.first.print();
+            self.first.print(rt)?;
         }
         if next.lost || next.at != end {
-            print(b"malformed\n");
+            rt.write_all(b"malformed\n")?;
         }
+        Ok(())
     }
 }
 
 impl Found {
-    fn print(self) {
-        print(b"first ");
-        io::print_decimal(STDOUT_FILENO, self.number as u64);
-        print(b" ");
-        print_kind(self.kind as usize);
-        print(b" ");
-        print_part(self.part);
-        print(b"\n");
+    fn print(self, rt: &impl Print) -> io::Result<()> {
+        print!(rt; "first {} ", self.number)?;
+        print_kind(rt, self.kind as usize)?;
+        rt.write_all(b" ")?;
+        print_part(rt, self.part)?;
+        rt.write_all(b"\n")
     }
 }
 
@@ -90,49 +89,45 @@ fn one_more(n: u64) -> u64 {
     if n < u64::MAX { n + 1 } else { n }
 }
 
-fn print(text: &[u8]) {
-    io::write_all(STDOUT_FILENO, text);
-}
-
-fn print_count(name: &[u8], n: u64) {
-    print(name);
-    io::print_decimal(STDOUT_FILENO, n);
-    print(b"\n");
+fn print_count(rt: &impl Print, name: &[u8], n: u64) -> io::Result<()> {
+    rt.write_all(name)?;
+    println!(rt; "{n}")
 }
 
 // One of the words, counted from 0.
-fn print_word(words: &[u8], number: usize) {
+fn print_word(rt: &impl Print, words: &[u8], number: usize) -> io::Result<()> {
     let mut ahead = number;
-    let mut i = 0;
-    while i < words.len() {
+    for i in 0..words.len() {
         if words[i] == b' ' {
             if ahead == 0 {
-                return;
+                return Ok(());
             }
             ahead -= 1;
         } else if ahead == 0 {
-            print(&words[i..i + 1]);
+            rt.write_all(&words[i..i + 1])?;
         }
-        i += 1;
     }
+    Ok(())
 }
 
 // What differs in a part that is expected.
-fn print_part(part: usize) {
+fn print_part(rt: &impl Print, part: usize) -> io::Result<()> {
     if ANSWER <= part {
-        print_word(b"answer bytes state totals list reasons", part - ANSWER);
+        print_word(rt, b"answer bytes state totals list reasons", part - ANSWER)?;
     }
+    Ok(())
 }
 
-fn print_kind(kind: usize) {
+fn print_kind(rt: &impl Print, kind: usize) -> io::Result<()> {
     print_word(
+        rt,
         b"none prepare input output run join ticks wave_write wave_read \
           index input_indexed output_indexed bays_new bay_input bay_output \
           meter_new meter_input meter_output prepare_fast clean why check why_run \
           text_read text_write text_line_of_rule text_name_of_signal \
           text_name_of_clock text_name_of_location",
         kind,
-    );
+    )
 }
 
 // One record more of the kind with the number. A number that is no kind's is not counted.
@@ -144,11 +139,10 @@ pub fn count(counts: &mut [u64; KINDS], number: u8) {
 }
 
 // A line for each kind.
-pub fn print_counts(counts: &[u64; KINDS]) {
-    let mut kind = 1;
-    while kind < KINDS {
-        print_kind(kind);
-        print_count(b" ", counts[kind]);
-        kind += 1;
+pub fn print_counts(rt: &impl Print, counts: &[u64; KINDS]) -> io::Result<()> {
+    for kind in 1..KINDS {
+        print_kind(rt, kind)?;
+        print_count(rt, b" ", counts[kind])?;
     }
+    Ok(())
 }
