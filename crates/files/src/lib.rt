@@ -13,7 +13,7 @@ use std::{fs, io, str};
 use texts::put_bytes;
 
 // The longest name of a file, and one byte more.
-const NAME: usize = 4096;
+pub const NAME: usize = 4096;
 
 // Names of files are text here, as they are in `std`.
 fn text_of(path: &[u8]) -> io::Result<&str> {

@@ -1,14 +1,15 @@
 // Prints the text of a policy file: `show FILE`.
 #![tactic(auto)]
 
-use libc::STDERR_FILENO;
+use files::NAME;
+use files::words::{word, word_count};
 
-fn main() {
-    if os::arg_count() != 2 {
-        io::write_all(STDERR_FILENO, b"usage: show FILE\n");
+fn main(rt: HostRuntime) {
+    if word_count(&rt) != 2 {
+        let _ = rt.eprintln("usage: show FILE");
         return;
     }
-    let mut path = io::buffer();
-    let length = os::arg(1, &mut path);
-    scribe::show_file(&path[..length]);
+    let mut path = [0u8; NAME];
+    let length = word(&rt, 1, &mut path);
+    scribe::show_file(&rt, &path[..length]);
 }

@@ -1,14 +1,16 @@
 // Reads what `enforce` reads, and writes what the enforcer releases as a file for wave viewers: `wave [READING]`.
 #![tactic(auto)]
 
-use libc::{STDIN_FILENO, STDOUT_FILENO};
+use files::faults::tell;
+use files::read_full;
+use files::words::{word, word_count};
 
-fn main() {
-    let mut word = [0u8; 16];
-    let digits = os::arg(1, &mut word);
-    let reading = readings::reading_told(os::arg_count(), &word[..digits]);
+fn main(rt: HostRuntime) {
+    let mut digits = [0u8; 16];
+    let length = word(&rt, 1, &mut digits);
+    let reading = readings::reading_told(word_count(&rt), &digits[..length]);
     let mut input = [0u8; frames::INPUT];
-    let read = io::read_full(STDIN_FILENO, &mut input);
+    let (read, _) = read_full(&mut rt.stdin(), &mut input);
     let mut marks = [0u8; console::MARKS];
     let mut released = [0u8; frames::EVENTS];
     let mut text = [0u8; viewer::TEXT];
@@ -19,8 +21,7 @@ fn main() {
         &mut released,
         &mut text,
     );
-    let is_written = io::write_all(STDOUT_FILENO, &text[..written]);
-    if !is_written {
-        os::fail(b"wave: standard output");
+    if let Err(error) = rt.write_all(&text[..written]) {
+        tell(&rt, b"wave: standard output", error);
     }
 }
