@@ -6,23 +6,26 @@ mod bodies;
 mod calls;
 mod records;
 
-use libc::STDOUT_FILENO;
+use files::faults::tell;
+use files::{open_read, read_full};
+use std::io;
 
 // Reads a file of stored cases, and writes what was found.
-fn report(path: &[u8]) {
-    let file = os::open_read(path);
-    if file < 0 {
-        os::fail(path);
-        return;
-    }
+fn report(rt: &HostRuntime, path: &[u8]) -> io::Result<()> {
+    let mut file = match open_read(rt, path) {
+        Ok(file) => file,
+        Err(error) => {
+            tell(rt, path, error);
+            return Ok(());
+        }
+    };
     let mut cases = [0u8; 300000];
-    let n = io::read_full(file, &mut cases);
-    libc::close(file);
-    records::report(&cases[..n]);
+    let (n, _) = read_full(&mut file, &mut cases);
+    records::report(rt, &cases[..n])
 }
 
-fn main() {
-    report(b"cases");
-    io::write_all(STDOUT_FILENO, b"wrong expectations\n");
-    report(b"wrong");
+fn main(rt: HostRuntime) -> io::Result<()> {
+    report(&rt, b"cases")?;
+    rt.write_all(b"wrong expectations\n")?;
+    report(&rt, b"wrong")
 }

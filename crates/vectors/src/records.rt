@@ -1,5 +1,6 @@
 // The records of a file, one after the other.
 use crate::bodies::body;
+use std::io;
 use stored_cases::numbers::Cursor;
 use stored_cases::parts::{ABSENT, KINDS, PARTS, find_parts};
 use stored_cases::tally::{Found, Tally, count, print_counts};
@@ -40,16 +41,17 @@ fn record(cases: &[u8], counts: &mut [u64; KINDS], tally: Tally, number: u32) ->
 // All the records.
 fn tallied(cases: &[u8], counts: &mut [u64; KINDS], start: Cursor, total: u32) -> Tally {
     let mut tally = Tally::new(start);
-    let mut i = 0;
-    while i < total && !tally.is_lost() {
+    for i in 0..total {
+        if tally.is_lost() {
+            break;
+        }
         tally = record(cases, counts, tally, i);
-        i += 1;
     }
     tally
 }
 
 // Goes through the file, which begins with `GPV2` and the number of its records, and writes what was found.
-pub(crate) fn report(cases: &[u8]) {
+pub(crate) fn report(rt: &impl Print, cases: &[u8]) -> io::Result<()> {
     let magic = Cursor::new(0).word(cases);
     let next = magic.next;
     let total = next.word(cases);
@@ -61,6 +63,6 @@ pub(crate) fn report(cases: &[u8]) {
     };
     let mut counts = [0u64; KINDS];
     let tally = tallied(cases, &mut counts, start, total.value);
-    print_counts(&counts);
-    tally.print(cases.len());
+    print_counts(rt, &counts)?;
+    tally.print(rt, cases.len())
 }
