@@ -4,16 +4,14 @@ ghost use Rattle.groovepawn.specs.Bays.{NewCall, BayInputCall, BayOutputCall};
 use crate::answer_word;
 
 // Refusals: 25.
-#[unsafe(no_mangle)]
-pub extern "C" fn groovepawn_bays_new(states: &mut [u16]) -> u32
+pub fn groovepawn_bays_new(states: &mut [u16]) -> u32
     ensures { NewCall states.old result states.new }
 {
     bays::bays_new(states) as u32
 }
 
 // Refusals: 22, 1 to 10, 24, 16, 15, 17.
-#[unsafe(no_mangle)]
-pub extern "C" fn groovepawn_bay_input(
+pub fn groovepawn_bay_input(
     reading: u8,
     file: &[u8],
     marks: &[u8],
@@ -27,8 +25,7 @@ pub extern "C" fn groovepawn_bay_input(
 }
 
 // Refusals: 22, 1 to 10, 24, 16, 15, 17. With a refusal the list stays.
-#[unsafe(no_mangle)]
-pub extern "C" fn groovepawn_bay_output(
+pub fn groovepawn_bay_output(
     reading: u8,
     file: &[u8],
     marks: &[u8],

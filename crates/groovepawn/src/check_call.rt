@@ -4,8 +4,7 @@ ghost use Rattle.groovepawn.specs.Check.{CheckCall};
 use policy::check;
 
 // Refusals 1 to 9, or the number of states.
-#[unsafe(no_mangle)]
-pub extern "C" fn groovepawn_check(file: &[u8]) -> u64
+pub fn groovepawn_check(file: &[u8]) -> u64
     ensures { CheckCall file.now result }
 {
     let checked = check(file);

@@ -4,13 +4,7 @@ ghost use Rattle.groovepawn.specs.Clean.{CleanCall};
 use cleaning::Cleaned;
 
 // Refusals: 22, 1 to 9, 14 for either slice.
-#[unsafe(no_mangle)]
-pub extern "C" fn groovepawn_clean(
-    reading: u8,
-    file: &[u8],
-    cleaned: &mut [u8],
-    struck: &mut [u8],
-) -> u64
+pub fn groovepawn_clean(reading: u8, file: &[u8], cleaned: &mut [u8], struck: &mut [u8]) -> u64
     ensures { CleanCall reading file.now cleaned.old struck.old result cleaned.new struck.new }
 {
     match cleaning::clean(reading, file, cleaned, struck) {

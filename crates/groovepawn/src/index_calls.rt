@@ -25,16 +25,14 @@ fn odd_indexed(reading: u8, file: &[u8], index: &[u16], marks: &[u8]) -> u8
 }
 
 // Refusals: 1 to 9, 14.
-#[unsafe(no_mangle)]
-pub extern "C" fn groovepawn_index(file: &[u8], index: &mut [u16]) -> u32
+pub fn groovepawn_index(file: &[u8], index: &mut [u16]) -> u32
     ensures { IndexCall file.now index.old result index.new }
 {
     build(file, index) as u32
 }
 
 // Refusals: 22, 1 to 9, 28, 10, 16, 15, 17.
-#[unsafe(no_mangle)]
-pub extern "C" fn groovepawn_input_indexed(
+pub fn groovepawn_input_indexed(
     reading: u8,
     file: &[u8],
     index: &[u16],
@@ -51,8 +49,7 @@ pub extern "C" fn groovepawn_input_indexed(
 }
 
 // Refusals: 22, 1 to 9, 28, 10, 16, 15, 17. With a refusal the state stays.
-#[unsafe(no_mangle)]
-pub extern "C" fn groovepawn_output_indexed(
+pub fn groovepawn_output_indexed(
     reading: u8,
     file: &[u8],
     index: &[u16],

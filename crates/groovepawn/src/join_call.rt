@@ -4,8 +4,7 @@ ghost use Rattle.groovepawn.specs.Calls.{JoinCall};
 use join::Joined;
 
 // Refusals: 1 to 9 of the first file, then of the second, 12, 13, 14.
-#[unsafe(no_mangle)]
-pub extern "C" fn groovepawn_join(a: &[u8], b: &[u8], out: &mut [u8]) -> u64
+pub fn groovepawn_join(a: &[u8], b: &[u8], out: &mut [u8]) -> u64
     ensures { JoinCall a.now b.now out.old result out.new }
 {
     match join::join(a, b, out) {

@@ -76,22 +76,14 @@ fn lend(given: State, reading: u8, file: &[u8], marks: &[u8], x: u8, y: u8) -> O
 }
 
 // Refusals: 22, 1 to 10, 11: with 11 the marks are written as with no refusal.
-#[unsafe(no_mangle)]
-pub extern "C" fn groovepawn_prepare(reading: u8, file: &[u8], marks: &mut [u8]) -> u64
+pub fn groovepawn_prepare(reading: u8, file: &[u8], marks: &mut [u8]) -> u64
     ensures { PrepareCall reading file.now marks.old result marks.new }
 {
     summary_word(prepare::prepare(reading, file, marks))
 }
 
 // Refusals: 22, 1 to 10, 16 (also for a state that is not five numbers), 15, 17.
-#[unsafe(no_mangle)]
-pub extern "C" fn groovepawn_input(
-    reading: u8,
-    file: &[u8],
-    marks: &[u8],
-    state: &[u16],
-    x: u8,
-) -> u32
+pub fn groovepawn_input(reading: u8, file: &[u8], marks: &[u8], state: &[u16], x: u8) -> u32
     ensures { InputCall reading file.now marks.now state.now x result }
 {
     if state.len() != STATE_NUMBERS {
@@ -101,8 +93,7 @@ pub extern "C" fn groovepawn_input(
 }
 
 // Refusals: 22, 1 to 10, 16, 15, 17. With a refusal the state stays.
-#[unsafe(no_mangle)]
-pub extern "C" fn groovepawn_output(
+pub fn groovepawn_output(
     reading: u8,
     file: &[u8],
     marks: &[u8],
@@ -124,8 +115,7 @@ pub extern "C" fn groovepawn_output(
 }
 
 // Refusals: 22, 1 to 10, 14, 16, 15, 17. Only 17 leaves events released, and the state there.
-#[unsafe(no_mangle)]
-pub extern "C" fn groovepawn_run(
+pub fn groovepawn_run(
     reading: u8,
     file: &[u8],
     marks: &[u8],

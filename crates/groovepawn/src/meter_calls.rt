@@ -4,8 +4,7 @@ ghost use Rattle.groovepawn.specs.Meter.{MeterNewCall, MeterInputCall, MeterOutp
 use crate::answer_word;
 
 // Refusals: 14.
-#[unsafe(no_mangle)]
-pub extern "C" fn groovepawn_meter_new(
+pub fn groovepawn_meter_new(
     station: &mut [u16],
     totals: &mut [u32],
     reading_of_register: u16,
@@ -16,8 +15,7 @@ pub extern "C" fn groovepawn_meter_new(
 }
 
 // Refusals: 22, 1 to 9, 26, 10, 16, 15, 17.
-#[unsafe(no_mangle)]
-pub extern "C" fn groovepawn_meter_input(
+pub fn groovepawn_meter_input(
     reading: u8,
     file: &[u8],
     marks: &[u8],
@@ -31,8 +29,7 @@ pub extern "C" fn groovepawn_meter_input(
 }
 
 // Refusals: 22, 1 to 9, 26, 10, 14, 16, 15, 17, 27. With a refusal both slices stay.
-#[unsafe(no_mangle)]
-pub extern "C" fn groovepawn_meter_output(
+pub fn groovepawn_meter_output(
     reading: u8,
     file: &[u8],
     marks: &[u8],

@@ -4,8 +4,7 @@ ghost use Rattle.groovepawn.specs.Fast.{FastCall};
 use crate::summary_word;
 
 // Refusals: 22, 1 to 10, 23, 11: with 11 the marks are written as with no refusal.
-#[unsafe(no_mangle)]
-pub extern "C" fn groovepawn_prepare_fast(
+pub fn groovepawn_prepare_fast(
     reading: u8,
     file: &[u8],
     marks: &mut [u8],
@@ -15,7 +14,7 @@ pub extern "C" fn groovepawn_prepare_fast(
     bound: &mut [u16],
     place: &mut [u16],
 ) -> u64
-    ensures { FastCall reading file.now marks.old (record { stack = stack.entry.now; from = from.old; ways = ways.old; bound = bound.old; place = place.old }) result marks.new (record { stack = stack.exit.now; from = from.new; ways = ways.new; bound = bound.new; place = place.new }) }
+    ensures { FastCall reading file.now marks.old (record { stack = stack.old; from = from.old; ways = ways.old; bound = bound.old; place = place.old }) result marks.new (record { stack = stack.new; from = from.new; ways = ways.new; bound = bound.new; place = place.new }) }
 {
     summary_word(fast::prepare_fast(reading, file, marks, stack, from, ways, bound, place))
 }

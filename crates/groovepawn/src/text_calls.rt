@@ -7,8 +7,7 @@ use packing::pack_place;
 use pointing::NameAt;
 
 // Refusals in a line: 4, 7, 30 to 34. Then, of the whole text: 2, 9, 14.
-#[unsafe(no_mangle)]
-pub extern "C" fn groovepawn_text_read(text: &[u8], file: &mut [u8]) -> u64
+pub fn groovepawn_text_read(text: &[u8], file: &mut [u8]) -> u64
     ensures { TextReadCall text.now file.old result file.new }
 {
     let read = compiling::read(text, file);
@@ -16,8 +15,7 @@ pub extern "C" fn groovepawn_text_read(text: &[u8], file: &mut [u8]) -> u64
 }
 
 // Refusals: 1 to 9, 14.
-#[unsafe(no_mangle)]
-pub extern "C" fn groovepawn_text_write(file: &[u8], text: &mut [u8]) -> u64
+pub fn groovepawn_text_write(file: &[u8], text: &mut [u8]) -> u64
     ensures { TextWriteCall file.now text.old result text.new }
 {
     let written = showing::write(file, text);
@@ -25,8 +23,7 @@ pub extern "C" fn groovepawn_text_write(file: &[u8], text: &mut [u8]) -> u64
 }
 
 // Refusals in a line: 4, 7, 30 to 34. Then, of the whole text: 2, 9, 35.
-#[unsafe(no_mangle)]
-pub extern "C" fn groovepawn_text_line_of_rule(text: &[u8], rule: u32) -> u64
+pub fn groovepawn_text_line_of_rule(text: &[u8], rule: u32) -> u64
     ensures { TextRuleCall text.now rule result }
 {
     let found = pointing::line_of_rule(text, rule as usize);
@@ -47,24 +44,21 @@ fn name_word(found: NameAt) -> u64
 }
 
 // The inputs first, then the outputs. Refusals as for a rule.
-#[unsafe(no_mangle)]
-pub extern "C" fn groovepawn_text_name_of_signal(text: &[u8], signal: u32) -> u64
+pub fn groovepawn_text_name_of_signal(text: &[u8], signal: u32) -> u64
     ensures { TextNameCall 0 text.now signal result }
 {
     name_word(pointing::name_of_signal(text, signal as usize))
 }
 
 // Refusals as for a rule.
-#[unsafe(no_mangle)]
-pub extern "C" fn groovepawn_text_name_of_clock(text: &[u8], clock: u32) -> u64
+pub fn groovepawn_text_name_of_clock(text: &[u8], clock: u32) -> u64
     ensures { TextNameCall 1 text.now clock result }
 {
     name_word(pointing::name_of_clock(text, clock as usize))
 }
 
 // Refusals as for a rule.
-#[unsafe(no_mangle)]
-pub extern "C" fn groovepawn_text_name_of_location(text: &[u8], location: u32) -> u64
+pub fn groovepawn_text_name_of_location(text: &[u8], location: u32) -> u64
     ensures { TextNameCall 2 text.now location result }
 {
     name_word(pointing::name_of_location(text, location as usize))

@@ -4,8 +4,7 @@ ghost use Rattle.groovepawn.specs.Calls.{TicksCall};
 use ticks::{Conversion, Milliseconds, Rounding};
 
 // Refusals: 18, 19.
-#[unsafe(no_mangle)]
-pub extern "C" fn groovepawn_ticks(milliseconds: u32, tick_length: u32, up: u8) -> u32
+pub fn groovepawn_ticks(milliseconds: u32, tick_length: u32, up: u8) -> u32
     ensures { TicksCall milliseconds tick_length up result }
 {
     let rounding = if up == 0 {

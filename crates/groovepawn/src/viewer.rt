@@ -4,8 +4,7 @@ ghost use Rattle.groovepawn.specs.Waves.{WaveWriteCall, WaveReadCall};
 use waves::{Taken, Written};
 
 // Refusals: 1 to 9, 29, 15, 14.
-#[unsafe(no_mangle)]
-pub extern "C" fn groovepawn_wave_write(file: &[u8], events: &[u8], text: &mut [u8]) -> u64
+pub fn groovepawn_wave_write(file: &[u8], events: &[u8], text: &mut [u8]) -> u64
     ensures { WaveWriteCall file.now events.now text.old result text.new }
 {
     match waves::write(file, events, text) {
@@ -15,8 +14,7 @@ pub extern "C" fn groovepawn_wave_write(file: &[u8], events: &[u8], text: &mut [
 }
 
 // Refusals: 1 to 9, 21, 14.
-#[unsafe(no_mangle)]
-pub extern "C" fn groovepawn_wave_read(file: &[u8], text: &[u8], events: &mut [u8]) -> u64
+pub fn groovepawn_wave_read(file: &[u8], text: &[u8], events: &mut [u8]) -> u64
     ensures { WaveReadCall file.now text.now events.old result events.new }
 {
     match waves::take(file, text, events) {

@@ -8,15 +8,7 @@ use reasons::{room_refusal, shortest, why, why_run, word};
 use stepping::five::{STATE_NUMBERS, put_state, state_of};
 
 // Refusals: 22, 1 to 10, 16, 20, 15, 17.
-#[unsafe(no_mangle)]
-pub extern "C" fn groovepawn_why(
-    reading: u8,
-    file: &[u8],
-    marks: &[u8],
-    state: &[u16],
-    x: u8,
-    y: u8,
-) -> u64
+pub fn groovepawn_why(reading: u8, file: &[u8], marks: &[u8], state: &[u16], x: u8, y: u8) -> u64
     ensures { WhyCall reading file.now marks.now state.now x y result }
 {
     if state.len() != STATE_NUMBERS {
@@ -52,8 +44,7 @@ fn odd_why_run(
 }
 
 // Refusals 22, 1 to 10, 23, 14, 16, 20, 15; or how many events are explained.
-#[unsafe(no_mangle)]
-pub extern "C" fn groovepawn_why_run(
+pub fn groovepawn_why_run(
     reading: u8,
     file: &[u8],
     marks: &[u8],
@@ -69,7 +60,7 @@ pub extern "C" fn groovepawn_why_run(
     bound: &mut [u16],
     place: &mut [u16],
 ) -> u64
-    ensures { WhyRunCall reading file.now marks.now state.old events.now words.old (record { ticks = ticks.entry.now; rests = rests.old; prepared = prepared.old; work = record { stack = stack.entry.now; from = from.old; ways = ways.old; bound = bound.old; place = place.old } }) result state.new words.new (record { ticks = ticks.exit.now; rests = rests.new; prepared = prepared.new; work = record { stack = stack.exit.now; from = from.new; ways = ways.new; bound = bound.new; place = place.new } }) }
+    ensures { WhyRunCall reading file.now marks.now state.old events.now words.old (record { ticks = ticks.old; rests = rests.old; prepared = prepared.old; work = record { stack = stack.old; from = from.old; ways = ways.old; bound = bound.old; place = place.old } }) result state.new words.new (record { ticks = ticks.new; rests = rests.new; prepared = prepared.new; work = record { stack = stack.new; from = from.new; ways = ways.new; bound = bound.new; place = place.new } }) }
 {
     if state.len() != STATE_NUMBERS {
         let work = shortest(
