@@ -8,11 +8,11 @@ all: library desk
 
 # The library for a controller in C.
 library:
-	rt staticlib groovepawn
+	tools/build.sh groovepawn
 
 # The program `groovepawn`, over the library that is there.
 desk:
-	cd rust && GROOVEPAWN_KIT="$$(rt --version 2>/dev/null || echo not named)" cargo build --release --offline
+	cd rust && GROOVEPAWN_KIT="$$(rt version 2>/dev/null || echo not named)" cargo build --release --offline
 
 # Puts library, headers, pkg-config file, program and man page where they are found. What was not built is not there: `make` first.
 install:

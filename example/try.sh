@@ -1,7 +1,7 @@
 #!/usr/bin/env bash
 # Builds each example and compares what it prints with the blocks of example/README.md.
 #
-#     rt staticlib groovepawn && example/try.sh
+#     tools/build.sh groovepawn && example/try.sh
 #
 # Another compiler: CC=clang example/try.sh. Another archive: example/try.sh path/to/libgroovepawn.a
 set -euo pipefail

@@ -10,13 +10,13 @@ cd "$(dirname "$0")/.."
 names=(gate edits edges lists header examples documents desk station playground independent bench processors)
 declare -A does=(
     [gate]='.ci/run'
-    [edits]='python3 tools/must-fail-logs.py'
+    [edits]='python3 tools/must-fail-logs.py target/check/gate'
     [edges]='python3 tools/crate-edges.py'
     [lists]='python3 tools/reading-list.py'
     [header]='python3 tools/check-header.py'
-    [examples]='rt staticlib groovepawn && example/try.sh'
-    [documents]='rt staticlib groovepawn && tools/check-documents.sh && tools/spoil-documents.py'
-    [desk]='rt check enforce wave why clean && rt staticlib groovepawn && cd rust && cargo test --offline'
+    [examples]='tools/build.sh groovepawn && example/try.sh'
+    [documents]='tools/build.sh groovepawn enforce wave why clean compile show && tools/check-documents.sh && tools/spoil-documents.py'
+    [desk]='tools/build.sh groovepawn enforce wave why clean compile show && cd rust && cargo test --offline'
     [station]='make desk && example/station/play.sh | diff example/station/prints -'
     [playground]='make --no-print-directory playground-check'
     [independent]='cd independent && cargo test --offline'
@@ -35,7 +35,6 @@ for name in "${@:-${names[@]}}"; do
     fi
     echo "$name: ${does[$name]}" >&2
     begun=$SECONDS
-    # The gate removes target/, so its log is put there afterwards.
     log=$(mktemp)
     if (eval "${does[$name]}") >"$log" 2>&1; then
         result=passed

@@ -5,7 +5,7 @@
 
 - groovepawn.h and groovepawn_policy.h compile without a warning, with gcc and clang, as C99 to C17 and as C++98 to C++20.
 - Each compiler warns in each of these where an answer is thrown away.
-- groovepawn.h and groovepawn.rs declare the functions of crates/groovepawn, and these alone, with their parameters; their constants are the same.
+- groovepawn.h and groovepawn.rs declare the functions of crates/groovepawn_c, and these alone, with their parameters; their constants are the same.
 - The stack that groovepawn.h names for a function is that of docs/C-INTERFACE.md.
 
 Other compilers: CHECK_HEADER_WITH="gcc-12 clang-15" tools/check-header.py
@@ -42,7 +42,7 @@ header, policy_header, rust, pages = (
 
 def from_code():
     out = {}
-    for path in sorted(glob.glob("crates/groovepawn/src/*.rt")):
+    for path in sorted(glob.glob("crates/groovepawn_c/src/*.rt")):
         for name, parameters, result in re.findall(r'pub extern "C" fn (\w+)\(([^)]*)\) -> (\w+)', read(path)):
             shape = []
             for parameter in filter(None, (each.strip() for each in parameters.split(","))):
@@ -100,9 +100,9 @@ def check_functions():
             if name not in declared:
                 faults.append(f"{where} does not declare {name}")
             elif name not in code:
-                faults.append(f"{where} declares {name}, which crates/groovepawn has not")
+                faults.append(f"{where} declares {name}, which crates/groovepawn_c has not")
             elif kinds(code[name]) != kinds(declared[name]):
-                faults.append(f"{where}: {name} takes and returns {kinds(declared[name])}, and in crates/groovepawn {kinds(code[name])}")
+                faults.append(f"{where}: {name} takes and returns {kinds(declared[name])}, and in crates/groovepawn_c {kinds(code[name])}")
     print(f"{len(code)} functions")
     return code
 

@@ -23,7 +23,7 @@ def sources(crate):
 
 def names(text, crate):
     """Whether the text names the crate: in a path of the specs, of the code, or in a `use`."""
-    return re.search(rf"Rattle·{crate}\b|\b{crate}::|\buse {crate}\b", text) is not None
+    return re.search(rf"Rattle\.{crate}\b|\b{crate}::|\buse {crate}\b", text) is not None
 
 
 def main():
@@ -32,7 +32,7 @@ def main():
         if line.startswith("#") or ":" not in line:
             continue
         crate, below = line.split(":")
-        crate = crate.strip()
+        crate = crate.split()[0]
         text = sources(crate)
         unused += [f"{crate}: {other}" for other in below.split() if not names(text, other) and (crate, other) not in HANDED_ON]
     for edge in unused:

@@ -60,39 +60,40 @@ fail() {
 built=target/staticlib/libgroovepawn.a
 kept=target/cross/kept
 header=include/groovepawn.h
-kit=$(dirname "$(dirname "$(rt doc)")")
-tools=$kit/on/$(uname -m)/toolchain/bin
+kit=$(dirname "$(rt doc)")
+tools=$kit/toolchain/bin
 clang=$tools/clang
 ar=$tools/llvm-ar
 work=$(mktemp -d)
 trap 'rm -rf "$work"' EXIT
 
-# Links to what is in folder $1, but for $3, in the new folder $2.
+# Links to what is in folder $1, but for what the other words name, in the new folder $2.
 mirror() {
-    mkdir -p "$2"
-    for entry in "$1"/*; do
-        [[ $(basename "$entry") == "$3" ]] || ln -s "$entry" "$2"
+    local from=$1 to=$2 entry
+    shift 2
+    mkdir -p "$to"
+    for entry in "$from"/*; do
+        [[ " $* " == *" $(basename "$entry") "* ]] || ln -s "$entry" "$to"
     done
 }
 
 # Builds the archive by a kit like the given one, whose clang keeps the module and
-# the options that it is called with.
+# the options that it is called with. The kit is the folder that rt's own file is in.
 keep_module() {
-    local machine
-    machine=$(uname -m)
-    mirror "$kit" "$work/kit" on
-    mirror "$kit/on/$machine" "$work/kit/on/$machine" toolchain
-    mirror "$kit/on/$machine/toolchain" "$work/kit/on/$machine/toolchain" bin
-    mirror "$tools" "$work/kit/on/$machine/toolchain/bin" clang
-    cat >"$work/kit/on/$machine/toolchain/bin/clang" <<KEEP
+    mirror "$kit" "$work/kit" bin toolchain
+    mirror "$kit/bin" "$work/kit/bin" rt rtlib.py
+    cp "$kit/bin/rt" "$kit/bin/rtlib.py" "$work/kit/bin"
+    mirror "$kit/toolchain" "$work/kit/toolchain" bin
+    mirror "$tools" "$work/kit/toolchain/bin" clang
+    cat >"$work/kit/toolchain/bin/clang" <<KEEP
 #!/bin/sh
 cp module.bc "$work/module.bc"
 printf '%s\n' "\$@" >"$work/options"
 exec "$clang" "\$@"
 KEEP
-    chmod +x "$work/kit/on/$machine/toolchain/bin/clang"
-    rm -rf target/staticlib
-    RATTLE_HOME=$work/kit rt staticlib groovepawn >&2
+    chmod +x "$work/kit/toolchain/bin/clang"
+    rm -f crates/groovepawn_c/out/libgroovepawn_c.a
+    PATH=$work/kit/bin:$PATH tools/build.sh groovepawn >&2
     [[ -f $work/module.bc ]] || fail "the toolchain did not hand its module to clang"
     mkdir -p "$kept"
     cp "$work/module.bc" "$kept/module.bc"
@@ -107,7 +108,7 @@ is_kept() {
     mkdir -p "$again"
     cp "$kept/module.bc" "$again"
     mapfile -t options <"$kept/options"
-    (cd "$again" && "$clang" "${options[@]}" && mv module.o groovepawn.o && "$ar" rcs libgroovepawn.a groovepawn.o)
+    (cd "$again" && "$clang" "${options[@]}" && mv module.o groovepawn_c.o && "$ar" rcs libgroovepawn.a groovepawn_c.o)
     cmp -s "$again/libgroovepawn.a" "$built"
 }
 
@@ -157,6 +158,7 @@ compile() {
     rm -f "$out/libgroovepawn.a"
     "$clang" --no-default-config -Wno-override-module "--target=$triple" "${options[@]}" \
         -ffunction-sections -fdata-sections -mllvm -trap-unreachable -mllvm -no-trap-after-noreturn \
+        -mllvm -disable-machine-licm -mllvm -disable-postra-machine-licm -mllvm -sink-common-insts=false \
         ${position:+"$position"} -O3 -c -x ir "$work/module.ll" -o "$work/groovepawn.o"
     "$ar" rcs "$out/libgroovepawn.a" "$work/groovepawn.o"
     if [[ $target == wasm32 ]]; then
@@ -176,7 +178,7 @@ link_wasm() {
     "$work/wasm-ld" "${options[@]}" --export=groovepawn_input --export=groovepawn_output "$1/libgroovepawn.a" -o "$1/loop.wasm"
 }
 
-rt staticlib groovepawn >&2
+tools/build.sh groovepawn >&2
 if [[ "${targets[*]}" == x86_64-linux ]]; then
     echo "$PWD/$built"
     exit

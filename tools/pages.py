@@ -130,10 +130,10 @@ def without_rt(block, crates):
     kept = []
     for line in block.lines:
         parts = line.split(" && ")
-        while parts and parts[0].split()[:1] in (["rt"], [".ci/run"]):
+        while parts and parts[0].split()[:1] in (["rt"], [".ci/run"], ["tools/build.sh"]):
             words = parts.pop(0).split()
-            if words[:2] in (["rt", "check"], ["rt", "staticlib"]):
-                hold(block.where, all(word in crates for word in words[2:]), f"{' '.join(words)}: no such crate")
+            named = words[1:] if words[0] == "tools/build.sh" else words[2:] if words[:2] == ["rt", "ci"] else []
+            hold(block.where, all(word in crates for word in named), f"{' '.join(words)}: no such crate")
         if parts:
             kept.append(" && ".join(parts))
     return "\n".join(kept)
@@ -575,7 +575,7 @@ def main():
     target = os.path.abspath(sys.argv[1])
     archive = os.path.join(target, "staticlib", "libgroovepawn.a")
     if not os.path.exists(archive):
-        sys.exit(f"check-documents: there is no {archive}: rt staticlib groovepawn")
+        sys.exit(f"check-documents: there is no {archive}: tools/build.sh groovepawn")
     with open("crates.txt", encoding="utf-8") as file:
         crates = {line.split()[0].rstrip(":") for line in file if line.strip() and not line.startswith("#")}
     pages = ["README.md"] + sorted(os.path.relpath(path, PAGES) for path in glob.glob(os.path.join(PAGES, "docs/*.md"))) + ["example/README.md"]

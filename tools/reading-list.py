@@ -46,7 +46,7 @@ PARTS = [
 ENTRIES, NO_ENTRIES = "The public entries (demand 1)", "Public functions that are no entries"
 TOGETHER = ("tender", "Demand1")
 # The demands, and the policy that permits all, of which demand 3 speaks.
-DEMANDS = [(("tender", "Demand2"), "Demand2"), (("tender", "Demand3"), "Demand3"), (("join", "Free"), "free"), (("join", "Free"), "freeFile")]
+DEMANDS = [(("tender", "Demand2"), "Demand2"), (("tender", "Demand3"), "Demand3"), (("join", "Free"), "free"), (("join", "Free"), "free_file")]
 
 crates = {crate for crate, _ in modules} | {path.split("/")[1] for path in glob.glob("crates/*/src")}
 code = code_names()
@@ -112,7 +112,7 @@ def roots_of_parts(text):
 
 
 def order():
-    crates = [line.split(":")[0] for line in open("crates.txt") if not line.startswith("#")]
+    crates = [line.split(":")[0].split()[0] for line in open("crates.txt") if not line.startswith("#")]
     for crate in crates:
         lib = f"crates/{crate}/specs/Lib.antt"
         for name in re.findall(r"^pub mod (\S+)$", open(lib).read(), re.M) if os.path.exists(lib) else []:

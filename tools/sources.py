@@ -13,7 +13,7 @@ def sources():
 
 
 def public_functions():
-    """Each `pub fn`, with the type that it belongs to, if any. `pub(crate)` is not public."""
+    """Each `pub fn`, with the type that it belongs to, if any. `pub(crate)` is not public, and an export for C is another crate's function again."""
     out = []
     for crate, module, text in sources():
         of = None
@@ -21,7 +21,7 @@ def public_functions():
             head = re.match(r"impl (?:\w+ for )?(\w+)", line)
             if head or line.startswith("}"):
                 of = head[1] if head else None
-            function = re.match(r'\s*pub (?:extern "C" )?(?:const )?fn (\w+)', line)
+            function = re.match(r"\s*pub (?:const )?fn (\w+)", line)
             if function:
                 out.append(Function(crate, module, of, function[1]))
     return out

@@ -16,7 +16,7 @@ class Module:
         self.length = text.count("\n")
         self.names, self.aliases, self.decls, self.makes, self.fields, self.telescopes = {}, {}, {}, {}, {}, {}
         for use in re.finditer(r"^(?:pub )?use ([^\s{]+?)(?:\.\{([^}]*)\})?(?: as (\S+))?$", "\n".join(self.lines), re.M):
-            home = re.match(r"Rattle·([a-z]+)(?:·specs)?\.specs\.(.+)$", use[1])
+            home = re.match(r"Rattle\.(\w+)\.specs\.(.+)$", use[1])
             home = home and (home[1], home[2])
             for name in (use[2] or "").split(","):
                 old, _, new = name.strip().partition(" as ")
@@ -125,8 +125,8 @@ def rests_on(key, name):
             bound |= {word for word in WORD.findall(clause[1]) if word.islower()}
         words = {word for word in WORD.findall(line) if word not in bound and not word.startswith(".")}
         words = {word for word in words if not is_letter(word) or (word in module.decls and set(module.decls[word][3]) <= set(here))}
-        for known in [known for known in list(module.decls) + list(module.names) if "_" in known]:
-            if all(piece in words for piece in known.split("_") if piece):
+        for known in [known for known in list(module.decls) + list(module.names) if "◌" in known]:
+            if all(piece in words for piece in known.split("◌") if piece):
                 words.add(known)
         out |= {found(module, word) for word in words}
     return out - {None, (key, name)}

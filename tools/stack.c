@@ -2,7 +2,7 @@
  * Reads how much stack each function of the library uses: each is called on a stack of its own that was painted before, and the bytes no longer
  * painted are counted, less those of a call that does nothing.
  *
- *     rt staticlib groovepawn
+ *     tools/build.sh groovepawn
  *     cc -O2 -Iinclude tools/stack.c target/staticlib/libgroovepawn.a -o stack -pthread -Wl,-z,now && ./stack
  *
  * Symbols are bound at the start: else the first call of memcpy would be charged with the stack of the linker that looks for it.

@@ -1,7 +1,7 @@
 #!/usr/bin/env python3
 """Writes how much stack each C function was seen to use, into include/groovepawn.h and docs/C-INTERFACE.md.
 
-    rt staticlib groovepawn && tools/write-stack.py
+    tools/build.sh groovepawn && tools/write-stack.py
 
 It builds tools/stack.c with the archive and runs it. Another archive: tools/write-stack.py path/to/libgroovepawn.a
 """

@@ -18,7 +18,7 @@ fn proved(name: &str) -> Command {
     };
     let path = folder.join(name);
     let words =
-        "`rt check enforce why wave clean compile show` makes it, or GROOVEPAWN_PROGRAMS names its folder";
+        "`tools/build.sh enforce why wave clean compile show` makes it, or GROOVEPAWN_PROGRAMS names its folder";
     assert!(path.is_file(), "{} is not there: {words}", path.display());
     Command::new(path)
 }
