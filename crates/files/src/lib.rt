@@ -4,7 +4,8 @@
 pub mod faults;
 pub mod words;
 
-ghost use Rattle.std.specs.Prelude.{◌≡◌, ◌≤◌, length, take};
+ghost use Rattle.std.specs.Prelude.{◌≡◌, ◌≤◌, ◌<◌, length, take, OnOk};
+ghost use Rattle.std.specs.Io.KnownBytes.{Consumes, IsAtEnd};
 
 use faults::tell;
 use std::fs::{File, OpenOptions};
@@ -32,6 +33,8 @@ pub fn open_read(rt: &HostRuntime, path: &[u8]) -> io::Result<File> {
 pub fn read_full<R: Read>(input: &mut R, bytes: &mut [u8]) -> (usize, io::Result<()>)
     ensures room { result.0 ≤ length bytes.new }
     ensures front { result.0 ≡ length (take result.0 bytes.new) }
+    ensures read { Consumes (R.remaining input.old) (R.remaining input.new) (take result.0 bytes.new) }
+    ensures whole { OnOk result.1 (result.0 < length bytes.new → IsAtEnd (R.remaining input.new)) }
 {
     let mut done = 0;
     while done < bytes.len() {
