@@ -5,25 +5,18 @@ use borrow.Author.Rules.{rules}
 use Rattle.groovepawn.proofs.groovepawn_output.Statement.{statement}
 use Rattle.groovepawn.proofs.groovepawn_output.Tie as tie
 
-returns : tie.Need-returns
+returns : tie.Need-returns-then-state-ne-STATE_NUMBERS
 unfolding output_word output_state
-returns c = let n = ne_eqb _ 5 c.before.if1.true in record { said = rw n c.odd-refusal.ensures; next = rw n }
+returns c = let n = ne_eqb _ 5 c.if-state-ne-STATE_NUMBERS.true in record { said = rw n c.odd_refusal.ensures; next = rw n }
 
-returns-2 : tie.Need-returns-2
+returns-2 : tie.Need-returns
 unfolding output_word output_state
 returns-2 c =
-    let p = c.before.before.before in
-    let o = p.before.before.before in
-    let s = o.before in
-    let five = eq-eqb _ 5 s.before.before.if1.false in
+    let five = eq-eqb _ 5 c.if-state-ne-STATE_NUMBERS.false in
     record {
-      said = rw (five, ← s.state-of.ensures, ← o.lend.ensures.said) c.answer_word.ensures;
-      next = rw (five, ← s.state-of.ensures, ← o.lend.ensures.said) p.put-state.ensures;
+      said = rw (five, ← c.state_of-given.ensures, ← c.lend-output.ensures.said) c.answer_word.ensures;
+      next = rw (five, ← c.state_of-given.ensures, ← c.lend-output.ensures.said) c.put_state.ensures;
     }
 
 pub groovepawn_output_spec : {M : Type 1} → statement M
-groovepawn_output_spec =
-    tie.close
-    (tie.spec
-    (λ c κs. search rules) (λ c. search rules) returns (λ c κs. search rules) (λ c κs. search rules) (λ c κs. search rules) (λ c κs. search rules)
-    (λ c. search rules) returns-2)
+groovepawn_output_spec = tie.close (tie.spec (λ c κs. search rules) (λ c. search rules) returns (λ c κs. search rules) (λ c κs. search rules) (λ c κs. search rules) (λ c κs. search rules) (λ c. search rules) returns-2)

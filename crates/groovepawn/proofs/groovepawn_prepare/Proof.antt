@@ -6,14 +6,14 @@ use Rattle.groovepawn.specs.Bounds.{summary_small}
 use Rattle.groovepawn.proofs.groovepawn_prepare.Statement.{statement}
 use Rattle.groovepawn.proofs.groovepawn_prepare.Tie as tie
 
-summary-word-requires : tie.Need-summary-word-requires
-summary-word-requires c κs = λ s e. summary_small _ _ _ s (sym c.before.before.prepare.ensures.said ∙ e)
+summary-word-requires : tie.Need-summary_word-requires
+summary-word-requires c κs = λ s e. summary_small _ _ _ s (sym c.prepare.ensures.said ∙ e)
 
 returns : tie.Need-returns
 unfolding prepare_word
 returns c =
-    let e = c.before.before.before.prepare.ensures in
-    record { said = c.summary-word.ensures ∙ ap summary_word e.said; marks = e.marks }
+    let e = c.prepare.ensures in
+    record { said = c.summary_word.ensures ∙ ap summary_word e.said; marks = e.marks }
 
 pub groovepawn_prepare_spec : {M : Type 1} → statement M
 groovepawn_prepare_spec = tie.close (tie.spec (λ c κs. search rules) summary-word-requires (λ c. search rules) returns)

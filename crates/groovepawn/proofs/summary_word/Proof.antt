@@ -7,17 +7,17 @@ use Rattle.groovepawn.specs.Bounds.{Small}
 use Rattle.groovepawn.proofs.summary_word.Statement.{statement}
 use Rattle.groovepawn.proofs.summary_word.Tie as tie
 
-small : (c : tie.After-prepared) → Small c.prepared.given.0.0
-small c = c.before.before.requires _ (ap prepared_said c.prepared.given.1)
+small : (c : tie.In-Gives) → Small c.in-Gives.s
+small c = c.requires _ (ap prepared_said c.in-Gives.is)
 
-pack-summary-requires : tie.Need-pack-summary-requires
-pack-summary-requires c κs = let s = small c.before in (omega (arith, s), omega (arith, s))
+pack-summary-requires : tie.Need-pack_summary-requires
+pack-summary-requires c κs = let s = small c in (omega (arith, s), omega (arith, s))
 
-returns : tie.Need-returns
-returns c = rw c.before.before.prepared.given.1 c.pack-summary.ensures
+returns : tie.Need-returns-in-Gives
+returns c = rw c.in-Gives.is c.pack_summary.ensures
 
-returns-2 : tie.Need-returns-2
-returns-2 c = rw c.before.prepared2.given.1
+returns-2 : tie.Need-returns-in-Refused
+returns-2 c = rw c.in-Refused.is
 
 pub summary_word_spec : {M : Type 1} → statement M
 summary_word_spec = tie.close (tie.spec (λ c. search rules) pack-summary-requires (λ c. search rules) (λ c. search rules) returns returns-2)

@@ -6,7 +6,7 @@ use Rattle.groovepawn.proofs.bay_calls.groovepawn_bay_input.Statement.{statement
 use Rattle.groovepawn.proofs.bay_calls.groovepawn_bay_input.Tie as tie
 
 returns : tie.Need-returns
-returns c = record { said = c.answer_word.ensures ∙ ap answer_word c.before.bay-input.ensures.said }
+returns c = record { said = c.answer_word.ensures ∙ ap answer_word c.bay_input.ensures.said }
 
 pub groovepawn_bay_input_spec : {M : Type 1} → statement M
 groovepawn_bay_input_spec = tie.close (tie.spec (λ c κs. search rules) (λ c κs. search rules) returns)

@@ -8,7 +8,7 @@ use Rattle.groovepawn.proofs.bay_calls.groovepawn_bay_output.Tie as tie
 
 returns : tie.Need-returns
 returns c =
-    let o = c.before.before.before.bay-output.ensures.said in
+    let o = c.bay_output.ensures.said in
     record {
       said = c.answer_word.ensures ∙ ap (λ (r : BayAnswer). answer_word r.answer) o;
       next = ap (λ (r : BayAnswer). r.states) o;

@@ -8,15 +8,15 @@ use Rattle.groovepawn.proofs.check_call.groovepawn_check.Statement.{statement}
 use Rattle.groovepawn.proofs.check_call.groovepawn_check.Tie as tie
 
 -- What the check answers, and how large it is.
-known : (c : tie.After-check) →
-    (c.check.result.layout.states ≤ 65536)
-    × (c.check.result.refusal + c.check.result.layout.states * 256 ≡ check_word c.before.before.args.file.now)
-known c = rw c.check.ensures.said (checked_word c.before.before.args.file.now)
+known : (c : tie.After-check-checked) →
+    (c.check-checked.result.layout.states ≤ 65536)
+    × (c.check-checked.result.refusal + c.check-checked.result.layout.states * 256 ≡ check_word c.args.file.now)
+known c = rw c.check-checked.ensures.said (checked_word c.args.file.now)
 
-mul-result : tie.Need-overflow-mul-result
+mul-result : tie.Need-overflow_mul-result
 mul-result c = omega (arith, known c.before)
 
-add-result : tie.Need-overflow-add-result
+add-result : tie.Need-overflow_add-result
 add-result c = omega (arith, known c.before)
 
 returns : tie.Need-returns

@@ -14,41 +14,35 @@ abbrev start : tie.After-clean → tie.Start
 start c = c.before.before.before.before.before.before
 
 -- The lengths are those of the entry, and they are small.
-given : (c : tie.After-l) →
-    let a = (start c.before.before.before.before.before.before).args in
-    let l = c.l.given.0.0 in
+given : (c : tie.In-Gives) →
+    let a = (start c.before.before.before.before.before).args in
+    let l = c.in-Gives.l in
     clean_of a.reading a.file.now a.cleaned.now a.struck.now ≡ gives (record { cleaned = l.cleaned; struck = l.struck })
-given c = sym c.before.before.before.before.before.before.clean.ensures.said ∙ rw c.l.given.1
+given c = sym c.clean.ensures.said ∙ rw c.in-Gives.is
 
-few : (c : tie.After-l) → let l = c.l.given.0.0 in Few (record { cleaned = l.cleaned; struck = l.struck })
+few : (c : tie.In-Gives) → let l = c.in-Gives.l in Few (record { cleaned = l.cleaned; struck = l.struck })
 few c = lengths_few _ _ _ _ _ (given c)
 
-mul-result : tie.Need-overflow-mul-result
-mul-result c = omega (arith, few c.before)
+mul-result : tie.Need-overflow_mul-result
+mul-result c = omega (arith, few c)
 
-mul-result-2 : tie.Need-overflow-mul-result-2
-mul-result-2 c = omega (arith, few c.before)
+mul-result-2 : tie.Need-overflow_mul-result-in-Gives
+mul-result-2 c = omega (arith, few c)
 
-add-result : tie.Need-overflow-add-result
-add-result c = omega (arith, few c.before)
+add-result : tie.Need-overflow_add-result
+add-result c = omega (arith, few c)
 
-returns : tie.Need-returns
+returns : tie.Need-returns-in-Gives
 unfolding clean_word
 returns c =
-    let l = c.before in
-    let e = l.before.before.before.before.before.before.clean.ensures in
-    record { said = rw (given l); cleaned = e.cleaned; struck = e.struck }
+    let e = c.clean.ensures in
+    record { said = rw (given c); cleaned = e.cleaned; struck = e.struck }
 
-returns-2 : tie.Need-returns-2
+returns-2 : tie.Need-returns-in-Refused
 unfolding clean_word
 returns-2 c =
-    let n = c.before in
-    let e = n.before.before.before.before.before.before.clean.ensures in
-    record { said = rw (← e.said, n.n.given.1); cleaned = e.cleaned; struck = e.struck }
+    let e = c.clean.ensures in
+    record { said = rw (← e.said, c.in-Refused.is); cleaned = e.cleaned; struck = e.struck }
 
 pub groovepawn_clean_spec : {M : Type 1} → statement M
-groovepawn_clean_spec =
-    tie.close
-    (tie.spec
-    (λ c κs. search rules) (λ c. search rules) mul-result mul-result-2 add-result (λ c. search rules) (λ c. search rules) (λ c. search rules)
-    (λ c. search rules) returns (λ c. search rules) (λ c. search rules) returns-2)
+groovepawn_clean_spec = tie.close (tie.spec (λ c κs. search rules) (λ c. search rules) mul-result mul-result-2 add-result (λ c. search rules) (λ c. search rules) (λ c. search rules) (λ c. search rules) returns (λ c. search rules) (λ c. search rules) returns-2)

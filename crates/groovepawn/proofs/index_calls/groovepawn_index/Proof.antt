@@ -4,7 +4,7 @@ use Rattle.groovepawn.proofs.index_calls.groovepawn_index.Statement.{statement}
 use Rattle.groovepawn.proofs.index_calls.groovepawn_index.Tie as tie
 
 returns : tie.Need-returns
-returns c = record { said = c.before.before.build.ensures.refuses; index = c.before.before.build.ensures.writes }
+returns c = record { said = c.build.ensures.refuses; index = c.build.ensures.writes }
 
 pub groovepawn_index_spec : {M : Type 1} → statement M
 groovepawn_index_spec = tie.close (tie.spec (λ c κs. search rules) (λ c. search rules) (λ c. search rules) returns)

@@ -5,19 +5,14 @@ use borrow.Author.Rules.{rules}
 use Rattle.groovepawn.proofs.index_calls.groovepawn_input_indexed.Statement.{statement}
 use Rattle.groovepawn.proofs.index_calls.groovepawn_input_indexed.Tie as tie
 
-returns : tie.Need-returns
+returns : tie.Need-returns-then-state-ne-STATE_NUMBERS
 unfolding input_indexed_word
-returns c = record { said = rw (ne_eqb _ 5 c.before.if1.true) c.odd-indexed.ensures }
+returns c = record { said = rw (ne_eqb _ 5 c.if-state-ne-STATE_NUMBERS.true) c.odd_indexed.ensures }
 
-returns-2 : tie.Need-returns-2
+returns-2 : tie.Need-returns
 unfolding input_indexed_word
 returns-2 c =
-    let i = c.before in
-    let s = i.before in
-    record { said = rw (eq-eqb _ 5 s.before.if1.false, ← s.state-of.ensures, ← i.input-indexed.ensures.said) c.answer_word.ensures }
+    record { said = rw (eq-eqb _ 5 c.if-state-ne-STATE_NUMBERS.false, ← c.state_of.ensures, ← c.input_indexed.ensures.said) c.answer_word.ensures }
 
 pub groovepawn_input_indexed_spec : {M : Type 1} → statement M
-groovepawn_input_indexed_spec =
-    tie.close
-    (tie.spec
-    (λ c κs. search rules) (λ c. search rules) returns (λ c κs. search rules) (λ c κs. search rules) (λ c κs. search rules) returns-2)
+groovepawn_input_indexed_spec = tie.close (tie.spec (λ c κs. search rules) (λ c. search rules) returns (λ c κs. search rules) (λ c κs. search rules) (λ c κs. search rules) returns-2)

@@ -10,29 +10,23 @@ use Rattle.groovepawn.proofs.join_call.groovepawn_join.Statement.{statement}
 use Rattle.groovepawn.proofs.join_call.groovepawn_join.Tie as tie
 
 -- The length is that of the entry.
-given : (c : tie.After-n) →
-    let a = c.before.before.before.before.before.before.before.before.before.args in
-    join_of a.a.now a.b.now a.out.now ≡ gives c.n.given.0.0
-given c = sym c.before.before.before.before.join.ensures.answers ∙ rw c.n.given.1
+given : (c : tie.In-Length) →
+    let a = c.args in
+    join_of a.a.now a.b.now a.out.now ≡ gives c.in-Length.n
+given c = sym c.join.ensures.answers ∙ rw c.in-Length.is
 
-mul-result : tie.Need-overflow-mul-result
-mul-result c = omega (arith, joined_short _ _ _ _ (given c.before))
+mul-result : tie.Need-overflow_mul-result
+mul-result c = omega (arith, joined_short _ _ _ _ (given c))
 
-returns : tie.Need-returns
+returns : tie.Need-returns-in-Length
 unfolding join_word
 returns c =
-    let n = c.before in record { said = rw (given n); out = n.before.before.before.before.join.ensures.writes }
+    record { said = rw (given c); out = c.join.ensures.writes }
 
-returns-2 : tie.Need-returns-2
+returns-2 : tie.Need-returns-in-Refused
 unfolding join_word
 returns-2 c =
-    let n = c.before in
-    let j = n.before.before.before.before in
-    record { said = rw (← j.join.ensures.answers, n.n2.given.1); out = j.join.ensures.writes }
+    record { said = rw (← c.join.ensures.answers, c.in-Refused.is); out = c.join.ensures.writes }
 
 pub groovepawn_join_spec : {M : Type 1} → statement M
-groovepawn_join_spec =
-    tie.close
-    (tie.spec
-    (λ c κs. search rules) (λ c. search rules) mul-result (λ c. search rules) (λ c. search rules) (λ c. search rules) returns (λ c. search rules)
-    returns-2)
+groovepawn_join_spec = tie.close (tie.spec (λ c κs. search rules) (λ c. search rules) mul-result (λ c. search rules) (λ c. search rules) (λ c. search rules) returns (λ c. search rules) returns-2)

@@ -8,7 +8,7 @@ use Rattle.groovepawn.proofs.meter_calls.groovepawn_meter_output.Tie as tie
 
 returns : tie.Need-returns
 returns c =
-    let o = c.before.before.before.before.before.meter-output.ensures.said in
+    let o = c.meter_output.ensures.said in
     record {
       said = c.answer_word.ensures ∙ ap (λ (r : MeterAnswer). answer_word r.answer) o;
       next = ap (λ (r : MeterAnswer). r.station) o;

@@ -7,20 +7,16 @@ use Rattle.groovepawn.proofs.second.groovepawn_prepare_fast.Statement.{statement
 use Rattle.groovepawn.proofs.second.groovepawn_prepare_fast.Tie as tie
 
 -- Earlier places in the code.
-abbrev prepared : tie.After-bound → tie.After-prepare-fast
+abbrev prepared : tie.After-bound-1 → tie.After-prepare_fast
 prepared c = c.before.before.before.before.before.before.before.before.before
 
-summary-word-requires : tie.Need-summary-word-requires
-summary-word-requires c κs = λ s e. fast_small _ _ _ _ s (sym (prepared c.before.before.before).prepare-fast.ensures.said ∙ e)
+summary-word-requires : tie.Need-summary_word-requires
+summary-word-requires c κs = λ s e. fast_small _ _ _ _ s (sym (prepared c.before.before.before).prepare_fast.ensures.said ∙ e)
 
 returns : tie.Need-returns
 returns c =
-    let e = (prepared c.before.before.before.before).prepare-fast.ensures in
-    record { said = c.summary-word.ensures ∙ ap summary_word e.said; marks = e.marks; scratch = e.scratch }
+    let e = (prepared c.before.before.before.before).prepare_fast.ensures in
+    record { said = c.summary_word.ensures ∙ ap summary_word e.said; marks = e.marks; scratch = e.scratch }
 
 pub groovepawn_prepare_fast_spec : {M : Type 1} → statement M
-groovepawn_prepare_fast_spec =
-    tie.close
-    (tie.spec
-    (λ c κs. search rules) summary-word-requires (λ c. search rules) (λ c. search rules) (λ c. search rules) (λ c. search rules) (λ c. search rules)
-    (λ c. search rules) returns)
+groovepawn_prepare_fast_spec = tie.close (tie.spec (λ c κs. search rules) summary-word-requires (λ c. search rules) (λ c. search rules) (λ c. search rules) (λ c. search rules) (λ c. search rules) (λ c. search rules) returns)

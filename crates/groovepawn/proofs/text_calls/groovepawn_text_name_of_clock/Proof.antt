@@ -6,12 +6,12 @@ use Rattle.groovepawn.specs.Text.{named_word, text_name_word}
 use Rattle.groovepawn.proofs.text_calls.groovepawn_text_name_of_clock.Statement.{statement}
 use Rattle.groovepawn.proofs.text_calls.groovepawn_text_name_of_clock.Tie as tie
 
-name-word-requires : tie.Need-name-word-requires
-name-word-requires c κs = subst Shaped (sym c.name-of-clock.ensures) (given_shaped 1 _ _)
+name-word-requires : tie.Need-name_word-requires
+name-word-requires c κs = subst Shaped (sym c.name_of_clock.ensures) (given_shaped 1 _ _)
 
 returns : tie.Need-returns
 unfolding text_name_word
-returns c = record { said = c.name-word.ensures ∙ ap named_word c.before.name-of-clock.ensures }
+returns c = record { said = c.name_word.ensures ∙ ap named_word c.name_of_clock.ensures }
 
 pub groovepawn_text_name_of_clock_spec : {M : Type 1} → statement M
 groovepawn_text_name_of_clock_spec = tie.close (tie.spec (λ c κs. search rules) name-word-requires returns)

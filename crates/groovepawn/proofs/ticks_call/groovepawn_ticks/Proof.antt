@@ -12,32 +12,26 @@ use Rattle.groovepawn.proofs.ticks_call.groovepawn_ticks.Statement.{statement}
 use Rattle.groovepawn.proofs.ticks_call.groovepawn_ticks.Tie as tie
 
 -- The rounding is the one asked for, and no conversion gives more than 1,000 ticks.
-rounds : (c : tie.Joined1) → upwards c.if1.rounding ≡ is_up c.before.args.up
-rounds c = ⊎_elim (λ w. rw (w.1, eq-eqb _ 0 w.0.taken)) (λ w. rw (w.1, ne_eqb _ 0 w.0.left)) c.if1.branch
+rounds : (c : tie.Joined-up-eq0) → upwards c.if-up-eq0.rounding ≡ is_up c.args.up
+rounds c = ⊎_elim (λ w. rw (w.rounding-is, eq-eqb _ 0 w.if-up-eq0.true)) (λ w. rw (w.rounding-is, ne_eqb _ 0 w.if-up-eq0.false)) c.if-up-eq0.branch-raw
 
-few : (c : tie.After-t) → c.t.given.0.0.0 ≤ 1000
+few : (c : tie.In-Gives) → c.in-Gives.t.0 ≤ 1000
 few c =
-    let j = c.before.before.before in
-    let times = Converted (record { 0 = j.before.args.milliseconds }) (record { 0 = j.before.args.tick-length }) in
-    (converted_within (subst (times j.if1.rounding) c.t.given.1 c.before.before.to-ticks.ensures)).1
+    let times = Converted (record { 0 = c.args.milliseconds }) (record { 0 = c.args.tick_length }) in
+    (converted_within (subst (times c.if-up-eq0.rounding) c.in-Gives.is c.to_ticks.ensures)).1
 
-mul-result : tie.Need-overflow-mul-result
-mul-result c = omega (arith, few c.before.before, c.count.ensures)
+mul-result : tie.Need-overflow_mul-result
+mul-result c = omega (arith, few c.before, c.count.ensures)
 
-returns : tie.Need-returns
+returns : tie.Need-returns-in-Gives
 unfolding ticks_word
 returns c =
-    let t = c.before.before in
-    record { said = rw (← rounds t.before.before.before, ← t.before.before.to-ticks.ensures.said, t.t.given.1, ← c.count.ensures) }
+    record { said = rw (← rounds c.before.before.before, ← c.to_ticks.ensures.said, c.in-Gives.is, ← c.count.ensures) }
 
-returns-2 : tie.Need-returns-2
+returns-2 : tie.Need-returns-in-Refused
 unfolding ticks_word
 returns-2 c =
-    let n = c.before in
-    record { said = rw (← rounds n.before.before.before, ← n.before.before.to-ticks.ensures.said, n.n.given.1) }
+    record { said = rw (← rounds c.before.before, ← c.to_ticks.ensures.said, c.in-Refused.is) }
 
 pub groovepawn_ticks_spec : {M : Type 1} → statement M
-groovepawn_ticks_spec =
-    tie.close
-    (tie.spec
-    (λ c κs. search rules) (λ c. search rules) (λ c κs. search rules) mul-result (λ c. search rules) (λ c. search rules) returns returns-2)
+groovepawn_ticks_spec = tie.close (tie.spec (λ c κs. search rules) (λ c. search rules) (λ c κs. search rules) mul-result (λ c. search rules) (λ c. search rules) returns returns-2)

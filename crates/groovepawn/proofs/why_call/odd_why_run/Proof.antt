@@ -6,16 +6,16 @@ use Rattle.groovepawn.specs.Why.{odd_why_run}
 use Rattle.groovepawn.proofs.why_call.odd_why_run.Statement.{statement}
 use Rattle.groovepawn.proofs.why_call.odd_why_run.Tie as tie
 
-room-refusal-requires : tie.Need-room-refusal-requires
-room-refusal-requires c κs = c.check-under.ensures
+room-refusal-requires : tie.Need-room_refusal-r-requires
+room-refusal-requires c κs = c.check_under.ensures
 
-returns : tie.Need-returns
+returns : tie.Need-returns-then-r-ne0
 unfolding odd_why_run
-returns c = rw (← c.before.room-refusal.ensures) (sym (first_refused _ _ c.if1.true))
+returns c = rw (← c.room_refusal-r.ensures) (sym (first_refused _ _ c.if-r-ne0.true))
 
-returns-2 : tie.Need-returns-2
+returns-2 : tie.Need-returns
 unfolding odd_why_run
-returns-2 c = sym (next_refused _ _ (sym c.before.room-refusal.ensures ∙ c.if1.false))
+returns-2 c = sym (next_refused _ _ (sym c.room_refusal-r.ensures ∙ c.if-r-ne0.false))
 
 pub odd_why_run_spec : {M : Type 1} → statement M
 odd_why_run_spec = tie.close (tie.spec (λ c κs. search rules) room-refusal-requires returns returns-2)
