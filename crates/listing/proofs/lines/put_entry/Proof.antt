@@ -7,34 +7,28 @@ use Rattle.listing.specs.Listed.{entry_line}
 use Rattle.listing.proofs.lines.put_entry.Statement.{statement}
 use Rattle.listing.proofs.lines.put_entry.Tie as tie
 
-put-about-requires : tie.Need-put-about-requires
-put-about-requires c κs = let s = c.before.before.before.before.before in omega (arith, s.requires, decimal_short s.args.number 4 s.requires.0)
+put-about-requires : tie.Need-put_about-requires
+put-about-requires c κs = omega (arith, c.requires, decimal_short c.args.number 4 c.requires.0)
 
-returns : tie.Need-returns
+returns : tie.Need-returns-then-kind-eq1
 unfolding entry_line
-returns c = rw (eq-eqb _ _ c.before.before.before.before.before.before.if1.true) c.before.before.put-about.ensures
+returns c = rw (eq-eqb _ _ c.if-kind-eq1.true) c.put_about.ensures
 
-put-about-requires-2 : tie.Need-put-about-requires-2
-put-about-requires-2 c κs = let s = c.before.before.before.before.before.before in omega (arith, s.requires, decimal_short s.args.number 4 s.requires.0)
+put-about-requires-2 : tie.Need-put_about-requires-then-kind-eq2
+put-about-requires-2 c κs = omega (arith, c.requires, decimal_short c.args.number 4 c.requires.0)
 
-returns-2 : tie.Need-returns-2
+returns-2 : tie.Need-returns-then-kind-eq2
 unfolding entry_line
 returns-2 c =
-    let i = c.before.before.before.before.before.before in
-    rw (ne_eqb _ _ i.before.if1.false, eq-eqb _ _ i.if2.true) c.before.before.put-about2.ensures
+    rw (ne_eqb _ _ c.if-kind-eq1.false, eq-eqb _ _ c.if-kind-eq2.true) c.put_about-then-kind-eq2.ensures
 
-put-about-requires-3 : tie.Need-put-about-requires-3
-put-about-requires-3 c κs = let s = c.before.before.before.before.before.before in omega (arith, s.requires, decimal_short s.args.number 4 s.requires.0)
+put-about-requires-3 : tie.Need-put_about-requires-2
+put-about-requires-3 c κs = omega (arith, c.requires, decimal_short c.args.number 4 c.requires.0)
 
-returns-3 : tie.Need-returns-3
+returns-3 : tie.Need-returns
 unfolding entry_line
 returns-3 c =
-    let i = c.before.before.before.before.before.before in
-    rw (ne_eqb _ _ i.before.if1.false, ne_eqb _ _ i.if2.false) c.before.before.put-about3.ensures
+    rw (ne_eqb _ _ c.if-kind-eq1.false, ne_eqb _ _ c.if-kind-eq2.false) c.put_about-2.ensures
 
 pub put_entry_spec : {M : Type 1} → statement M
-put_entry_spec =
-    tie.close
-    (tie.spec
-    (λ c. search rules) (λ c. search rules) put-about-requires (λ c. search rules) returns (λ c. search rules) (λ c. search rules)
-    put-about-requires-2 (λ c. search rules) returns-2 (λ c. search rules) (λ c. search rules) put-about-requires-3 (λ c. search rules) returns-3)
+put_entry_spec = tie.close (tie.spec put-about-requires (λ c. search rules) returns put-about-requires-2 (λ c. search rules) returns-2 put-about-requires-3 (λ c. search rules) returns-3)

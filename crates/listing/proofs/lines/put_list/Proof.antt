@@ -12,43 +12,35 @@ use Rattle.listing.specs.Ways.{line_short, lines_step, lines_end}
 use Rattle.listing.proofs.lines.put_list.Statement.{statement}
 use Rattle.listing.proofs.lines.put_list.Tie as tie
 
-abbrev invariant-loop : tie.invariant-loop
+abbrev invariant-loop : tie.invariant-loop-i
 invariant-loop text₀ at list next₀ i₀ text next i =
     (i ≤ length list) × (length text ≡ length text₀) × (next ≤ at + 22 * i)
     × ((r : ℕ) (after : List ℕ) → Wrote text next (bytes_lines (drop i list)) r after → Wrote text₀ at (bytes_lines list) r after)
 
-abbrev decreases-loop : tie.decreases-loop
+abbrev decreases-loop : tie.decreases-loop-i
 decreases-loop text₀ at list next₀ i₀ text next i = length list - i
 
-loop-holds : tie.Need-loop-init invariant-loop decreases-loop
+loop-holds : tie.Need-loop-i-init invariant-loop decreases-loop
 loop-holds c = (search rules, refl, search rules, λ r after w. w)
 
-loop-again : tie.Need-loop-preserved invariant-loop decreases-loop
+loop-again : tie.Need-loop-i-preserved invariant-loop decreases-loop
 loop-again c =
-    let p = c.before.before.put-entry in
-    let n = c.before.before.before.pair-at in
-    let t = c.before.before.before.before.before.before in
-    let l = t.before in
-    let s = l.before.before.before in
-    let i = l.loop.i in
-    let list = s.args.list.now in
-    let line : Wrote l.loop.text l.loop.next (entry_line (get_or list i 0) n.result) p.result p.new.0 = p.ensures in
+    let p = c.put_entry-next in
+    let n = c.pair_at in
+    let i = c.loop-i.i in
+    let list = c.args.list.now in
+    let line : Wrote c.loop-i.text c.loop-i.next (entry_line (get_or list i 0) n.result) p.result p.new.text = p.ensures in
     let short = line_short (get_or list i 0) n.result (omega (arith, n.ensures.1)) in (
-      omega (arith, t.loop-test.true),
-      omega (arith, p.auto.text, l.loop.invariant.1),
-      omega (arith, short, line.next, l.loop.invariant.2),
-      λ r after w. l.loop.invariant.3 r after (rw (lines_step list i t.loop-test.true, ← n.ensures.0) (wrote_then (omega (arith, s.requires, l.loop.invariant)) line w)),
+      omega (arith, c.loop-i-test.true),
+      omega (arith, p.auto.text, c.loop-i.invariant.1),
+      omega (arith, short, line.next, c.loop-i.invariant.2),
+      λ r after w. c.loop-i.invariant.3 r after (rw (lines_step list i c.loop-i-test.true, ← n.ensures.0) (wrote_then (omega (arith, c.requires, c.loop-i.invariant)) line w)),
     )
 
 returns : tie.Need-returns invariant-loop decreases-loop
 returns c =
-    let l = c.before in
-    let list = l.before.before.before.args.list.now in
-    (l.loop.invariant.3 _ _ (rw (lines_end list l.loop.i c.loop-test.false) (wrote_none _ _)), omega (arith, l.loop.invariant))
+    let list = c.args.list.now in
+    (c.loop-i.invariant.3 _ _ (rw (lines_end list c.loop-i.i c.loop-i-test.false) (wrote_none _ _)), omega (arith, c.loop-i.invariant))
 
 pub put_list_spec : {M : Type 1} → statement M
-put_list_spec =
-    tie.close
-    (tie.spec
-    invariant-loop decreases-loop loop-holds (λ c. search rules) (λ c. search rules) (λ c. search rules) (λ c κs. search rules) (λ c κs. search rules)
-    (λ c. search rules) (λ c. search rules) loop-again (λ c. search rules) returns)
+put_list_spec = tie.close (tie.spec invariant-loop decreases-loop loop-holds (λ c. search rules) (λ c. search rules) (λ c. search rules) (λ c κs. search rules) (λ c κs. search rules) (λ c. search rules) (λ c. search rules) loop-again (λ c. search rules) returns)
