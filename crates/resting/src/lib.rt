@@ -1,3 +1,2 @@
 // Which states come to rest again and again, decided by tables. There is no code here: see specs/.
 #![tactic(auto)]
-

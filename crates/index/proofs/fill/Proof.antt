@@ -49,8 +49,7 @@ add-first c = omega (arith, few c.before.before.before, lower_few _ c.requires.0
 
 loop-again : tie.Need-loop-location-preserved invariant-loop decreases-loop
 loop-again c =
-    let e = c.entry_at-entry.ensures in
-    (
+    let e = c.entry_at-entry.ensures in (
       omega (arith, c.loop-location-test.true),
       rw (e, c.loop-location.invariant.1) (sym (entry_next _ c.requires.0.passes c.loop-location.location)),
       rw (c.loop-location.invariant.2, e) (entry_laid _ _ c.loop-location.location (omega (arith, c.requires.1, c.loop-location-test.true))),

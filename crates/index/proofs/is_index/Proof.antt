@@ -61,12 +61,11 @@ add-first c =
     omega (arith, (same c.before).1, entry_few _ p c.loop-location.location, lower_few _ p c.loop-location.location, c.loop-location.invariant.1)
 
 loop-again : tie.Need-loop-location-preserved invariant-loop decreases-loop
-loop-again c =
-    (
-      omega (arith, c.loop-location-test.true),
-      rw ((same c.before).1, c.loop-location.invariant.1) (sym (entry_next _ c.requires.passes c.loop-location.location)),
-      entry_same _ _ c.loop-location.location (omega (arith, c.if-index-ne-NUMBERS.false, c.loop-location-test.true)) c.loop-location.invariant.2 (same c.before).0 (same c.before).1,
-    )
+loop-again c = (
+  omega (arith, c.loop-location-test.true),
+  rw ((same c.before).1, c.loop-location.invariant.1) (sym (entry_next _ c.requires.passes c.loop-location.location)),
+  entry_same _ _ c.loop-location.location (omega (arith, c.if-index-ne-NUMBERS.false, c.loop-location-test.true)) c.loop-location.invariant.2 (same c.before).0 (same c.before).1,
+)
 
 returns-3 : tie.Need-returns invariant-loop decreases-loop
 returns-3 c =

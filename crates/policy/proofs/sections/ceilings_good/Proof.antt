@@ -39,17 +39,16 @@ returns-2 c =
     )
 
 loop-again : tie.Need-loop-i-preserved invariant-loop decreases-loop
-loop-again c =
-    (
-      search rules,
-      rw (
-        ← c.loop-i.invariant.1,
-        ceilings_turn _ _ _ _ _ c.loop-i-test.true,
-        ← c.pair_at-c.ensures.0,
-        le-leb _ _ c.if-c-lt1.false,
-        le-leb _ _ c.if-c-gt-CEILING.false,
-      ),
-    )
+loop-again c = (
+  search rules,
+  rw (
+    ← c.loop-i.invariant.1,
+    ceilings_turn _ _ _ _ _ c.loop-i-test.true,
+    ← c.pair_at-c.ensures.0,
+    le-leb _ _ c.if-c-lt1.false,
+    le-leb _ _ c.if-c-gt-CEILING.false,
+  ),
+)
 
 returns-3 : tie.Need-returns invariant-loop decreases-loop
 returns-3 c = rw (← c.loop-i.invariant.1, ceilings_end _ _ _ _ _ c.loop-i-test.false)

@@ -59,18 +59,17 @@ returns-4 c =
     )
 
 loop-again : tie.Need-loop-i-preserved invariant-loop decreases-loop
-loop-again c =
-    (
-      search rules,
-      rw (
-        ← c.loop-i.invariant.1,
-        tags_turn _ _ _ c.loop-i-test.true,
-        le-leb _ _ c.if-t-lt65.false,
-        le-leb _ _ c.if-t-gt90.false,
-        sym c.is_among.ensures ∙ c.if-is_among.false,
-        sym c.is_among-in-loop-i.ensures ∙ c.if-is_among-2.false,
-      ),
-    )
+loop-again c = (
+  search rules,
+  rw (
+    ← c.loop-i.invariant.1,
+    tags_turn _ _ _ c.loop-i-test.true,
+    le-leb _ _ c.if-t-lt65.false,
+    le-leb _ _ c.if-t-gt90.false,
+    sym c.is_among.ensures ∙ c.if-is_among.false,
+    sym c.is_among-in-loop-i.ensures ∙ c.if-is_among-2.false,
+  ),
+)
 
 returns-5 : tie.Need-returns invariant-loop decreases-loop
 returns-5 c = rw (← c.loop-i.invariant.1, tags_end _ _ _ c.loop-i-test.false)
