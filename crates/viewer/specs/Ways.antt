@@ -14,7 +14,6 @@ use Rattle.console.specs.OutcomeLaws.{Enforces, lent_length}
 use Rattle.drawing.specs.Entry.{text_of, written_over, write_refusal, write_of, written_out}
 use Rattle.waves.specs.Promise.{WritePromise}
 use Rattle.waves.specs.declared.writer.Written.{Written}
-use Rattle.waves.specs.declared.writer.Written.TheVariants as Written
 use Rattle.viewer.specs.Shown.{file_or_line, shown}
 
 -- Of the slice for the text, the writer's refusal depends on its length alone.

@@ -18,52 +18,40 @@ abbrev start : tie.After-outcome → tie.Start
 start c = c.before.before.before.before.before.before.before
 
 -- Nothing is refused.
-abbrev place : tie.After-enum-told → tie.After-outcome
-place c = c.before.before.before.before.before.before
+abbrev place : tie.In-Gives → tie.After-outcome
+place c = c.before.before.before.before.before
 
-enforced : (c : tie.After-enum-told) →
+enforced : (c : tie.In-Gives) →
     let o = place c in
-    Enforces (start o).args.reading (start o).args.input.now c.enum_told.given.0.0 o.outcome.last.1.1.0 o.outcome.last.1.1.1.0
-enforced c = (place c).outcome.ensures.enforces _ c.enum_told.given.1
+    Enforces (start o).args.reading (start o).args.input.now c.in-Gives.field-0 o.outcome.new.marks o.outcome.new.released
+enforced c = (place c).outcome.ensures.enforces _ c.in-Gives.is
 
-fits : (c : tie.After-events-in) → length c.events-in.result.now ≤ length (place c.before).outcome.new.1.1.1.0
+fits : (c : tie.After-events_in-events) → length c.events_in-events.result.now ≤ length (place c.before).outcome.new.released
 fits c =
-    let k = c.before in
-    let o = place k in
-    let few = subst (λ (events : List ℕ). length events ≤ 16384) (sym c.events-in.ensures) (events_few (start o).args.input.now (enforced k).passes.events) in
-    omega (arith, few, o.outcome.kept.1.1.1.0, (start o).pre)
+    let o = place c.before in
+    let few = subst (λ (events : List ℕ). length events ≤ 16384) (sym c.events_in-events.ensures) (events_few (start o).args.input.now (enforced c.before).passes.events) in
+    omega (arith, few, o.outcome.auto.released, (start o).requires)
 
-events-in-requires : tie.Need-events-in-requires
+events-in-requires : tie.Need-events_in-events-requires
 events-in-requires c κs = (enforced c).passes.events
 
-policy-in-requires : tie.Need-policy-in-requires
+policy-in-requires : tie.Need-policy_in-requires
 policy-in-requires c κs = (enforced c.before).passes.policy
 
-slice-reshare-prefix-write-file : tie.Need-slice-reshare-prefix-write-file
+slice-reshare-prefix-write-file : tie.Need-slice_bounds-write_file-end
 slice-reshare-prefix-write-file c = fits c.before
 
-slice-aggregate-write-file : tie.Need-slice-aggregate-write-file
-slice-aggregate-write-file c = sym (length-take-le _ _ (slice-reshare-prefix-write-file c.before))
+slice-aggregate-write-file : tie.Need-slice_bounds-write_file-end-in-Gives
+slice-aggregate-write-file c = sym (length-take-le _ _ (fits c.before))
 
-returns : tie.Need-returns
+returns : tie.Need-returns-in-Refused
 returns c =
-    let f = c.before.before in
-    let k = f.before.before.before in
-    let o = k.before.before.before.before.before.before in
-    rw (shown_refused (start o).args.reading (start o).args.input.now (sym (ap prepared_said k.n.given.1) ∙ o.outcome.ensures.said))
-    (replied f.Put-refused.ensures f.Put-refused.auto.text)
+    rw (shown_refused (start c.before.before.before.before.before.before.before.before.before).args.reading (start c.before.before.before.before.before.before.before.before.before).args.input.now (sym (ap prepared_said c.in-Refused.is) ∙ c.outcome.ensures.said))
+    (replied c.put_refused.ensures c.put_refused.auto.text)
 
-returns-2 : tie.Need-returns-2
+returns-2 : tie.Need-returns-in-Gives
 returns-2 c =
-    let t = c.before.before in
-    let p = t.before.before.before in
-    let e = p.before in
-    rw (shown_file (enforced e.before) p.policy-in.ensures e.events-in.ensures) t.write-file.ensures
+    rw (shown_file (enforced c.before.before.before.before.before.before) c.policy_in.ensures c.events_in-events.ensures) c.write_file.ensures
 
 pub view_spec : {M : Type 1} → statement M
-view_spec =
-    tie.close
-    (tie.spec
-    (λ c κs. search rules) (λ c. search rules) (λ c κs. search rules) (λ c. search rules) events-in-requires policy-in-requires
-    slice-reshare-prefix-write-file slice-aggregate-write-file (λ c κs. search rules) (λ c. search rules) (λ c. search rules) (λ c. search rules)
-    returns (λ c. search rules) (λ c. search rules) (λ c. search rules) returns-2)
+view_spec = tie.close (tie.spec (λ c κs. search rules) (λ c. search rules) (λ c κs. search rules) (λ c. search rules) events-in-requires policy-in-requires slice-reshare-prefix-write-file slice-aggregate-write-file (λ c κs. search rules) (λ c. search rules) (λ c. search rules) (λ c. search rules) returns (λ c. search rules) (λ c. search rules) (λ c. search rules) returns-2)
