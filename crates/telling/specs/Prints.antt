@@ -7,13 +7,13 @@ use Rattle.streams.specs.AnswerLaws.{none_refused, none_unless}
 use Rattle.policy.specs.Rules.{Policy, Place, start}
 use Rattle.policy.specs.File.{policy_of}
 use Rattle.policy.specs.Check.{all_pass}
-use Rattle.policy.specs.Number.{states, number_of}
+use Rattle.policy.specs.Number.{number_of}
 use Rattle.policy.specs.CheckLaws.{under_none}
 use Rattle.policy.specs.Checked.{checked_file, well_sound}
 use Rattle.policy.specs.Stays.{start_inside}
 use Rattle.policy.specs.declared.Layout.{Layout}
 use Rattle.stepping.specs.State.{place_in, state_of, is_marked, place}
-use Rattle.stepping.specs.Tick.{Progress, ran}
+use Rattle.stepping.specs.Tick.{Progress}
 use Rattle.enforcer.specs.Entries.{event_good, run_from, marks_refusal, state_refusal, run_refusal, run_of}
 use Rattle.stepping.specs.Code.{start_state}
 use Rattle.stepping.specs.Laid.{laid_well, laid_place, place_in_state_of}
