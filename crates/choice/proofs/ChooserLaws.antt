@@ -12,7 +12,8 @@ use lib.Seq.{drop-cons}
 use borrow.Author.Tests.{lt-ltb, le-ltb}
 use Rattle.streams.specs.Choose.{nearest}
 use Rattle.streams.specs.Rows.{first_of}
-use Rattle.choice.specs.Table.{table, row, row_length, row_entry, row_nearest}
+use Rattle.choice.specs.Table.{table, row, row_length, row_entry}
+use Rattle.choice.proofs.TableLaws.{row_nearest}
 
 module _ (may : ℕ → Bool) (n w : ℕ) where
   -- None of the first i values is below n and may stand: the rest of the row decides.

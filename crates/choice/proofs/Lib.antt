@@ -1,1 +1,2 @@
 pub mod ChooserLaws
+pub mod TableLaws

@@ -2,7 +2,6 @@
 use Rattle.std.proofs.Math.Option.{Option, none, some}
 use Rattle.std.specs.Prelude.{ℕ}
 use Rattle.choice.specs.declared.chooser.Choice.{Choice}
-use Rattle.choice.specs.declared.chooser.Choice.TheVariants as Choice
 
 -- The value that was chosen, or none.
 abbrev pub choice_said : Choice → Option ℕ

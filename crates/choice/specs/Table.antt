@@ -1,10 +1,6 @@
 -- 02's "fixed table of 256 entries, one row of sixteen for each wanted value, listing all values from nearest to farthest".
-use Rattle.std.specs.Prelude.{◌≡◌, refl, Bool, true, List, [], ◌∷◌, ℕ, ◌+◌, ◌*◌, ◌≤◌, ◌<◌, length, get_or, take, drop}
+use Rattle.std.specs.Prelude.{◌≡◌, refl, List, [], ◌∷◌, ℕ, ◌+◌, ◌*◌, ◌<◌, length, get_or, take, drop}
 use Rattle.std.proofs.Common.{arith, length-take, length-drop, get_or-take, get_or-drop}
-use Rattle.std.specs.Int.Count.{ones, ones_in}
-use Rattle.streams.specs.Nearness.{distance, nearer, spares}
-use Rattle.streams.specs.Choose.{nearest}
-use Rattle.streams.specs.Rows.{first_of, rising, rows, row_at, rising_below, first_nearest}
 
 -- The numbers of the code, row by row.
 unfoldable pub table : List ℕ
@@ -26,11 +22,6 @@ table =
     ∷ 14 ∷ 6 ∷ 10 ∷ 12 ∷ 15 ∷ 2 ∷ 4 ∷ 8 ∷ 7 ∷ 11 ∷ 13 ∷ 0 ∷ 3 ∷ 5 ∷ 9 ∷ 1
     ∷ 15 ∷ 7 ∷ 11 ∷ 13 ∷ 14 ∷ 3 ∷ 5 ∷ 9 ∷ 6 ∷ 10 ∷ 12 ∷ 1 ∷ 2 ∷ 4 ∷ 8 ∷ 0 ∷ []
 
--- Every row is ordered by distance, then by the first signal kept: one test over the whole table.
-ordered : rows 16 16 0 table ≡ true
-unfolding table rows rising nearer distance spares ones ones_in
-ordered = refl
-
 whole : length table ≡ 256
 unfolding table
 whole = refl
@@ -40,9 +31,6 @@ abbrev pub row : ℕ → List ℕ
 row wanted = take 16 (drop (wanted * 16) table)
 
 module _ (w : ℕ) (h : w < 16) where
-  row_rising : rising 16 w (row w) ≡ true
-  row_rising = let e : 0 + w ≡ w = omega arith in rw e at (row_at 16 16 0 table ordered w h)
-
   -- A row has sixteen entries.
   pub row_length : length (row w) ≡ 16
   row_length = rw (length-take, length-drop, whole) (omega arith)
@@ -50,11 +38,3 @@ module _ (w : ℕ) (h : w < 16) where
   -- The i-th entry of a row, by its place in the table.
   pub row_entry : (i : ℕ) → i < 16 → get_or (row w) i 0 ≡ get_or table (w * 16 + i) 0
   row_entry i l = rw (get_or-take, get_or-drop)
-
-  -- Each entry is below 16.
-  pub entry_below : (i : ℕ) → i < 16 → get_or table (w * 16 + i) 0 < 16
-  entry_below i l = rw (row_entry i l) at (rising_below w 16 (row w) row_rising i (omega (arith, row_length)))
-
-  -- The first of the row that is below n and may stand is the nearest.
-  pub row_nearest : (may : ℕ → Bool) (n : ℕ) → n ≤ 16 → first_of may n (row w) ≡ nearest may w n
-  row_nearest may n l = first_nearest w may n 16 (row w) row_rising row_length l

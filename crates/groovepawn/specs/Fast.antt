@@ -6,7 +6,8 @@ use Rattle.policy.specs.File.{policy_of}
 use Rattle.policy.specs.Number.{states}
 use Rattle.prepare.specs.declared.Summary.{Summary}
 use Rattle.fast.specs.Entry.{Work, shortest, lent_refusal, fast_of, fast_marks}
-use Rattle.fast.specs.PromiseLaws.{by_length, as_plain, unless_short, fast_gives, fast_up_to}
+use Rattle.fast.specs.PromiseLaws.{by_length, fast_up_to}
+use Rattle.fast.proofs.PromiseLaws.{as_plain, unless_short, fast_gives}
 use Rattle.groovepawn.specs.Words.{summary_word, prepare_word}
 use Rattle.groovepawn.specs.Bounds.{Small, summary_small}
 use Rattle.groovepawn.specs.Fields.{summary_in, summary_back}

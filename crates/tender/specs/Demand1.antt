@@ -10,7 +10,8 @@ pub use Rattle.prepare.specs.Promise.{PreparePromise, prepare_one}
 pub use Rattle.prepare.specs.PromiseLaws.{prepare_live, prepare_dead}
 -- The second engine: as prepare, unless it gives 23.
 pub use Rattle.fast.specs.Promise.{FastPromise}
-pub use Rattle.fast.specs.PromiseLaws.{fast_one, same_answers, fast_unless}
+pub use Rattle.fast.specs.PromiseLaws.{fast_one}
+pub use Rattle.fast.proofs.PromiseLaws.{same_answers, fast_unless}
 -- The input half, the output half by value and over a lent state, and the run.
 pub use Rattle.enforcer.specs.Promises.{InputPromise, input_one, OutputPromise, output_one, RunPromise, run_one}
 -- An index is built, and the two halves that use one.

@@ -22,7 +22,7 @@ use Rattle.indexed.specs.Entries.{index_refusal, input_indexed_of, output_indexe
 use Rattle.cleaning.specs.Entry.{clean_refusal, clean_of, cleaned_out, struck_out}
 use Rattle.bays.specs.Bays.{bay_count, bay_state}
 use Rattle.fast.specs.Entry.{fast_of, fast_marks}
-use Rattle.fast.specs.PromiseLaws.{first_refusals}
+use Rattle.fast.proofs.PromiseLaws.{first_refusals}
 use Rattle.bays.specs.Entries.{BayAnswer, no_bay, bay_input_of, bay_output_of}
 use Rattle.bays.specs.There.{input_there, output_there, input_none, output_none}
 use Rattle.bays.specs.Halves.{refused_stays}

@@ -16,7 +16,7 @@ use Rattle.prepare.specs.declared.Prepared.{Prepared}
 use Rattle.prepare.specs.declared.Prepared.TheVariants as Prepared
 use Rattle.fast.specs.Entry.{Work, shortest, lent_refusal}
 use Rattle.fast.specs.Promise.{FastPromise}
-use Rattle.fast.specs.PromiseLaws.{first_refusals}
+use Rattle.fast.proofs.PromiseLaws.{first_refusals}
 use Rattle.indexed.specs.Entries.{early_refusal, index_refusal}
 use Rattle.indexed.specs.Promises.{InputIndexedPromise, OutputIndexedPromise, input_one as input_indexed_one, output_one as output_indexed_one}
 use Rattle.reasons.specs.Entry.{refuses, answers_one}

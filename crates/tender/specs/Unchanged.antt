@@ -16,7 +16,8 @@ use Rattle.policy.specs.Check.{refusal_under}
 use Rattle.policy.specs.Sound.{WellFormed}
 use Rattle.policy.specs.Stays.{closed}
 use Rattle.resting.specs.Table.{marks_by}
-use Rattle.resting.specs.Always.{goes_on, same_marks}
+use Rattle.resting.specs.Always.{goes_on}
+use Rattle.resting.proofs.Always.{same_marks}
 use Rattle.trimming.specs.Table.{machine_of, marks_of}
 use Rattle.trimming.specs.Live.{within}
 use Rattle.prepare.specs.Entry.{prepare_of}

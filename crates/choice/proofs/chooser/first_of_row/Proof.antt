@@ -7,7 +7,8 @@ use lib.ListN.{get_or}
 use borrow.Author.Rules.{rules}
 use Rattle.choice.proofs.ChooserLaws.{LeftOfRow, left_starts, left_ends, left_found, left_out, left_passed}
 use Rattle.choice.specs.Sets.{has}
-use Rattle.choice.specs.Table.{table, entry_below}
+use Rattle.choice.specs.Table.{table}
+use Rattle.choice.proofs.TableLaws.{entry_below}
 use Rattle.choice.proofs.chooser.first_of_row.Statement.{statement}
 use Rattle.choice.proofs.chooser.first_of_row.Tie as tie
 

@@ -1,0 +1,4 @@
+pub mod Leads
+pub mod Live
+pub mod Clear
+pub mod Always
