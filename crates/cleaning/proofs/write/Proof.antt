@@ -49,19 +49,6 @@ returns c =
     let q = c.list_length-struck.ensures in
     rw (p.1, q.1) (writes_first (bytes c.before.before.before.before.before.before.before.before.before.before.before.before.before.before) (entries c.before.before.before.before.before.before.before.before.before.before.before.before.before.before) c.args.out.now c.args.list.now (omega (arith, c.if-out-cleaned.true, ap length p.1, p.0)))
 
-same-length-3 : tie.Need-shape_of-out-then-list-struck
-same-length-3 c = ap length (sized c.before.before.before.before).policy_length-cleaned.ensures.1
-
-same-length-4 : tie.Need-shape_of-list-then-list-struck
-same-length-4 c = ap length c.list_length-struck.ensures.1
-
-returns-2 : tie.Need-returns-then-list-struck
-returns-2 c =
-    let p = c.policy_length-cleaned.ensures in
-    let q = c.list_length-struck.ensures in
-    rw (p.1, q.1)
-    (writes_second (bytes c.before.before.before.before.before.before.before.before.before.before.before.before.before.before.before) (entries c.before.before.before.before.before.before.before.before.before.before.before.before.before.before.before) c.args.out.now c.args.list.now (omega (arith, c.if-out-cleaned.false, ap length p.1, p.0)) (omega (arith, c.if-list-struck.true, ap length q.1, q.0)))
-
 lay-policy-requires : tie.Need-lay_policy-requires
 lay-policy-requires c κs = (start (sized c.before.before.before.before.before)).requires
 
@@ -78,8 +65,8 @@ returns-3 : tie.Need-returns
 returns-3 c =
     let p = c.policy_length-cleaned.ensures in
     let q = c.list_length-struck.ensures in
-    writes_both (bytes c.before.before.before.before.before.before.before.before.before.before.before.before.before.before.before.before.before.before.before.before.before.before.before) (entries c.before.before.before.before.before.before.before.before.before.before.before.before.before.before.before.before.before.before.before.before.before.before.before) c.args.out.now c.args.list.now (omega (arith, c.if-out-cleaned.false, ap length p.1, p.0)) (omega (arith, c.if-list-struck.false, ap length q.1, q.0))
+    writes_both (bytes c.before.before.before.before.before.before.before.before.before.before.before.before.before.before.before.before.before.before.before.before.before.before.before) (entries c.before.before.before.before.before.before.before.before.before.before.before.before.before.before.before.before.before.before.before.before.before.before.before) c.args.out.now c.args.list.now (omega (arith, c.if-out-cleaned.false, ap length p.1, p.0)) (omega (arith, ap length q.1, q.0))
     p.0 q.0 (rw p.1 at c.lay_policy.ensures) (rw q.1 at c.lay_list.ensures)
 
 pub write_spec : {M : Type 1} → statement M
-write_spec = tie.close (tie.spec policy-length-requires list-length-requires same_length same-length-2 returns same-length-3 same-length-4 returns-2 lay-policy-requires lay-list-requires same-length-5 same-length-6 returns-3)
+write_spec = tie.close (tie.spec policy-length-requires list-length-requires same_length same-length-2 returns (λ c. ap length (sized c.before.before.before.before).policy_length-cleaned.ensures.1) (λ c. ap length c.list_length-struck.ensures.1) (λ c. let p = c.policy_length-cleaned.ensures in let q = c.list_length-struck.ensures in rw (p.1, q.1) (writes_second (bytes c.before.before.before.before.before.before.before.before.before.before.before.before.before.before.before) (entries c.before.before.before.before.before.before.before.before.before.before.before.before.before.before.before) c.args.out.now c.args.list.now (omega (arith, c.if-out-cleaned.false, ap length p.1, p.0)) (omega (arith, ap length q.1, q.0)))) lay-policy-requires lay-list-requires same-length-5 same-length-6 returns-3)

@@ -19,21 +19,18 @@ invariant-loop file layout index first₀ location₀ first location =
 abbrev decreases-loop : tie.decreases-loop-location
 decreases-loop file layout index first₀ location₀ first location = 64 - location
 
-returns : tie.Need-returns-then-index-ne-NUMBERS invariant-loop decreases-loop
-returns c = sym (other_length _ _ c.if-index-ne-NUMBERS.true)
-
 loop-holds : tie.Need-loop-location-init invariant-loop decreases-loop
 unfolding entries
 loop-holds c = (omega arith, sym (lower_none _), refl)
 
 shared-slice-read-t13 : tie.Need-bounds-index-at invariant-loop decreases-loop
-shared-slice-read-t13 c = omega (arith, c.if-index-ne-NUMBERS.false, c.loop-location-test.true)
+shared-slice-read-t13 c = omega arith
 
 cast-t14 : tie.Need-overflow_cast-given invariant-loop decreases-loop
 cast-t14 c = omega (arith, c.shared_slice_known-in-loop-location-1.given (2 * c.loop-location.location))
 
 shared-slice-read-t18 : tie.Need-bounds-index-at-in-loop-location invariant-loop decreases-loop
-shared-slice-read-t18 c = omega (arith, c.if-index-ne-NUMBERS.false, c.loop-location-test.true)
+shared-slice-read-t18 c = omega arith
 
 cast-t19 : tie.Need-overflow_cast-given-in-loop-location invariant-loop decreases-loop
 cast-t19 c = omega (arith, c.shared_slice_known-in-loop-location-2-1.given (2 * c.loop-location.location + 1))
@@ -64,12 +61,12 @@ loop-again : tie.Need-loop-location-preserved invariant-loop decreases-loop
 loop-again c = (
   omega (arith, c.loop-location-test.true),
   rw ((same c.before).1, c.loop-location.invariant.1) (sym (entry_next _ c.requires.passes c.loop-location.location)),
-  entry_same _ _ c.loop-location.location (omega (arith, c.if-index-ne-NUMBERS.false, c.loop-location-test.true)) c.loop-location.invariant.2 (same c.before).0 (same c.before).1,
+  entry_same _ _ c.loop-location.location (omega arith) c.loop-location.invariant.2 (same c.before).0 (same c.before).1,
 )
 
 returns-3 : tie.Need-returns invariant-loop decreases-loop
 returns-3 c =
-    sym (all_same _ _ c.if-index-ne-NUMBERS.false c.loop-location.location (omega (arith, c.loop-location.invariant.0, c.loop-location-test.false)) c.loop-location.invariant.2)
+    sym (all_same _ _ (omega arith) c.loop-location.location (omega (arith, c.loop-location.invariant.0, c.loop-location-test.false)) c.loop-location.invariant.2)
 
 pub is_index_spec : {M : Type 1} → statement M
-is_index_spec = tie.close (tie.spec invariant-loop decreases-loop returns loop-holds (λ c. omega arith) (λ c. omega arith) shared-slice-read-t13 cast-t14 (λ c. omega arith) (λ c. omega arith) shared-slice-read-t18 cast-t19 is-entry-requires returns-2 add-first (λ c. omega arith) (λ c. omega arith) loop-again returns-3)
+is_index_spec = tie.close (tie.spec invariant-loop decreases-loop (λ c. sym (other_length c.args.file.now c.args.index.now (omega arith))) loop-holds (λ c. omega arith) (λ c. omega arith) shared-slice-read-t13 cast-t14 (λ c. omega arith) (λ c. omega arith) shared-slice-read-t18 cast-t19 is-entry-requires returns-2 add-first (λ c. omega arith) (λ c. omega arith) loop-again returns-3)

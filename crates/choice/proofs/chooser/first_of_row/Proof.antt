@@ -41,7 +41,7 @@ is-in-requires c κs = (is_entry c.before).1
 returns : tie.Need-returns-then-is_in invariant-loop decreases-loop
 returns c =
     sym
-    (left_found _ _ _ c.requires.1 c.loop-i-test.true (is_entry c.before.before.before).0 c.loop-i.invariant.1 c.if-value-n.true
+    (left_found _ _ _ c.requires.1 c.loop-i-test.true (is_entry c.before.before.before).0 c.loop-i.invariant.1 (omega arith)
     (sym c.is_in.ensures ∙ c.if-is_in.true))
 
 loop-again : tie.Need-loop-i-preserved invariant-loop decreases-loop

@@ -14,12 +14,5 @@ add-next c =
 returns : tie.Need-returns-in-Down
 returns c = simp c.in-Down.is
 
-returns-2 : tie.Need-returns-then-left-eq0
-returns-2 c =
-    simp (c.in-Up.is, eq-eqb (c.args.self.0 % c.args.tick.0) 0 (omega arith)) (omega arith)
-
-returns-3 : tie.Need-returns-else-left-eq0
-returns-3 c = simp (c.in-Up.is, ne_eqb _ _ c.if-left-eq0.false)
-
 pub rounded_spec : {M : Type 1} → statement M
-rounded_spec = tie.close (tie.spec (λ c. search rules) (λ c. search rules) (λ c. search rules) (λ c. search rules) add-next returns returns-2 returns-3)
+rounded_spec = tie.close (tie.spec (λ c. search rules) (λ c. search rules) (λ c. search rules) (λ c. search rules) add-next returns (λ c. simp (c.in-Up.is, eq-eqb (c.args.self.0 % c.args.tick.0) 0 (omega arith)) (omega arith)) (λ c. simp (c.in-Up.is, ne_eqb (c.args.self.0 % c.args.tick.0) 0 (omega arith))))

@@ -10,11 +10,8 @@ use Rattle.ticks.proofs.Milliseconds.to_ticks.Tie as tie
 returns : tie.Need-returns-then-tick-eq0
 returns c = record { said = sym (no_length _ _ _ c.if-tick-eq0.true) }
 
-returns-2 : tie.Need-returns-then-ticks-gt-MOST
-returns-2 c = record { said = sym (too_many _ _ _ (omega arith) (omega arith)) }
-
 returns-3 : tie.Need-returns
 returns-3 c = record { said = ap gives c.rounded-ticks.ensures ∙ sym (given _ _ _ (omega arith) (omega arith)) }
 
 pub to_ticks_spec : {M : Type 1} → statement M
-to_ticks_spec = tie.close (tie.spec returns (λ c κs. search rules) returns-2 returns-3)
+to_ticks_spec = tie.close (tie.spec returns (λ c κs. search rules) (λ c. record { said = sym (too_many _ _ _ (omega arith) (omega arith)) }) returns-3)
