@@ -5,7 +5,7 @@
     tools/reading-list.py --write    write the list
 
 A promise rests on the definitions that its statement names, and on those that they name in turn. Proofs are not followed, nor the library. The promises
-are what docs/PROMISES.md cites. A file that holds little else is listed as a whole, with its lines but for the imports; what stands among theorems is
+are what docs/PROMISES.md cites; a name `crate: Module.name` is in crates/<crate>/specs/<Module>.antt, or in proofs/<Module>.antt. A file that holds little else is listed as a whole, with its lines but for the imports; what stands among theorems is
 listed by its name.
 
 Without an argument it also says
@@ -23,7 +23,7 @@ import sys
 sys.dont_write_bytecode = True
 os.chdir(os.path.join(os.path.dirname(os.path.abspath(__file__)), ".."))
 from sources import code_names, public_functions  # noqa: E402
-from specs import closure, home_of, is_letter, modules  # noqa: E402
+from specs import closure, files_of, home_of, is_letter, modules  # noqa: E402
 
 PROMISES, DECISIONS = "docs/PROMISES.md", "docs/DECISIONS.md"
 HEAD, END = "## What to read\n", "## The meaning\n"
@@ -53,7 +53,7 @@ code = code_names()
 CODE_ANYWHERE = {name for _, name in code}
 C_NAMES = {name for path in glob.glob("include/*.h") for name in re.findall(r"\b\w*(?:groovepawn|GROOVEPAWN)_\w+", open(path).read())}
 # Words of the language, of the toolchain and of the system, and the mark at the head of a file of stored cases.
-LANGUAGE = set("ensures requires unfolding pub self const static inline u8 u16 u32 u64 usize main rt memset fstat ftruncate GPV2".split())
+LANGUAGE = set("ensures requires unfolding pub self const static inline u8 u16 u32 u64 usize main rt std create_new set_len memset GPV2".split())
 LIBRARY = ("std", "os", "io", "libc")
 
 
@@ -75,7 +75,7 @@ def spans(line):
         if crate and dotted:
             key = (crate, dotted[1])
         name = dotted[2] if dotted else word[2]
-        if crate and not dotted and (crate, name) in modules and not (key and home_of(key, name)):
+        if crate and not dotted and files_of((crate, name)) and not (key and home_of(key, name)):
             key = (crate, name)
         yield crate, key, name, dotted and dotted[1]
 
@@ -84,8 +84,9 @@ def cited(line):
     """The declarations that a line of PROMISES cites. A module alone stands for all that it declares."""
     for crate, key, name, dotted in spans(line):
         if not dotted and key == (crate, name) and not home_of(key, name):
-            for each in modules[key].decls:
-                yield key, each
+            for module in files_of(key):
+                for each in module.decls:
+                    yield module.key, each
         elif key and home_of(key, name):
             yield home_of(key, name)
 
@@ -114,9 +115,10 @@ def roots_of_parts(text):
 def order():
     crates = [line.split(":")[0].split()[0] for line in open("crates.txt") if not line.startswith("#")]
     for crate in crates:
-        lib = f"crates/{crate}/specs/Lib.antt"
-        for name in re.findall(r"^pub mod (\S+)$", open(lib).read(), re.M) if os.path.exists(lib) else []:
-            yield crate, name
+        for folder, mark in (("specs", ""), ("proofs", "proofs.")):
+            lib = f"crates/{crate}/{folder}/Lib.antt"
+            for name in re.findall(r"^(?:pub )?mod (\S+)$", open(lib).read(), re.M) if os.path.exists(lib) else []:
+                yield crate, mark + name
 
 
 def purpose(module):
@@ -147,7 +149,7 @@ def the_list(text):
             module = modules[key]
             lines = {i for name in by_file[key] for i in range(*module.stated(name))}
             all_lines = {i for name in module.decls for i in range(module.decls[name][1], module.decls[name][2])}
-            path = f"[{key[0]}: `{key[1]}`](../{module.path})"
+            path = f"[{key[0]}: `{key[1].removeprefix('proofs.')}`](../{module.path})"
             if 2 * len(lines) >= len(all_lines) or len(module.lines) < 60:
                 whole.add(key)
                 rows.append((path, module.length, first_sentence(purpose(module))))
@@ -178,9 +180,9 @@ def the_list(text):
 
 
 def declared_in(crate, name):
-    """Whether a crate (or, without one, any) declares the name, in specs/ or in its code, or has a module of that name."""
+    """Whether a crate (or, without one, any) declares the name, in specs/, in proofs/ or in its code, or has a module of that name."""
     for at in {crate} if crate else crates:
-        if (at, name) in code or (at, name) in modules:
+        if (at, name) in code or files_of((at, name)):
             return True
         if any(name in module.decls or name in module.makes or name in module.fields for key, module in modules.items() if key[0] == at):
             return True
@@ -210,7 +212,7 @@ def is_there(crate, key, name, dotted):
         return True
     if not crate:
         return declared_in(None, name)
-    return name in CODE_ANYWHERE or (crate, name) in modules or any(name in module.fields for at, module in modules.items() if at[0] == crate)
+    return name in CODE_ANYWHERE or files_of((crate, name)) or any(name in module.fields for at, module in modules.items() if at[0] == crate)
 
 
 def check_names(path, text):

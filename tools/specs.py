@@ -1,4 +1,8 @@
-"""The definitions and theorems of crates/*/specs: what each file declares, and what a declaration names."""
+"""The definitions and theorems of crates/*/specs, and those that stand in crates/*/proofs: what each file declares, and what a declaration names.
+
+A module of proofs/ has the key (crate, "proofs.Module"). It is also looked into for a name of (crate, "Module") that specs/Module.antt has not: a theorem
+stands in proofs/ where an edit of a definition has to be refused by a proof.
+"""
 import glob
 import re
 
@@ -7,16 +11,17 @@ MARKS = r"(?:(?:unfoldable|abbrev|pub) )*"
 
 
 class Module:
-    """A file of specs/: what it has from others, and its declarations as (kind, first line, line after the last, enclosing module lines)."""
+    """A file of specs/ or proofs/: what it has from others, and its declarations as (kind, first line, line after the last, enclosing module lines)."""
 
     def __init__(self, path):
-        self.key = (path.split("/")[1], path.split("/specs/")[1][:-5])
+        _, crate, folder, file = path.split("/")
+        self.key = crate, ("proofs." if folder == "proofs" else "") + file[:-5]
         self.path, self.lines = path, open(path).read().split("\n")[:-1]
         text = re.sub(r"^(?:pub )?use [^{\n]*(?:\{[^}]*\})?[^\n]*\n", "", "\n".join(self.lines) + "\n", flags=re.M)
         self.length = text.count("\n")
         self.names, self.aliases, self.decls, self.makes, self.fields, self.telescopes = {}, {}, {}, {}, {}, {}
         for use in re.finditer(r"^(?:pub )?use ([^\s{]+?)(?:\.\{([^}]*)\})?(?: as (\S+))?$", "\n".join(self.lines), re.M):
-            home = re.match(r"Rattle\.(\w+)\.specs\.(.+)$", use[1])
+            home = re.match(r"Rattle\.(\w+)\.(?:specs\.)?(.+)$", use[1])
             home = home and (home[1], home[2])
             for name in (use[2] or "").split(","):
                 old, _, new = name.strip().partition(" as ")
@@ -69,7 +74,7 @@ class Module:
 
 
 modules = {}
-for path in sorted(glob.glob("crates/*/specs/*.antt")):
+for path in sorted(glob.glob("crates/*/specs/*.antt")) + sorted(glob.glob("crates/*/proofs/*.antt")):
     if not path.endswith("/Lib.antt"):
         module = Module(path)
         modules[module.key] = module
@@ -80,20 +85,28 @@ def is_letter(name):
     return len(name) == 1 and name.islower()
 
 
+def files_of(key):
+    """The modules that a page may mean by a crate and a module: the one of specs/, and the one of that name in proofs/."""
+    return [modules[each] for each in ((key, (key[0], "proofs." + key[1])) if key else ()) if each in modules]
+
+
 def home_of(key, name):
-    """Where a name that a module has is declared: a declaration of specs/, or a type of the code. A field is its record's, a maker its type's."""
+    """Where a name that a module has is declared: a declaration of specs/ or proofs/, or a type of the code. A field is its record's, a maker its type's."""
     for _ in range(9):
         if key and key[1].startswith("declared."):
             return key, name
-        if key not in modules:
+        files = files_of(key)
+        for module in files:
+            if name in module.decls:
+                return module.key, name
+            if name in module.makes:
+                return module.key, module.makes[name]
+        for module in files:
+            if name not in module.names and name in module.fields:
+                return module.key, module.fields[name]
+        module = next((module for module in files if name in module.names), None)
+        if not module:
             return None
-        module = modules[key]
-        if name in module.decls:
-            return key, name
-        if name in module.makes:
-            return key, module.makes[name]
-        if name not in module.names:
-            return (key, module.fields[name]) if name in module.fields else None
         key, name = module.names[name]
     return None
 
