@@ -1,5 +1,5 @@
 #!/usr/bin/env bash
-# Runs the gate and every test beside it, and prints a table. Some take long: the gate half an hour, the processors 8.
+# Runs the gate and every test beside it, and prints a table. Some take long, the gate most of all.
 #
 #     tools/check-all.sh [NAME..]
 #

@@ -16,8 +16,9 @@ HANDED_ON = {("pointing", "declarations")}
 
 
 def sources(crate):
-    """All of a crate's Rattle and antt as one text."""
-    files = sorted((TOP / "crates" / crate).rglob("*"))
+    """All of a crate's Rattle and antt as one text. What the toolchain keeps in out/ is none of it."""
+    folder = TOP / "crates" / crate
+    files = sorted(file for file in folder.rglob("*") if file.relative_to(folder).parts[0] != "out")
     return "\n".join(file.read_text() for file in files if file.suffix in (".rt", ".antt"))
 
 

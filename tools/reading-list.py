@@ -162,7 +162,7 @@ def the_list(text):
                     total += len(lines)
         code = collections.defaultdict(list)
         for key, name in sorted(reached):
-            if key[1].startswith("declared.") and "the-variants" not in key[1] and (key, name) not in types:
+            if key[1].startswith("declared.") and "TheVariants" not in key[1] and (key, name) not in types:
                 types.add((key, name))
                 pieces = key[1].split(".")[1:-1]
                 code[f"crates/{key[0]}/src/{pieces[0] if pieces else 'lib'}.rt"].append(name)
