@@ -14,7 +14,7 @@ abbrev pub clean_said : Cleaned → Answer Lengths
 clean_said (Cleaned.Gives l) = gives l
 clean_said (Cleaned.Refused n) = refused n
 
--- `out` and `list` are what the two slices hold before, `outAfter` and `list_after` what they hold then.
+-- `out` and `list` are what the two slices hold before, `out_after` and `list_after` what they hold then.
 pub record CleanPromise (reading : ℕ) (file out list : List ℕ) (r : Cleaned) (out_after list_after : List ℕ) : Type 0 where
   pub said : clean_said r ≡ Entry.clean_of reading file out list
   pub cleaned : out_after ≡ Entry.cleaned_out reading file out list

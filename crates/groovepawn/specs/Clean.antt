@@ -16,7 +16,7 @@ lengths_word (gives l) = l.cleaned * 256 + l.struck * 4294967296
 unfoldable pub clean_word : ℕ → (file out list : List ℕ) → ℕ
 clean_word reading file out list = lengths_word (clean_of reading file out list)
 
--- `outAfter` and `list_after` are what the slices for the policy and for the list hold then.
+-- `out_after` and `list_after` are what the slices for the policy and for the list hold then.
 pub record CleanCall (reading : ℕ) (file out list : List ℕ) (r : ℕ) (out_after list_after : List ℕ) : Type 0 where
   pub said : r ≡ clean_word reading file out list
   pub cleaned : out_after ≡ cleaned_out reading file out list

@@ -40,15 +40,15 @@ fast_prepares {reading} {file} {before} {work = work} h l =
 pub fast_unless : {reading : ℕ} {file before after : List ℕ} {work left : Work} {r : ℕ} →
     FastCall reading file before work r after left → (r % 256 ≡ 23 → ⊥) → PrepareCall reading file before r after
 unfolding prepare_word
-fast_unless {reading} {file} {before} {work = work} h not_IsShort =
-    let k = unless_short reading file before (shortest work) (λ e. not_IsShort (ap (λ (n : ℕ). n % 256) (h.said ∙ ap summary_word e))) in
+fast_unless {reading} {file} {before} {work = work} h not_short =
+    let k = unless_short reading file before (shortest work) (λ e. not_short (ap (λ (n : ℕ). n % 256) (h.said ∙ ap summary_word e))) in
     record { said = h.said ∙ ap summary_word k.0; marks = h.marks ∙ k.1 }
 
 -- So "both are proved to leave equal marks and give equal verdicts, counts and refusals for every policy and both readings": their words are equal, and
 -- all that is in them.
 pub same_answers : {reading : ℕ} {file before after also : List ℕ} {work left : Work} {r q : ℕ} →
     PrepareCall reading file before r after → FastCall reading file before work q also left → (q % 256 ≡ 23 → ⊥) → (r ≡ q) × (after ≡ also)
-same_answers h g not_IsShort = prepare_one h (fast_unless g not_IsShort)
+same_answers h g not_short = prepare_one h (fast_unless g not_short)
 
 module _ (reading : ℕ) (file before : List ℕ) (work : ℕ) where
   -- The numbers that the second engine gives are small.

@@ -24,7 +24,7 @@ unfoldable pub join_fits : Policy → Bool
 join_fits p =
     leb p.locations 64 && (leb (length p.ceilings) 4 && (leb (length p.rules) 256 && leb (states p) 65536))
 
--- What a file says, for the join: it takes no reading, and the bytes that it writes are the same under each (`Written.joined_Bytes`).
+-- What a file says, for the join: it takes no reading, and the bytes that it writes are the same under each (`Written.joined_bytes`).
 abbrev pub said : List ℕ → Policy
 said f = policy_of 1 f
 

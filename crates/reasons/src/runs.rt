@@ -192,7 +192,7 @@ pub fn why_run(
     bound: &mut [u16],
     place: &mut [u16],
 ) -> Ran
-    ensures { WhyRunPromise reading file.now marks.now state events.now words.old (record { ticks = ticks.entry.now; rests = rests.old; prepared = prepared.old; work = record { stack = stack.entry.now; from = from.old; ways = ways.old; bound = bound.old; place = place.old } }) result words.new (record { ticks = ticks.exit.now; rests = rests.new; prepared = prepared.new; work = record { stack = stack.exit.now; from = from.new; ways = ways.new; bound = bound.new; place = place.new } }) }
+    ensures { WhyRunPromise reading file.now marks.now state events.now words.old (record { ticks = ticks.old; rests = rests.old; prepared = prepared.old; work = record { stack = stack.old; from = from.old; ways = ways.old; bound = bound.old; place = place.old } }) result words.new (record { ticks = ticks.new; rests = rests.new; prepared = prepared.new; work = record { stack = stack.new; from = from.new; ways = ways.new; bound = bound.new; place = place.new } }) }
 {
     let checked = policy::check_under(reading, file);
     let work = shortest(

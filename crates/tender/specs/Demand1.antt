@@ -109,7 +109,7 @@ pub use Rattle.printing.specs.Reply.{Replied, replied_one}
 pub use Rattle.viewer.specs.Shown.{shown}
 -- The program `why`: `telling::respond` writes a text that it `Prints` for the reading and the input, of which there is one, and returns how many bytes it is.
 pub use Rattle.telling.specs.Prints.{Prints, prints_one, Writes, writes_one}
--- The program `clean`: `listing::reading_of` gives `reading_of word`; `listing::respond` writes the policy `cleanWritten reading file` and the text
+-- The program `clean`: `listing::reading_of` gives `reading_of word`; `listing::respond` writes the policy `clean_written reading file` and the text
 -- `cleanPrinted reading file` likewise.
 pub use Rattle.listing.specs.Listed.{reading_of, written as clean_written, printed as clean_printed}
 -- The program `compile`: `translating::to_file::respond` writes the policy file `compileWritten text` and the line `compilePrinted text` likewise.

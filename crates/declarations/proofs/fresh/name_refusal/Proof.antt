@@ -1,4 +1,4 @@
--- `declarations::fresh::name_refusal` meets its contract.
+-- `declarations::fresh::name_refusal` meets its contract. No answer names the test of the clocks' names.
 use mathlib.Core.Path.{◌≡◌, sym, ◌∙◌}
 use mathlib.Core.Bool.{true}
 use Prim.Native.Nat.{◌+◌, ◌-◌}
@@ -34,16 +34,15 @@ returns-2 c = (name_signal _ _ _ (named c.before) c.find_name.ensures c.if-find_
 find-name-requires-2 : tie.Need-find_name-requires-2
 find-name-requires-2 c κs = names_fewer c.requires.3 _ (omega (arith, c.requires.2.clocks))
 
-returns-3 : tie.Need-returns-then-find_name-clocks
+returns-3 : tie.Need-returns
 returns-3 c =
     let k = at-signals c.before in
-    (name_clock _ _ _ (named k) k.find_name.ensures c.if-find_name-signals.false c.find_name-2.ensures c.if-find_name-clocks.true, λ z. absurd (omega arith))
-
-returns-4 : tie.Need-returns
-returns-4 c =
-    let k = at-signals c.before in
     let s = start k in
-    (name_fresh _ _ _ (named k) k.find_name.ensures c.if-find_name-signals.false c.find_name-2.ensures c.if-find_name-clocks.false, λ z. name_size s.args.text.now s.args.a s.args.b s.requires.0 s.requires.1 (named k))
+    (name_fresh _ _ _ (named k) k.find_name.ensures c.if-find_name-signals.false c.find_name-2.ensures (omega arith), λ z. name_size s.args.text.now s.args.a s.args.b s.requires.0 s.requires.1 (named k))
 
 pub name_refusal_spec : {M : Type 1} → statement M
-name_refusal_spec = tie.close (tie.spec (λ c. search rules) (λ c. search rules) (λ c. search rules) (λ c κs. search rules) returns (λ c. search rules) (λ c. search rules) (λ c. search rules) find-name-requires returns-2 (λ c. search rules) (λ c. search rules) (λ c. search rules) find-name-requires-2 returns-3 returns-4)
+name_refusal_spec = tie.close (tie.spec (λ c. search rules) (λ c. search rules) (λ c. search rules) (λ c κs. search rules) returns (λ c. search rules) (λ c. search rules) (λ c. search rules) find-name-requires returns-2 (λ c. search rules) (λ c. search rules) (λ c. search rules) find-name-requires-2
+    (λ c.
+    let k = at-signals c.before in
+    (name_clock _ _ _ (named k) k.find_name.ensures c.if-find_name-signals.false c.find_name-2.ensures (omega arith), λ z. absurd (omega arith)))
+    returns-3)
