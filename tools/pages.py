@@ -490,7 +490,7 @@ def check_helper(samples):
     with open(samples, encoding="utf-8") as file:
         source = file.read()
     files = {name.lower(): bytes.fromhex("".join(re.findall(r"0x(..)", body))) for name, body in re.findall(r"^(\w+) =\s+((?:0x..\s+∷\s+)+)\[\]", source, re.M)}
-    texts = re.findall(r'^(?:text|written|letters)(\w+) = ascii "(.*)"$', source, re.M)
+    texts = re.findall(r'^(?:text|written|letters)_(\w+) = ascii "(.*)"$', source, re.M)
     hold(samples, len(texts) >= 5, f"only {len(texts)} texts are found")
     for name, text in texts:
         text = re.sub(r"\\([ntr])", lambda one: {"n": "\n", "t": "\t", "r": "\r"}[one.group(1)], text)
