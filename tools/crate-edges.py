@@ -12,7 +12,7 @@ import sys
 TOP = pathlib.Path(__file__).resolve().parent.parent
 
 # What a crate only hands on, and so does not name: the prover must see the type all the same.
-HANDED_ON = {("pointing", "declarations")}
+HANDED_ON = {("pointing", "declarations"), ("listing", "refusals")}
 
 
 def sources(crate):

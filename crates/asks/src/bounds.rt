@@ -5,10 +5,8 @@ ghost use Rattle.texts.specs.Wrote.{Wrote};
 ghost use Rattle.asks.specs.Words.{clock, bound, bounds};
 
 use policy::bytes::pair_within;
+use policy::limits::NO_UPPER_BOUND;
 use texts::{put_about, put_bytes, put_decimal};
-
-// A high of 65,535 is no upper bound.
-const NO_HIGH: usize = 65535;
 
 fn put_clock(text: &mut [u8], at: usize, number: usize, low: usize) -> usize
     requires { at + length (clock number low) ≤ length text.old }
@@ -22,7 +20,7 @@ fn put_bound(text: &mut [u8], at: usize, number: usize, low: usize, high: usize)
     requires { at + length (bound number low high) ≤ length text.old }
     ensures { Wrote text.old at (bound number low high) result text.new }
 {
-    if high != NO_HIGH {
+    if high != NO_UPPER_BOUND as usize {
         let next = put_clock(text, at, number, low);
         let to = put_bytes(text, next, b" to ");
         return put_decimal(text, to, high);
@@ -40,12 +38,10 @@ pub(crate) fn put_bounds(text: &mut [u8], at: usize, rule: &[u8], clocks: usize)
     ensures { Wrote text.old at (bounds 0 (bounds_from rule.now 7 clocks)) result text.new }
 {
     let mut next = at;
-    let mut i = 0;
-    while i < clocks {
-        let low = pair_within(rule, 7 + 4 * i);
-        let high = pair_within(rule, 9 + 4 * i);
-        next = put_bound(text, next, i, low, high);
-        i += 1;
+    for clock in 0..clocks {
+        let low = pair_within(rule, 7 + 4 * clock);
+        let high = pair_within(rule, 9 + 4 * clock);
+        next = put_bound(text, next, clock, low, high);
     }
     next
 }

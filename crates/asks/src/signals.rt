@@ -12,8 +12,7 @@ fn put_name(text: &mut [u8], at: usize, tag: u8, mask: usize) -> usize
     ensures { Wrote text.old at (name tag mask) result text.new }
 {
     if mask % 2 == 1 {
-        let words = [b' ', tag];
-        return put_bytes(text, at, &words);
+        return put_bytes(text, at, &[b' ', tag]);
     }
     at
 }
@@ -24,11 +23,9 @@ fn put_names(text: &mut [u8], at: usize, tags: &[u8], mask: usize) -> usize
 {
     let mut next = at;
     let mut mask_on = mask;
-    let mut i = 0;
-    while i < tags.len() {
-        next = put_name(text, next, tags[i], mask_on);
+    for tag in tags {
+        next = put_name(text, next, *tag, mask_on);
         mask_on /= 2;
-        i += 1;
     }
     next
 }

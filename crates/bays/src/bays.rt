@@ -1,10 +1,12 @@
 // A new list, and the two halves of a bay's tick.
 ghost use Rattle.std.specs.Prelude.{◌≡◌, ◌<◌};
+ghost use Rattle.refusals.specs.Refused.{number_of, refusal_in, told};
 ghost use Rattle.bays.specs.Bays.{bays_in, bay_count, bay_state, with_state};
 ghost use Rattle.bays.specs.Entries.{started, no_bay};
 ghost use Rattle.bays.specs.Promises.{NewPromise, BayInputPromise, BayOutputPromise};
 
-use enforcer::{HalfAnswer, input_half, marks_refusal, output_of};
+use enforcer::{input_half, layout_for, output_of};
+use refusals::Refusal;
 use stepping::State;
 use stepping::five::{STATE_NUMBERS, put_state, state_of};
 
@@ -15,21 +17,20 @@ const BAYS: usize = 8;
 fn bays_in(numbers: usize) -> usize
     ensures { result ≡ bays_in numbers }
 {
-    if numbers % STATE_NUMBERS != 0 {
-        return 0;
-    }
-    if BAYS * STATE_NUMBERS < numbers {
+    if numbers % STATE_NUMBERS != 0 || BAYS * STATE_NUMBERS < numbers {
         return 0;
     }
     numbers / STATE_NUMBERS
 }
 
 // What is refused where there is no such bay: 22 and 1 to 10, then 24.
-fn no_bay(reading: u8, file: &[u8], marks: &[u8]) -> u8
-    ensures { result ≡ no_bay reading file.now marks.now }
+fn no_bay(reading: u8, file: &[u8], marks: &[u8]) -> Refusal
+    ensures { number_of result ≡ no_bay reading file.now marks.now }
 {
-    let r = marks_refusal(policy::check_under(reading, file), marks);
-    if r != 0 { r } else { 24 }
+    match layout_for(reading, file, marks) {
+        Err(refusal) => refusal,
+        Ok(_) => Refusal::NoBay,
+    }
 }
 
 // The state of a bay.
@@ -57,23 +58,21 @@ fn start_all(states: &mut [u16], bays: usize)
     requires { (0 < bays) × (bays ≡ bay_count states.old) }
     ensures { states.new ≡ started bays }
 {
-    let mut bay = 0;
-    while bay < bays {
+    for bay in 0..bays {
         put_bay(states, bay, State::start());
-        bay += 1;
     }
 }
 
 // A new list: every bay is at the start, or 25 is refused and nothing is written.
-pub fn bays_new(states: &mut [u16]) -> u8
-    ensures { NewPromise states.old result states.new }
+pub fn bays_new(states: &mut [u16]) -> Result<(), Refusal>
+    ensures { NewPromise states.old (refusal_in result) states.new }
 {
     let bays = bays_in(states.len());
     if bays == 0 {
-        return 25;
+        return Err(Refusal::BadBays);
     }
     start_all(states, bays);
-    0
+    Ok(())
 }
 
 // 22, 1 to 10, 24, 16, 15, 17.
@@ -84,11 +83,11 @@ pub fn bay_input(
     states: &[u16],
     bay: usize,
     x: u8,
-) -> HalfAnswer
-    ensures { BayInputPromise reading file.now marks.now states.now bay x result }
+) -> Result<u8, Refusal>
+    ensures { BayInputPromise reading file.now marks.now states.now bay x (told result) }
 {
     if bays_in(states.len()) <= bay {
-        return HalfAnswer::Refused(no_bay(reading, file, marks));
+        return Err(no_bay(reading, file, marks));
     }
     input_half(reading, file, marks, bay_state(states, bay), x)
 }
@@ -102,15 +101,14 @@ pub fn bay_output(
     bay: usize,
     x: u8,
     y: u8,
-) -> HalfAnswer
-    ensures { BayOutputPromise reading file.now marks.now states.old bay x y result states.new }
+) -> Result<u8, Refusal>
+    ensures { BayOutputPromise reading file.now marks.now states.old bay x y (told result) states.new }
 {
     if bays_in(states.len()) <= bay {
-        return HalfAnswer::Refused(no_bay(reading, file, marks));
+        return Err(no_bay(reading, file, marks));
     }
     let given = bay_state(states, bay);
-    let output = output_of(given, reading, file, marks, x, y);
-    let next = output.state;
+    let (released, next) = output_of(given, reading, file, marks, x, y)?;
     put_bay(states, bay, next);
-    output.answer
+    Ok(released)
 }

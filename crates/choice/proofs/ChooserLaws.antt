@@ -1,50 +1,32 @@
--- A turn of the walk along a row of the table.
-use mathlib.Core.Path.{◌≡◌, refl, sym, ◌∙◌}
-use mathlib.Core.Bool.{Bool, true, false}
-use mathlib.Core.List.{◌∷◌}
-use mathlib.Core.Option.{none, some}
-use Prim.Native.Nat.{ℕ, ◌+◌, ◌*◌, ◌≤◌, ◌<◌}
-use native.Mathlib.Numerals.{add-one}
-use native.Mathlib.Omega.{arith}
-use lib.Dec.{ltb}
-use lib.ListN.{get_or, drop, drop_of_length-le}
-use lib.Seq.{drop-cons}
-use borrow.Author.Tests.{lt-ltb, le-ltb}
-use Rattle.streams.specs.Choose.{nearest}
+-- A turn of the walk along a row of values.
+use Rattle.std.specs.Prelude.{◌≡◌, Bool, true, false, List, ◌∷◌, ℕ, ◌+◌, ◌≤◌, ◌<◌, length, get_or, drop}
+use Rattle.std.proofs.Common.{add-one, drop-cons, lt-ltb, le-ltb}
+use Rattle.std.proofs.Math.ListN.{drop_of_length-le}
+use Rattle.std.proofs.Math.Option.{Option, none, some}
 use Rattle.streams.specs.Rows.{first_of}
-use Rattle.choice.specs.Table.{table, row, row_length, row_entry}
-use Rattle.choice.proofs.TableLaws.{row_nearest}
 
-module _ (may : ℕ → Bool) (n w : ℕ) where
+-- The value at place i comes before those behind it.
+turn : (row : List ℕ) (i : ℕ) → i < length row → drop i row ≡ get_or row i 0 ∷ drop (i + 1) row
+turn row i l = rw (add-one, drop-cons row i 0)
+
+module _ (may : ℕ → Bool) (n : ℕ) (row : List ℕ) (chosen : Option ℕ) where
   -- None of the first i values is below n and may stand: the rest of the row decides.
   abbrev pub LeftOfRow : ℕ → Type 0
-  LeftOfRow i = first_of may n (drop i (row w)) ≡ nearest may w n
+  LeftOfRow i = first_of may n (drop i row) ≡ chosen
 
-  module _ (h : w < 16) where
-    pub left_starts : n ≤ 16 → LeftOfRow 0
-    left_starts l = row_nearest w h may n l
+  pub left_ends : {i : ℕ} → length row ≤ i → LeftOfRow i → none ≡ chosen
+  unfolding first_of
+  left_ends l e = rw (drop_of_length-le row l) at e
 
-    pub left_ends : {i : ℕ} → 16 ≤ i → LeftOfRow i → nearest may w n ≡ none
+  module _ {i : ℕ} (l : i < length row) where
+    pub left_found : LeftOfRow i → get_or row i 0 < n → may (get_or row i 0) ≡ true → some (get_or row i 0) ≡ chosen
     unfolding first_of
-    left_ends {i} l e = sym e ∙ rw (drop_of_length-le (row w) {i = i} (omega (arith, row_length w h)))
+    left_found e k m = rw (turn row i l, lt-ltb (get_or row i 0) n k, m) at e
 
-    module _ {i a : ℕ} (l : i < 16) (is : a ≡ get_or table (w * 16 + i) 0) where
-      -- The value at place i comes before the others.
-      turn : drop i (row w) ≡ a ∷ drop (i + 1) (row w)
-      turn = rw (add-one, drop-cons (row w) i 0 (omega (arith, row_length w h)), row_entry w h i l, is)
+    pub left_out : LeftOfRow i → n ≤ get_or row i 0 → LeftOfRow (i + 1)
+    unfolding first_of
+    left_out e k = rw (turn row i l, le-ltb (get_or row i 0) n k) at e
 
-      pub left_found : LeftOfRow i → a < n → may a ≡ true → nearest may w n ≡ some a
-      unfolding first_of
-      left_found e k m = sym e ∙ rw (turn, lt-ltb a n k, m)
-
-      pub left_out : LeftOfRow i → n ≤ a → LeftOfRow (i + 1)
-      unfolding first_of
-      left_out e k = sym (rw (turn, le-ltb a n k)) ∙ e
-
-      pub left_passed : LeftOfRow i → may a ≡ false → LeftOfRow (i + 1)
-      unfolding first_of
-      left_passed e m = go (ltb a n) refl
-        where
-          go : (t : Bool) → ltb a n ≡ t → LeftOfRow (i + 1)
-          go true d = sym (rw (turn, d, m)) ∙ e
-          go false d = sym (rw (turn, d)) ∙ e
+    pub left_passed : LeftOfRow i → get_or row i 0 < n → may (get_or row i 0) ≡ false → LeftOfRow (i + 1)
+    unfolding first_of
+    left_passed e k m = rw (turn row i l, lt-ltb (get_or row i 0) n k, m) at e

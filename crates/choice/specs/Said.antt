@@ -1,9 +1,8 @@
--- What the chooser's own type stands for.
-use Rattle.std.proofs.Math.Option.{Option, none, some}
-use Rattle.std.specs.Prelude.{ℕ}
-use Rattle.choice.specs.declared.chooser.Choice.{Choice}
+-- What the chooser's answer stands for.
+use Rattle.std.proofs.Math.Option as math
+use Rattle.std.specs.Prelude.{ℕ, Option, Some, None}
 
 -- The value that was chosen, or none.
-abbrev pub choice_said : Choice → Option ℕ
-choice_said (Choice.Value z) = some z
-choice_said Choice.Nothing = none
+abbrev pub choice_said : Option ℕ → math.Option ℕ
+choice_said (Some z) = math.some z
+choice_said None = math.none

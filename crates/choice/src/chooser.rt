@@ -1,17 +1,11 @@
 // The nearest value in a set: one chooser for both halves.
-ghost use Rattle.std.specs.Prelude.{◌≡◌, ℕ, ◌≤◌, ◌<◌, eqb, ltb, get_or};
+ghost use Rattle.std.specs.Prelude.{◌≡◌, ℕ, ◌≤◌, ◌<◌, ltb, get_or};
 ghost use Rattle.streams.specs.Choose.{nearest};
 ghost use Rattle.choice.specs.Sets.{has};
 ghost use Rattle.choice.specs.Table.{table};
 ghost use Rattle.choice.specs.Said.{choice_said};
 
 use crate::table::NEAREST_FIRST;
-
-#[derive(Clone, Copy)]
-pub enum Choice {
-    Value(u8),
-    Nothing,
-}
 
 // The value is in the set.
 fn is_in(set: u16, value: u8) -> bool
@@ -22,37 +16,26 @@ fn is_in(set: u16, value: u8) -> bool
 }
 
 // Of the values below n in the set, the first of the wanted value's row. The table is lent: a constant is laid out anew wherever it is read.
-fn first_of_row(rows: &[u8; 256], set: u16, wanted: u8, n: usize) -> Choice
+#[tactic(auto, using(crate::proofs::ChooserLaws::left_found, crate::proofs::ChooserLaws::left_out, crate::proofs::ChooserLaws::left_passed, crate::proofs::ChooserLaws::left_ends))]
+fn first_of_row(rows: &[u8; 256], set: u16, wanted: u8, n: usize) -> Option<u8>
     requires { (rows.now ≡ table) × (wanted < 16) × (n ≤ 16) }
     ensures { choice_said result ≡ nearest (has set) wanted n }
 {
     let start = wanted as usize * 16;
-    let mut i = 0;
-    while i < 16 {
-        let value = rows[start + i];
-        if (value as usize) < n {
-            if is_in(set, value) {
-                return Choice::Value(value);
-            }
+    for &value in &rows[start..start + 16] {
+        if (value as usize) < n && is_in(set, value) {
+            return Some(value);
         }
-        i += 1;
     }
-    Choice::Nothing
+    None
 }
 
 // Of the values below n in the set, the one nearest to the wanted one: the first of its row. Its bits past the first four decide nothing, so they have no rows.
-pub fn nearest(set: u16, wanted: u8, n: usize) -> Choice
+pub fn nearest(set: u16, wanted: u8, n: usize) -> Option<u8>
     requires { n ≤ 16 }
     ensures { choice_said result ≡ nearest (has set) wanted n }
 {
     first_of_row(&NEAREST_FIRST, set, wanted % 16, n)
-}
-
-// 1 for a set that is not empty, else 0.
-fn some(set: u16) -> u16
-    ensures { (result < 2) × (eqb result 1 ≡ ltb 0 set) }
-{
-    if set == 0 { 0 } else { 1 }
 }
 
 // The inputs whose set is not empty.
@@ -60,10 +43,8 @@ pub fn standing(sets: [u16; 16]) -> u16
     ensures { (x : ℕ) → has result x ≡ ltb 0 (get_or sets x 0) }
 {
     let mut all = 0u16;
-    let mut x = 16;
-    while 0 < x {
-        x -= 1;
-        all = all * 2 + some(sets[x]);
+    for x in (0..sets.len()).rev() {
+        all = all * 2 + u16::from(sets[x] != 0);
     }
     all
 }

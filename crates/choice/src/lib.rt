@@ -5,5 +5,5 @@ mod chooser;
 mod sets;
 mod table;
 
-pub use chooser::{Choice, nearest, standing};
+pub use chooser::{nearest, standing};
 pub use sets::{all_below, gather, is_left, nothing_left, outs, room, take};

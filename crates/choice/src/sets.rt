@@ -42,13 +42,8 @@ pub fn room(inputs: usize, outputs: usize) -> [u16; 16]
     requires { (inputs ≤ 16) × (outputs ≤ 16) }
     ensures { Changed (λ x. all_below outputs) inputs (replicate 16 0) result }
 {
-    let all = all_below(outputs);
     let mut sets = [0u16; 16];
-    let mut x = 0;
-    while x < inputs {
-        sets[x] = all;
-        x += 1;
-    }
+    sets[..inputs].fill(all_below(outputs));
     sets
 }
 
@@ -66,6 +61,7 @@ pub fn is_left(left: &[u16; 16], inputs: usize, care: usize, value: usize, set: 
     ensures { result ≡ some_below (λ x. ltb 0 (agreed care value set x (get_or left.now x 0))) inputs }
 {
     let mut x = value;
+    // A `while`: `after` skips the inputs that do not agree.
     while x < inputs {
         if left[x] & set != 0 {
             return true;
@@ -80,14 +76,7 @@ pub fn nothing_left(left: &[u16; 16], inputs: usize) -> bool
     requires { inputs ≤ 16 }
     ensures { result ≡ true → (x : ℕ) → x < inputs → get_or left.now x 0 ≡ 0 }
 {
-    let mut x = 0;
-    while x < inputs {
-        if left[x] != 0 {
-            return false;
-        }
-        x += 1;
-    }
-    true
+    left[..inputs].iter().all(|&set| set == 0)
 }
 
 // Takes from what is left what agrees with the care bits, the value and the set.
@@ -96,6 +85,7 @@ pub fn take(left: &mut [u16; 16], inputs: usize, care: usize, value: usize, set:
     ensures { Changed (λ x. bit_xor (get_or left.old x 0) (agreed care value set x (get_or left.old x 0))) inputs left.old left.new }
 {
     let mut x = value;
+    // A `while`: `after` skips the inputs that do not agree.
     while x < inputs {
         left[x] = left[x] ^ (left[x] & set);
         x = after(care, x);
@@ -117,6 +107,7 @@ pub fn gather(
     ensures changed_2 { Changed (λ x. bit_or (get_or found.old x 0) (agreed care value led x (get_or left.old x 0))) inputs found.old found.new }
 {
     let mut x = value;
+    // A `while`: `after` skips the inputs that do not agree.
     while x < inputs {
         found[x] = found[x] | left[x] & led;
         left[x] = left[x] ^ left[x] & set;

@@ -8,9 +8,8 @@ use native.Mathlib.Nat.{suc-mul}
 use native.Mathlib.Numerals.{add-one}
 use native.Mathlib.Omega.{arith}
 use lib.Dec.{eqb}
-use lib.ListN.{length, get_or, drop, length-map, drop_of_length-le}
+use lib.ListN.{length, get_or, drop, length-map}
 use lib.Seq.{drop-cons}
-use borrow.Author.Tests.{eq-eqb, ne_eqb}
 use Rattle.policy.specs.Rules.{Rule}
 use Rattle.policy.specs.File.{byte_at, part, rule_size, rule_from, rules_from, rules_of, input_count, output_count, clocks_at, clock_count, locations_at, location_count, rule_count, input_tags, output_tags, ceilings_of, location_bytes, policy_of}
 use Rattle.policy.specs.Bytes.{pair_bytes, pairs_bytes, rule_bytes, rules_bytes, counts_bytes, bytes_of}
@@ -135,37 +134,6 @@ module _ (L : List Bool) where
       go [] = refl
       go (b ∷ U) = refl
 
--- ---- A turn of the loop over the bytes of the locations.
-module _ (entered f : List ℕ) (at n i : ℕ) (e : length entered ≡ n) (u : i < n) where
-  left_more : sift (drop i (flags_of entered)) (bytes_from f (at + i) (n - i))
-      ≡ sift (eqb (get_or entered i 0) 1 ∷ drop (i + 1) (flags_of entered)) (byte_at f (at + i) ∷ bytes_from f (at + (i + 1)) (n - (i + 1)))
-  unfolding bytes_from
-  left_more =
-      let m : n - i ≡ suc (n - (i + 1)) = omega arith in
-      let s : at + i + 1 ≡ at + (i + 1) = omega arith in
-      rw (drop-cons (flags_of entered) i false (omega (arith, flags_long entered)), m, s, flags_byte entered i, ← add-one i)
-
-  pub left_kept : {v : ℕ} → get_or entered i 0 ≡ 1 → v ≡ byte_at f (at + i) →
-      sift (drop i (flags_of entered)) (bytes_from f (at + i) (n - i)) ≡ (v ∷ []) ++ sift (drop (i + 1) (flags_of entered)) (bytes_from f (at + (i + 1)) (n - (i + 1)))
-  left_kept h v = left_more ∙ rw (eq-eqb (get_or entered i 0) 1 h, v)
-
-  pub left_struck : (get_or entered i 0 ≡ 1 → ⊥) →
-      sift (drop i (flags_of entered)) (bytes_from f (at + i) (n - i)) ≡ sift (drop (i + 1) (flags_of entered)) (bytes_from f (at + (i + 1)) (n - (i + 1)))
-  left_struck h = left_more ∙ rw (ne_eqb (get_or entered i 0) 1 h)
-
-pub left_from : (entered : List ℕ) (f : List ℕ) (at n : ℕ) → sift (flags_of entered) (bytes_from f at n) ≡ sift (drop 0 (flags_of entered)) (bytes_from f (at + 0) (n - 0))
-left_from entered f at n =
-    let z : at + 0 ≡ at = omega arith in
-    let m : n - 0 ≡ n = omega arith in rw (z, m)
-
-pub left_none : (entered : List ℕ) (f : List ℕ) (at n i : ℕ) → n ≤ i → sift (drop i (flags_of entered)) (bytes_from f at (n - i)) ≡ []
-unfolding bytes_from
-left_none entered f at n i h = let e : n - i ≡ 0 = omega arith in rw e (go (drop i (flags_of entered)))
-  where
-    go : (L : List Bool) → sift {A = ℕ} L [] ≡ []
-    go [] = refl
-    go (b ∷ L) = refl
-
 -- ---- The list of what was struck.
 struck_append : (xs ys : List Struck) → struck_bytes (xs ++ ys) ≡ struck_bytes xs ++ struck_bytes ys
 struck_append [] ys = refl
@@ -182,9 +150,6 @@ locations_turn entered i {b} u q =
     rw (drop-cons (flags_of entered) i false (omega (arith, flags_long entered)), flags_byte entered i, ← q, add-one i)
     (unless_bytes b 1 i (locations_struck (suc i) (drop (suc i) (flags_of entered))))
 
-pub locations_end : (entered : List ℕ) (i : ℕ) → length entered ≤ i → struck_bytes (locations_struck i (drop i (flags_of entered))) ≡ []
-locations_end entered i h = rw (drop_of_length-le (flags_of entered) {i = i} (omega (arith, flags_long entered)))
-
 module _ (entered used : List ℕ) where
   pub struck_turn : (clocks : ℕ) (f : List ℕ) (p n i : ℕ) {b : Bool} {kind : ℕ} → length used ≡ n → i < n → b ≡ eqb (get_or used i 0) 1 →
       kind ≡ cond (eqb (get_or entered (byte_at f p) 0) 1) 3 2 →
@@ -199,14 +164,6 @@ module _ (entered used : List ℕ) where
       struck_bytes (rules_struck (flags_of entered) 0 (flags_of used) (rules_of f))
       ≡ struck_bytes (rules_struck (flags_of entered) 0 (drop 0 (flags_of used)) (rules_from l.clocks f l.rules_start (n - 0)))
   struck_start {f} {l} k e = let z : l.rules - 0 ≡ l.rules = omega arith in rw (e, z, rules_here k)
-
-  pub struck_end : (clocks : ℕ) (f : List ℕ) (p n i : ℕ) → n ≤ i →
-      struck_bytes (rules_struck (flags_of entered) i (drop i (flags_of used)) (rules_from clocks f p (n - i))) ≡ []
-  struck_end clocks f p n i h = rw (no_rule clocks f p n i h) (go (drop i (flags_of used)))
-    where
-      go : (U : List Bool) → struck_bytes (rules_struck (flags_of entered) i U []) ≡ []
-      go [] = refl
-      go (b ∷ U) = refl
 
   pub struck_whole : (f : List ℕ) (l : Layout) →
       struck_bytes (locations_struck 0 (flags_of entered)) ++ struck_bytes (rules_struck (flags_of entered) 0 (flags_of used) (rules_of f)) ≡ struck_by f l entered used

@@ -15,3 +15,4 @@ pub mod Sizes
 pub mod Short
 pub mod One
 pub mod Examples
+pub mod Kinds

@@ -12,13 +12,15 @@ ghost use Rattle.resting.specs.Table.{bit};
 ghost use Rattle.usage.specs.Flags.{entered, used};
 ghost use Rattle.usage.specs.Code.{Flagged, cleaned_by, struck_by};
 ghost use Rattle.cleaning.specs.Entry.{cleaned_file, struck_list};
+ghost use Rattle.refusals.specs.Refused.{told};
 ghost use Rattle.cleaning.specs.Promise.{CleanPromise, WritesPromise};
 
 use list::lay_list;
 use planning::plan;
 use policy::limits::RULES;
-use policy::{Layout, check_under};
+use policy::{Layout, layout_under};
 use prepare::reached;
+use refusals::Refusal;
 use rules::lay_policy;
 use stepping::State;
 use usage::enter::enter;
@@ -29,12 +31,6 @@ use usage::use_rules;
 pub struct Lengths {
     pub cleaned: usize,
     pub struck: usize,
-}
-
-#[derive(Clone, Copy)]
-pub enum Cleaned {
-    Gives(Lengths),
-    Refused(u8),
 }
 
 // Finds the locations that are entered and the rules that are used. Each state has a byte: first it says whether the state is reached, and at the end the first bytes are the locations' flags. Each rule has one: first its plan, and at the end its flag.
@@ -66,7 +62,7 @@ fn list_length(file: &[u8], layout: Layout, entered: &[u8], used: &[u8], list: &
     lay_list(file, layout, entered, used, &mut list[..0])
 }
 
-// 14 where either slice is too short, before a byte is written; otherwise both are written.
+// NoRoom where either slice is too short, before a byte is written; otherwise both are written.
 fn write(
     file: &[u8],
     layout: Layout,
@@ -74,24 +70,24 @@ fn write(
     used: &[u8],
     out: &mut [u8],
     list: &mut [u8],
-) -> Cleaned
+) -> Result<Lengths, Refusal>
     requires { Flagged file.now layout entered.now used.now }
-    ensures { WritesPromise (cleaned_by file.now layout entered.now used.now) (struck_by file.now layout entered.now used.now) out.old list.old result out.new list.new }
+    ensures { WritesPromise (cleaned_by file.now layout entered.now used.now) (struck_by file.now layout entered.now used.now) out.old list.old (told result) out.new list.new }
 {
     let cleaned = policy_length(file, layout, entered, used, out);
     let struck = list_length(file, layout, entered, used, list);
     if out.len() < cleaned {
-        return Cleaned::Refused(14);
+        return Err(Refusal::NoRoom);
     }
     if list.len() < struck {
-        return Cleaned::Refused(14);
+        return Err(Refusal::NoRoom);
     }
     lay_policy(file, layout, entered, used, out);
     lay_list(file, layout, entered, used, list);
-    Cleaned::Gives(Lengths { cleaned, struck })
+    Ok(Lengths { cleaned, struck })
 }
 
-// The file is checked: 14, or both are written. The marks have a byte for each state, and the rules one each.
+// The file is checked: NoRoom, or both are written. The marks have a byte for each state, and the rules one each.
 fn clean_in(
     file: &[u8],
     layout: Layout,
@@ -99,9 +95,9 @@ fn clean_in(
     rules: &mut [u8],
     out: &mut [u8],
     list: &mut [u8],
-) -> Cleaned
+) -> Result<Lengths, Refusal>
     requires { Laid file.now layout × (length marks.old ≡ 65536) × (length rules.old ≡ 256) }
-    ensures { WritesPromise (cleaned_file layout.reading file.now) (struck_list layout.reading file.now) out.old list.old result out.new list.new }
+    ensures { WritesPromise (cleaned_file layout.reading file.now) (struck_list layout.reading file.now) out.old list.old (told result) out.new list.new }
 {
     let states = layout.states;
     let locations = layout.locations;
@@ -125,23 +121,18 @@ fn clean_with(
     rules: &mut [u8; RULES],
     out: &mut [u8],
     list: &mut [u8],
-) -> Cleaned
+) -> Result<Lengths, Refusal>
     requires { Laid file.now layout }
-    ensures { WritesPromise (cleaned_file layout.reading file.now) (struck_list layout.reading file.now) out.old list.old result out.new list.new }
+    ensures { WritesPromise (cleaned_file layout.reading file.now) (struck_list layout.reading file.now) out.old list.old (told result) out.new list.new }
 {
     clean_in(file, layout, marks, rules, out, list)
 }
 
 // Writes the cleaned policy and the list of what was struck, three bytes each. A refusal writes nothing in both, and bytes past the written parts stay. The memory that it needs, a byte a state and a byte a rule, lies on the stack.
-pub fn clean(reading: u8, file: &[u8], out: &mut [u8], list: &mut [u8]) -> Cleaned
-    ensures { CleanPromise reading file.now out.old list.old result out.new list.new }
+pub fn clean(reading: u8, file: &[u8], out: &mut [u8], list: &mut [u8]) -> Result<Lengths, Refusal>
+    ensures { CleanPromise reading file.now out.old list.old (told result) out.new list.new }
 {
-    let checked = check_under(reading, file);
-    let refusal = checked.refusal;
-    if refusal != 0 {
-        return Cleaned::Refused(refusal);
-    }
-    let layout = checked.layout;
+    let layout = layout_under(reading, file)?;
     let mut marks = [0u8; State::STATES];
     let mut rules = [0u8; RULES];
     clean_with(file, layout, &mut marks, &mut rules, out, list)

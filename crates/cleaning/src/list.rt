@@ -5,21 +5,44 @@ ghost use Rattle.policy.specs.Bytes.{pair_bytes};
 ghost use Rattle.laying.specs.Lay.{LaidAt};
 ghost use Rattle.usage.specs.Clean.{struck_bytes, locations_struck, rules_struck};
 ghost use Rattle.usage.specs.Code.{flags_of, Flagged, struck_by};
+ghost use Rattle.cleaning.specs.Kinds.{kind_byte};
 
 use laying::lay::{put, put_pair};
 use policy::Layout;
 use policy::bytes::byte_within;
 use policy::limits::{BOUND_SIZE, RULE_HEAD};
 
+// What an entry of the list names.
+#[derive(Clone, Copy)]
+pub enum Kind {
+    Location,
+    // A rule whose location goes too.
+    RuleWithLocation,
+    Rule,
+}
+
+// The byte that stands for it.
+impl From<Kind> for u8 {
+    ghost from_gives = { λ kind byte. byte ≡ kind_byte kind };
+
+    fn from(kind: Kind) -> u8 {
+        match kind {
+            Kind::Location => 1,
+            Kind::RuleWithLocation => 2,
+            Kind::Rule => 3,
+        }
+    }
+}
+
 // One entry: the kind, then the old number in two bytes. Where it is kept there is none.
-fn lay_unless(kept: bool, kind: usize, number: usize, out: &mut [u8], at: usize) -> usize
-    requires { (kind < 256) × (number < 65536) × (at < 2 ^ 16) }
-    ensures { LaidAt (cond kept [] (kind ∷ pair_bytes number)) out.old at out.new result × (result ≤ at + 3) }
+fn lay_unless(kept: bool, kind: Kind, number: usize, out: &mut [u8], at: usize) -> usize
+    requires { (number < 65536) × (at < 2 ^ 16) }
+    ensures { LaidAt (cond kept [] (kind_byte kind ∷ pair_bytes number)) out.old at out.new result × (result ≤ at + 3) }
 {
     if kept {
         return at;
     }
-    let next = put(kind, out, at);
+    let next = put(u8::from(kind) as usize, out, at);
     put_pair(number, out, next)
 }
 
@@ -30,21 +53,22 @@ fn lay_locations(entered: &[u8], out: &mut [u8]) -> usize
     ensures upper_bound { result ≤ 192 }
 {
     let mut next = 0;
-    let mut i = 0;
-    while i < entered.len() {
-        let kept = entered[i] == 1;
-        next = lay_unless(kept, 1, i, out, next);
-        i += 1;
+    for (location, flag) in entered.iter().enumerate() {
+        next = lay_unless(*flag == 1, Kind::Location, location, out, next);
     }
     next
 }
 
-// The kind of a rule that is struck: 2 if its location goes too.
-fn kind_of(entered: &[u8], source: usize) -> usize
+// The kind of a rule that is struck.
+fn kind_of(entered: &[u8], source: usize) -> Kind
     requires { source < length entered.now }
-    ensures { (result ≡ cond (eqb (get_or entered.now source 0) 1) 3 2) × (result < 256) }
+    ensures { kind_byte result ≡ cond (eqb (get_or entered.now source 0) 1) 3 2 }
 {
-    if entered[source] == 1 { 3 } else { 2 }
+    if entered[source] == 1 {
+        Kind::Rule
+    } else {
+        Kind::RuleWithLocation
+    }
 }
 
 // The rules whose flags are not set.
@@ -63,13 +87,10 @@ fn lay_rules_struck(
     let size = RULE_HEAD + BOUND_SIZE * clocks;
     let mut next = at;
     let mut p = layout.rules_start;
-    let mut i = 0;
-    while i < used.len() {
-        let kept = used[i] == 1;
+    for (rule, flag) in used.iter().enumerate() {
         let kind = kind_of(entered, byte_within(file, p));
-        next = lay_unless(kept, kind, i, out, next);
+        next = lay_unless(*flag == 1, kind, rule, out, next);
         p += size;
-        i += 1;
     }
     next
 }

@@ -68,12 +68,9 @@ fn lay_rules(
     let size = RULE_HEAD + BOUND_SIZE * clocks;
     let mut next = at;
     let mut p = layout.rules_start;
-    let mut i = 0;
-    while i < used.len() {
-        let kept = used[i] == 1;
-        next = lay_kept(file, clocks, entered, kept, p, out, next);
+    for flag in used {
+        next = lay_kept(file, clocks, entered, *flag == 1, p, out, next);
         p += size;
-        i += 1;
     }
     next
 }
@@ -85,13 +82,9 @@ fn lay_left(file: &[u8], start: usize, entered: &[u8], out: &mut [u8], at: usize
     ensures upper_bound { result ≤ at + 64 }
 {
     let mut next = at;
-    let mut i = 0;
-    while i < entered.len() {
-        if entered[i] == 1 {
-            next = put(byte_within(file, start + i), out, next);
-            i += 1;
-        } else {
-            i += 1;
+    for (byte, flag) in file[start..start + entered.len()].iter().zip(entered) {
+        if *flag == 1 {
+            next = put(*byte as usize, out, next);
         }
     }
     next

@@ -1,3 +1,4 @@
+pub mod Refused
 pub mod RuleLine
 pub mod Line
 pub mod Lines

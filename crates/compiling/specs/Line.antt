@@ -1,9 +1,11 @@
 -- A line, by its first word.
-use Rattle.std.specs.Prelude.{◌≡◌, refl, cond, List, [], ◌∷◌, ◌++◌, ℕ, zero, suc, ◌-◌, ◌≤◌, ◌<◌, length, get_or}
+use Rattle.std.specs.Prelude.{◌≡◌, refl, Option, Some, None, MatchOption, cond, List, [], ◌∷◌, ◌++◌, ℕ, zero, suc, ◌-◌, ◌≤◌, ◌<◌, length, get_or}
 use Rattle.std.proofs.Common.{ap, ◌∙◌, arith, ne_eqb}
 use Rattle.std.proofs.Math.Path.{sym}
 use Rattle.std.proofs.Math.Dec.{eqb}
-use Rattle.streams.specs.Answer.{Answer, gives, answer}
+use Rattle.streams.specs.Answer.{Answer, refused, gives}
+use Rattle.refusals.specs.Refused.{number_of}
+use Rattle.refusals.specs.declared.Refusal.{Refusal}
 use Rattle.policy.specs.Rules.{Rule}
 use Rattle.policy.specs.File.{part}
 use Rattle.wording.specs.Words.{Word, Line, words_of}
@@ -13,7 +15,9 @@ use Rattle.words.specs.Spans.{place_below}
 use Rattle.words.specs.Keywords.{keywords, keyword_is}
 use Rattle.words.specs.Firsts.{NextIn, in_none, in_word}
 use Rattle.conditions.specs.Steps.{Masked}
+use Rattle.conditions.specs.declared.steps.Parsed.{Parsed}
 use Rattle.declarations.specs.Table.{Fit}
+use Rattle.declarations.specs.declared.table.Table.{Table}
 use Rattle.compiling.specs.RuleLine.{rule_said}
 use Rattle.compiling.specs.declared.line.Taken.{Taken}
 
@@ -59,21 +63,28 @@ module _ (d : Draft) (w : Word) (ws : Line) (r : ℕ) (e : find 0 w keywords ≡
       by_word ∙ rw (ne_eqb r 0 (λ z. omega arith), ne_eqb r 1 (λ z. omega arith), ne_eqb r 2 (λ z. omega arith), ne_eqb r 3 (λ z. omega arith), ne_eqb r 4 (λ z. omega arith))
 
 -- The rules with one more, where the line has one.
-abbrev pub with_rule : ℕ → List Rule → Rule → List Rule
-with_rule zero rules r = rules
-with_rule (suc n) rules r = rules ++ (r ∷ [])
+abbrev pub with_rule : List Rule → Table → Option Parsed → List Rule
+with_rule rules t None = rules
+with_rule rules t (Some p) = rules ++ (rule_said t p ∷ [])
 
 -- The rules after a line: those before it, and the line's own if it has one.
 abbrev pub taken_rules : List Rule → Taken → List Rule
-taken_rules rules r = with_rule r.rule rules (rule_said r.table r.parsed)
+taken_rules rules r = with_rule rules r.table r.rule
+
+-- How many rules a line has.
+abbrev pub rule_number : Option Parsed → ℕ
+rule_number None = 0
+rule_number (Some p) = 1
 
 -- What a line from `at` to `end` says after `count` rules: what the lines before it have said with their rules, and what they have said with this one.
 pub record Took (text : List ℕ) (before : List Rule → Draft) (end at count : ℕ) (r : Taken) (after : List Rule → Draft) : Type 0 where
-  pub line : (rules : List Rule) → length rules ≡ count → answer r.refusal (after (taken_rules rules r)) ≡ read_line (before rules) (words_of (part text at (end - at)))
+  pub line : (rules : List Rule) → length rules ≡ count → gives (after (taken_rules rules r)) ≡ read_line (before rules) (words_of (part text at (end - at)))
   pub fit : Fit r.table
-  pub masked : Masked r.parsed
-  pub one : r.rule ≤ 1
-  pub room : r.refusal ≡ 0 → r.rule ≡ 1 → (r.table.source < 64) × (count < 256)
+  pub rule : MatchOption r.rule (Unit {0}) (λ p. Masked p × (r.table.source < 64) × (count < 256))
+
+-- Why it is refused.
+abbrev pub Stopped : (text : List ℕ) → (List Rule → Draft) → (end at count : ℕ) → Refusal → Type 0
+Stopped text before end at count e = (rules : List Rule) → length rules ≡ count → refused (number_of e) ≡ read_line (before rules) (words_of (part text at (end - at)))
 
 -- By the first word.
 module _ {text : List ℕ} {end at a b : ℕ} (n : NextIn text end at a b) (d : Draft) where

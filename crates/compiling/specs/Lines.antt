@@ -1,18 +1,21 @@
 -- The lines of a text, one after another, by what the code has of those that it has read.
-use Rattle.std.specs.Prelude.{◌≡◌, refl, ℕ, zero, suc, ◌+◌, ◌-◌, ◌≤◌, ◌<◌, length, drop, replicate}
+use Rattle.std.specs.Prelude.{◌≡◌, refl, Option, Some, None, MatchOption, ℕ, zero, suc, ◌+◌, ◌-◌, ◌≤◌, ◌<◌, length, drop, replicate}
 use Rattle.std.proofs.Math.Path.{ap}
 use Rattle.std.proofs.Common.{sym, ◌∙◌, arith, length-append, drop_of_length-le}
 use mathlib.Core.List.{List, [], ◌∷◌}
 use Rattle.std.proofs.lemmas.List.{length-replicate, get_or-replicate}
-use Rattle.streams.specs.Answer.{Answer, answer}
+use Rattle.streams.specs.Answer.{Answer, refused, gives}
+use Rattle.refusals.specs.Refused.{number_of}
+use Rattle.refusals.specs.declared.Refusal.{Refusal}
 use Rattle.policy.specs.Rules.{Rule}
 use Rattle.policy.specs.File.{part}
 use Rattle.wording.specs.Words.{words_of, each_words, split, lines_of}
-use Rattle.wording.specs.Reader.{Draft, empty, FromText, stops, reads, proceed, read_lines}
+use Rattle.wording.specs.Reader.{Draft, empty, stops, reads, proceed, read_line, read_lines}
 use Rattle.words.specs.Spans.{NamesIn}
 use Rattle.words.specs.Lex.{NextLine}
 use Rattle.compiling.specs.RuleLine.{rule_said}
-use Rattle.compiling.specs.Line.{Took, taken_rules, with_rule}
+use Rattle.conditions.specs.declared.steps.Parsed.{Parsed}
+use Rattle.compiling.specs.Line.{Took, Stopped, taken_rules, with_rule, rule_number}
 use Rattle.compiling.specs.declared.line.Taken.{Taken}
 
 -- After `passed` lines, up to `at`, with `count` rules: the lines that are left decide.
@@ -56,10 +59,9 @@ next_more at end length next a h e b c = go (length - end) refl
     go (suc n) z = let y : end < length = omega arith in let w : next ≡ end + 1 = b y in omega arith
 
 -- No more than 256 rules are taken.
-pub few_rules : (rule count : ℕ) → rule ≤ 1 → count ≤ 256 → (rule ≡ 1 → count < 256) → count + rule ≤ 256
-few_rules zero count a b c = omega arith
-few_rules (suc zero) count a b c = let h : count < 256 = c refl in omega arith
-few_rules (suc (suc n)) count a b c = absurd (omega arith)
+pub few_rules : (Q : Parsed → Type 0) (rule : Option Parsed) (count : ℕ) → count ≤ 256 → MatchOption rule (Unit {0}) (λ p. Q p × (count < 256)) → count + rule_number rule ≤ 256
+few_rules Q None count a c = omega arith
+few_rules Q (Some p) count a c = omega (arith, c.1)
 
 module _ {text : List ℕ} {draft : List Rule → Draft} {rules : List Rule} {count passed at : ℕ} (s : Sofar text draft rules count passed at) where
   -- At the end of the text, what the lines have said is what the text says.
@@ -72,36 +74,28 @@ module _ {text : List ℕ} {draft : List Rule → Draft} {rules : List Rule} {co
     unfolding lines_of
     here = ap each_words (l.lines h)
 
+    onwards : (a : Answer Draft) → a ≡ read_line (draft rules) (words_of (part text at (end - at))) → read_lines 1 empty (lines_of text)
+        ≡ proceed (suc passed) a (λ e. read_lines (suc (suc passed)) e (lines_of (drop (end + 1) text)))
+    unfolding read_lines
+    onwards a said =
+        s.rest ∙ ap (read_lines (suc passed) (draft rules)) here
+        ∙ ap (λ (b : Answer Draft). proceed (suc passed) b (λ e. read_lines (suc (suc passed)) e (lines_of (drop (end + 1) text)))) (sym said)
+
+    -- A refused line stops the reading, with its refusal and its number, counted from 1.
+    pub lines_stop : (e : Refusal) → Stopped text draft end at count e → read_lines 1 empty (lines_of text) ≡ stops (number_of e) (passed + 1)
+    lines_stop e k = let p : suc passed ≡ passed + 1 = omega arith in onwards (refused (number_of e)) (k rules s.many) ∙ ap (stops (number_of e)) p
+
     module _ {r : Taken} {after : List Rule → Draft} (k : Took text draft end at count r after) where
-      line_on : read_lines 1 empty (lines_of text)
-          ≡ proceed (suc passed) (answer r.refusal (after (taken_rules rules r))) (λ e. read_lines (suc (suc passed)) e (lines_of (drop (end + 1) text)))
-      unfolding read_lines
-      line_on =
-          s.rest ∙ ap (read_lines (suc passed) (draft rules)) here
-          ∙ ap (λ (a : Answer Draft). proceed (suc passed) a (λ e. read_lines (suc (suc passed)) e (lines_of (drop (end + 1) text)))) (sym (k.line rules s.many))
-
-      stopped : (q : ℕ) → (q ≡ 0 → ⊥) → (d : Draft) (go : Draft → FromText Draft) → proceed (suc passed) (answer q d) go ≡ stops q (suc passed)
-      stopped zero z d go = absurd (z refl)
-      stopped (suc q) z d go = refl
-
-      -- A refused line stops the reading, with its refusal and its number, counted from 1.
-      pub lines_stop : (r.refusal ≡ 0 → ⊥) → read_lines 1 empty (lines_of text) ≡ stops r.refusal (passed + 1)
-      lines_stop z =
-          let p : suc passed ≡ passed + 1 = omega arith in
-          line_on
-          ∙ stopped r.refusal z (after (taken_rules rules r)) (λ e. read_lines (suc (suc passed)) e (lines_of (drop (end + 1) text)))
-          ∙ ap (stops r.refusal) p
-
-      longer : (n : ℕ) → n ≤ 1 → (rs : List Rule) (x : Rule) → length (with_rule n rs x) ≡ length rs + n
-      longer zero u rs x = omega arith
-      longer (suc zero) u rs x = length-append rs (x ∷ [])
-      longer (suc (suc n)) u rs x = absurd (omega arith)
+      longer : (rule : Option Parsed) (rs : List Rule) → length (with_rule rs r.table rule) ≡ length rs + rule_number rule
+      longer None rs = omega arith
+      longer (Some p) rs = length-append rs (rule_said r.table p ∷ [])
 
       -- After a line that is not refused the reading goes on at the next one, with the line's rule if it has one.
-      pub sofar_on : r.refusal ≡ 0 → {next : ℕ} → drop (end + 1) text ≡ drop next text → Sofar text after (taken_rules rules r) (count + r.rule) (passed + 1) next
-      sofar_on z {next} e =
+      pub sofar_on : {next : ℕ} → drop (end + 1) text ≡ drop next text → Sofar text after (taken_rules rules r) (count + rule_number r.rule) (passed + 1) next
+      sofar_on {next} e =
           let p : suc passed ≡ passed + 1 = omega arith in
           record {
-            many = longer r.rule k.one rules (rule_said r.table r.parsed) ∙ ap (λ (n : ℕ). n + r.rule) s.many;
-            rest = line_on ∙ (λ i. proceed (suc passed) (answer (z i) (after (taken_rules rules r))) (λ d. read_lines (suc (p i)) d (lines_of (e i))));
+            many = longer r.rule rules ∙ ap (λ (n : ℕ). n + rule_number r.rule) s.many;
+            rest = onwards (gives (after (taken_rules rules r))) (k.line rules s.many)
+                ∙ (λ i. read_lines (suc (p i)) (after (taken_rules rules r)) (lines_of (e i)));
           }

@@ -1,7 +1,7 @@
 -- What the reader answers, for any bytes, and that one answer alone meets it.
 -- In order: what is answered and what is written; the two promises; what a judgement says of the text; and the ways a reading ends, each of which
 -- keeps its promise: a refused line, a policy refused as a whole, a slice that is too short, and a file.
-use Rattle.std.specs.Prelude.{◌≡◌, Bool, true, false, cond, leb, get_or, take}
+use Rattle.std.specs.Prelude.{◌≡◌, Option, Some, None, Result, Ok, Err, Bool, true, false, cond, leb, get_or, take}
 use Rattle.std.proofs.Math.Path.{refl, ap, sym, subst}
 use Rattle.std.proofs.Common.{◌∙◌, mul-le-mul, le-leb}
 use Rattle.std.proofs.lemmas.Bool.{false≢true, lt-leb}
@@ -29,13 +29,22 @@ use Rattle.declarations.specs.Fresh.{spans_long}
 use Rattle.declarations.specs.SignalLine.{inputs_long, outputs_long}
 use Rattle.declarations.specs.declared.table.Table.{Table}
 use Rattle.compiling.specs.Counts.{counts_of, ceilings_long, counts_are}
-use Rattle.compiling.specs.declared.reader.ReadText.{ReadText}
-use Rattle.compiling.specs.declared.reader.Judged.{Judged}
+use Rattle.compiling.specs.Refused.{as_whole}
+use Rattle.compiling.specs.declared.refused.LineRefusal.{LineRefusal}
+use Rattle.refusals.specs.Refused.{number_of}
+use Rattle.refusals.specs.Laws.{number_above}
+use Rattle.refusals.specs.declared.Refusal.{Refusal}
 
 -- The file, if the slice has room for it. 14: it has not.
 abbrev pub fitted : List ℕ → FromText (List ℕ) → FromText (List ℕ)
 fitted out (stops n line) = stops n line
 fitted out (reads f) = cond (leb (length f) (length out)) (reads f) (stops 14 0)
+
+-- In 01's numbers: a refusal and the line that it stands in, 0 for the file's own; or 0 and the length written.
+pub record ReadText : Type 0 where
+  pub refusal : ℕ
+  pub line : ℕ
+  pub length : ℕ
 
 -- A refusal with its line, or the length of the file.
 abbrev pub answered : FromText (List ℕ) → ReadText
@@ -47,7 +56,7 @@ abbrev pub filled : List ℕ → FromText (List ℕ) → List ℕ
 filled out (stops n line) = out
 filled out (reads f) = f ++ drop (length f) out
 
--- What `read` promises: its answer, and what the slice holds afterwards.
+-- What `compile` promises: its answer, and what the slice holds afterwards.
 pub record ReadTextPromise (text before : List ℕ) (r : ReadText) (after : List ℕ) : Type 0 where
   pub says : r ≡ answered (fitted before (file_from_text text))
   pub writes : after ≡ filled before (fitted before (file_from_text text))
@@ -56,47 +65,63 @@ pub record ReadTextPromise (text before : List ℕ) (r : ReadText) (after : List
 pub read_one : {text before after other : List ℕ} {r s : ReadText} → ReadTextPromise text before r after → ReadTextPromise text before s other → (r ≡ s) × (after ≡ other)
 read_one w v = (w.says ∙ sym v.says, w.writes ∙ sym v.writes)
 
+-- What a length or a refusal says, as an answer of the reader.
+abbrev pub read_said : Result ℕ LineRefusal → ReadText
+read_said (Ok n) = record { refusal = 0; line = 0; length = n }
+read_said (Err e) = record { refusal = number_of e.refusal; line = e.line; length = 0 }
+
+-- The same of a judgement: 14, where there is no room.
+abbrev pub judged_said : Result (Option ℕ) LineRefusal → ReadText
+judged_said (Ok (Some n)) = record { refusal = 0; line = 0; length = n }
+judged_said (Ok None) = record { refusal = 14; line = 0; length = 0 }
+judged_said (Err e) = record { refusal = number_of e.refusal; line = e.line; length = 0 }
+
 -- The text is a policy's.
 abbrev pub is_read : FromText (List ℕ) → Bool
 is_read (stops n line) = false
 is_read (reads f) = true
 
--- What `judge` promises: as `read`, and whether the text is a policy's, with room for its file or without.
-pub record JudgePromise (text before : List ℕ) (r : Judged) (after : List ℕ) : Type 0 where
-  pub read : ReadTextPromise text before r.read after
-  pub good : r.good ≡ is_read (file_from_text text)
+-- The judgement says that it is one.
+abbrev pub is_good : Result (Option ℕ) LineRefusal → Bool
+is_good (Ok n) = true
+is_good (Err e) = false
+
+-- What `judge` promises: as `compile`, and whether the text is a policy's, with room for its file or without.
+pub record JudgePromise (text before : List ℕ) (r : Result (Option ℕ) LineRefusal) (after : List ℕ) : Type 0 where
+  pub read : ReadTextPromise text before (judged_said r) after
+  pub good : is_good r ≡ is_read (file_from_text text)
 
 -- What a judgement says of the text.
-module _ {text before after : List ℕ} {r : Judged} (w : JudgePromise text before r after) where
+module _ {text before after : List ℕ} where
   -- A text that is not good gives no file, and the answer has its refusal and its line.
-  pub judged_not : r.good ≡ false → file_from_text text ≡ stops r.read.refusal r.read.line
-  judged_not e = go (file_from_text text) refl
+  pub judged_not : (e : LineRefusal) → JudgePromise text before (Err e) after → file_from_text text ≡ stops (number_of e.refusal) e.line
+  judged_not e w = go (file_from_text text) refl
     where
-      go : (x : FromText (List ℕ)) → file_from_text text ≡ x → file_from_text text ≡ stops r.read.refusal r.read.line
+      go : (x : FromText (List ℕ)) → file_from_text text ≡ x → file_from_text text ≡ stops (number_of e.refusal) e.line
       go (stops n line) k =
           let s = sym (w.read.says ∙ ap (λ (y : FromText (List ℕ)). answered (fitted before y)) k) in
           k ∙ (λ i. stops (s i).refusal (s i).line)
-      go (reads f) k = absurd (false≢true (sym e ∙ w.good ∙ ap is_read k))
+      go (reads f) k = absurd (false≢true (w.good ∙ ap is_read k))
 
   -- A text that is good gives a file.
-  pub judged_good : r.good ≡ true → (f : List ℕ) × (file_from_text text ≡ reads f)
-  judged_good e = go (file_from_text text) refl
+  pub judged_good : (n : Option ℕ) → JudgePromise text before (Ok n) after → (f : List ℕ) × (file_from_text text ≡ reads f)
+  judged_good n w = go (file_from_text text) refl
     where
       go : (x : FromText (List ℕ)) → file_from_text text ≡ x → (f : List ℕ) × (file_from_text text ≡ reads f)
-      go (stops n line) k = absurd (false≢true (sym (sym e ∙ w.good ∙ ap is_read k)))
+      go (stops m line) k = absurd (false≢true (sym (w.good ∙ ap is_read k)))
       go (reads f) k = (f, k)
 
 module _ (text before : List ℕ) where
   promised : {x : FromText (List ℕ)} → fitted before (file_from_text text) ≡ x → {r : ReadText} {after : List ℕ} → r ≡ answered x → after ≡ filled before x → ReadTextPromise text before r after
   promised e a b = record { says = a ∙ ap answered (sym e); writes = b ∙ ap (filled before) (sym e) }
 
-  stopped : {n line : ℕ} → file_from_text text ≡ stops n line → JudgePromise text before (record { read = record { refusal = n; line = line; length = 0 }; good = false }) before
-  stopped e = record { read = promised (ap (fitted before) e) refl refl; good = sym (ap is_read e) }
+  stopped : (e : LineRefusal) → file_from_text text ≡ stops (number_of e.refusal) e.line → JudgePromise text before (Err e) before
+  stopped e h = record { read = promised (ap (fitted before) h) refl refl; good = sym (ap is_read h) }
 
   -- Where a line is refused, the answer is its refusal and its number, and nothing is written.
-  pub read_stopped : {n line : ℕ} → read_lines 1 empty (lines_of text) ≡ stops n line → JudgePromise text before (record { read = record { refusal = n; line = line; length = 0 }; good = false }) before
+  pub read_stopped : (e : LineRefusal) → read_lines 1 empty (lines_of text) ≡ stops (number_of e.refusal) e.line → JudgePromise text before (Err e) before
   unfolding file_from_text policy_from_text
-  read_stopped e = stopped (ap (λ (x : FromText Draft). filed (said_by 1 x)) e)
+  read_stopped e h = stopped e (ap (λ (x : FromText Draft). filed (said_by 1 x)) h)
 
   module _ (starts lengths left : List ℕ) {t : Table} (f : Fit t) {rules : List Rule} (lines : read_lines 1 empty (lines_of text) ≡ reads (draft_of text starts lengths left t rules)) {count : ℕ} (many : length rules ≡ count) where
     abbrev d : Draft
@@ -151,22 +176,22 @@ module _ (text before : List ℕ) where
         omega (arith, nearly_length p (good_nearly 1 d good), inputs_long f, outputs_long f, c, named, body, f.order)
 
     -- Where all lines are read and the policy is refused as a whole, the answer has line 0, and nothing is written.
-    pub read_own : {n : ℕ} → n ≡ own_refusal → (n ≡ 0 → ⊥) → JudgePromise text before (record { read = record { refusal = n; line = 0; length = 0 }; good = false }) before
-    read_own {n} e z = stopped (go n z (file_is ∙ ap (λ (m : ℕ). passed m (bytes_of p)) (own_is ∙ sym e)))
+    pub read_own : (d : Refusal) → number_of d ≡ own_refusal → JudgePromise text before (Err (as_whole d)) before
+    read_own d e = stopped (as_whole d) (go (number_of d) (number_above d) (file_is ∙ ap (λ (m : ℕ). passed m (bytes_of p)) (own_is ∙ sym e)))
       where
-        go : (m : ℕ) → (m ≡ 0 → ⊥) → file_from_text text ≡ passed m (bytes_of p) → file_from_text text ≡ stops m 0
-        go zero y h = absurd (y refl)
+        go : (m : ℕ) → 0 < m → file_from_text text ≡ passed m (bytes_of p) → file_from_text text ≡ stops m 0
+        go zero y h = absurd (omega arith)
         go (suc m) y h = h
 
-    module _ {n : ℕ} (e : n ≡ own_refusal) (z : n ≡ 0) where
+    module _ (e : 0 ≡ own_refusal) where
       file_read : file_from_text text ≡ reads (bytes_of p)
-      file_read = file_is ∙ ap (λ (m : ℕ). passed m (bytes_of p)) (own_is ∙ sym e ∙ z)
+      file_read = file_is ∙ ap (λ (m : ℕ). passed m (bytes_of p)) (own_is ∙ sym e)
 
       with_room : {b : Bool} → leb (length (bytes_of p)) (length before) ≡ b → fitted before (file_from_text text) ≡ cond b (reads (bytes_of p)) (stops 14 0)
       with_room h = ap (fitted before) file_read ∙ ap (λ (b : Bool). cond b (reads (bytes_of p)) (stops 14 0)) h
 
       -- Where the file is longer than the slice, the text is good, the answer is 14, and nothing is written.
-      pub read_short : length before < file_length → JudgePromise text before (record { read = record { refusal = 14; line = 0; length = 0 }; good = true }) before
+      pub read_short : length before < file_length → JudgePromise text before (Ok None) before
       read_short h = record { read = promised (with_room (lt-leb (length (bytes_of p)) (length before) (omega (arith, file_long)))) refl refl; good = sym (ap is_read file_read) }
 
       -- The counts, then the rules.
@@ -178,7 +203,7 @@ module _ (text before : List ℕ) where
 
       -- Where there is room, and the counts and then the rules are written from 0 on, the answer is the file's length.
       pub read_whole : file_length ≤ length before → {middle after : List ℕ} {from end : ℕ} → Wrote before 0 (counts_of left t count) from middle → Wrote middle from (rules_bytes rules) end after →
-          JudgePromise text before (record { read = record { refusal = 0; line = 0; length = end }; good = true }) after
+          JudgePromise text before (Ok (Some end)) after
       unfolding bytes_of policy_from
       read_whole h {after = after} {end = end} w v =
           let c = counts_are text starts lengths left f rules count many in

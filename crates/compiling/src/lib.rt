@@ -5,7 +5,8 @@ mod counts;
 mod line;
 pub mod lines;
 pub mod reader;
+pub mod refused;
 mod ruleline;
-mod store;
 
-pub use reader::{ReadText, read};
+pub use reader::compile;
+pub use refused::LineRefusal;

@@ -1,28 +1,26 @@
 // One line, by its first word.
-ghost use Rattle.std.specs.Prelude.{◌≡◌, List, ◌≤◌, ◌<◌, ◌-◌, length};
+ghost use Rattle.std.specs.Prelude.{◌≡◌, List, IfOk, MatchResult, ◌≤◌, ◌<◌, ◌-◌, length};
 ghost use Rattle.policy.specs.File.{part};
 ghost use Rattle.policy.specs.Rules.{Rule};
 ghost use Rattle.wording.specs.Words.{words_of};
 ghost use Rattle.words.specs.Spans.{NamesIn};
-ghost use Rattle.declarations.specs.Table.{draft_of, line_said, Fit};
-ghost use Rattle.compiling.specs.Line.{behind, Took};
+ghost use Rattle.declarations.specs.Table.{draft_of, table_said, Fit};
+ghost use Rattle.compiling.specs.Line.{behind, Took, Stopped};
 
 use crate::ruleline::rule_line;
 use conditions::steps::Parsed;
-use declarations::clockline::clock_line;
-use declarations::placeline::location_line;
-use declarations::signalline::{input_line, output_line};
-use declarations::table::{Lined, Table, at_line};
-use phrases::told::unsaid;
+use declarations::clockline::read_clock;
+use declarations::placeline::read_location;
+use declarations::signalline::{read_input, read_output};
+use declarations::table::{Table, read_at};
+use refusals::Refusal;
 use words::firsts::{few_words, word_in};
 use words::keywords::keyword;
 
-// A refusal, or 0 and what the lines with one more have said. `rule` is 1 where the line is a rule, which `parsed` holds, else 0.
+// What the lines with one more have said: the rule of this one, if it is a rule's, and all that is declared.
 #[derive(Clone, Copy)]
 pub struct Taken {
-    pub refusal: u8,
-    pub rule: usize,
-    pub parsed: Parsed,
+    pub rule: Option<Parsed>,
     pub table: Table,
 }
 
@@ -36,24 +34,22 @@ fn words_behind(
     left: &mut [u8],
     table: Table,
     k: usize,
-) -> Lined
+) -> Result<Table, Refusal>
     requires { (at ≤ end) × (end ≤ length text.now) × (k < 5) × Fit table × NamesIn 76 text.now starts.old lengths.old × (length left.old ≡ 64) }
-    ensures { ((rules : List Rule) → line_said text.now starts.new lengths.new left.new rules result ≡ behind k (draft_of text.now starts.old lengths.old left.old table rules) (words_of (part text.now at (end - at)))) × Fit result.table × NamesIn 76 text.now starts.new lengths.new }
+    ensures said { (rules : List Rule) → table_said text.now starts.new lengths.new left.new rules result ≡ behind k (draft_of text.now starts.old lengths.old left.old table rules) (words_of (part text.now at (end - at))) }
+    ensures fit { IfOk result Fit }
+    ensures names { NamesIn 76 text.now starts.new lengths.new }
 {
     if k == 3 {
-        return location_line(text, end, at, starts, lengths, left, table);
+        return read_location(text, end, at, starts, lengths, left, table);
     }
     let few = few_words(text, end, at);
-    if k == 0 {
-        return input_line(text, few, starts, lengths, table);
+    match k {
+        0 => read_input(text, few, starts, lengths, table),
+        1 => read_output(text, few, starts, lengths, table),
+        2 => read_clock(text, few, starts, lengths, table),
+        _ => read_at(text, few, starts, lengths, table),
     }
-    if k == 1 {
-        return output_line(text, few, starts, lengths, table);
-    }
-    if k == 2 {
-        return clock_line(text, few, starts, lengths, table);
-    }
-    at_line(text, few, starts, lengths, table)
 }
 
 // The line from `at` to `end`, after `count` rules.
@@ -66,41 +62,28 @@ pub(crate) fn read_line(
     left: &mut [u8],
     table: Table,
     count: usize,
-) -> Taken
+) -> Result<Taken, Refusal>
     requires { (at ≤ end) × (end ≤ length text.now) × Fit table × NamesIn 76 text.now starts.old lengths.old × (length left.old ≡ 64) }
-    ensures { Took text.now (draft_of text.now starts.old lengths.old left.old table) end at count result (draft_of text.now starts.new lengths.new left.new result.table) × NamesIn 76 text.now starts.new lengths.new }
+    ensures took { MatchResult result (λ taken. Took text.now (draft_of text.now starts.old lengths.old left.old table) end at count taken (draft_of text.now starts.new lengths.new left.new taken.table)) (λ refusal. Stopped text.now (draft_of text.now starts.old lengths.old left.old table) end at count refusal) }
+    ensures names { NamesIn 76 text.now starts.new lengths.new }
 {
     let first = word_in(text, end, at);
-    let a = first.start;
-    let b = first.end;
-    let none = unsaid();
-    if b <= a {
-        return Taken {
-            refusal: 0,
-            rule: 0,
-            parsed: none,
-            table,
-        };
+    if first.end <= first.start {
+        return Ok(Taken { rule: None, table });
     }
-    let k = keyword(&text[a..b]);
+    let k = keyword(&text[first.start..first.end]);
     if k < 5 {
-        let lined = words_behind(text, end, b, starts, lengths, left, table, k);
-        let declared = lined.table;
-        return Taken {
-            refusal: lined.refusal,
-            rule: 0,
-            parsed: none,
+        let declared = words_behind(text, end, first.end, starts, lengths, left, table, k)?;
+        return Ok(Taken {
+            rule: None,
             table: declared,
-        };
+        });
     }
-    let step = rule_line(text, end, at, starts, lengths, table, count);
-    let parsed = step.parsed;
-    let mut t = table;
-    t.stage = 5;
-    Taken {
-        refusal: step.refusal,
-        rule: 1,
-        parsed,
-        table: t,
-    }
+    let parsed = rule_line(text, end, at, starts, lengths, table, count)?;
+    let mut with_rule = table;
+    with_rule.stage = 5;
+    Ok(Taken {
+        rule: Some(parsed),
+        table: with_rule,
+    })
 }

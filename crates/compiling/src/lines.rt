@@ -6,15 +6,14 @@ ghost use Rattle.declarations.specs.Table.{draft_of, Fit};
 ghost use Rattle.compiling.specs.Stored.{Held};
 
 use crate::line::read_line;
-use crate::store::keep_rule;
+use crate::refused::LineRefusal;
 use declarations::table::Table;
+use phrases::stored::store_rule;
 use words::words::line_end;
 
-// A refusal and its line; or 0, and what all lines have said, with how many rules, which take the first `used` bytes that are kept.
+// What all lines have said, with how many rules, which take the first `used` bytes that are kept.
 #[derive(Clone, Copy)]
 pub(crate) struct Said {
-    pub(crate) refusal: u8,
-    pub(crate) line: usize,
     pub(crate) count: usize,
     pub(crate) used: usize,
     pub(crate) table: Table,
@@ -51,38 +50,34 @@ pub(crate) fn read_lines(
     starts: &mut [usize],
     lengths: &mut [u8],
     left: &mut [u8],
-) -> Said
+) -> Result<Said, LineRefusal>
     requires { (length kept.old ≡ 5888) × NamesIn 76 text.now starts.old lengths.old × (length left.old ≡ 64) }
-    ensures { Held text.now kept.old result (draft_of text.now starts.new lengths.new left.new result.table) kept.new × Fit result.table × (result.count ≤ 256) }
+    ensures { Held text.now kept.old result (draft_of text.now starts.new lengths.new left.new) kept.new }
 {
     let mut table = unread();
     let mut count = 0;
     let mut used = 0;
     let mut passed = 0;
     let mut at = 0;
+    // A `while`: a step is a line, which ends where `line_end` says.
     while at < text.len() {
         let end = line_end(text, at);
-        let taken = read_line(text, end, at, starts, lengths, left, table, count);
-        if taken.refusal != 0 {
-            return Said {
-                refusal: taken.refusal,
-                line: passed + 1,
-                count,
-                used,
-                table,
-            };
-        }
-        used = keep_rule(kept, used, taken);
-        table = taken.table;
-        count += taken.rule;
         passed += 1;
+        let taken = match read_line(text, end, at, starts, lengths, left, table, count) {
+            Ok(taken) => taken,
+            Err(refusal) => {
+                return Err(LineRefusal {
+                    refusal,
+                    line: passed,
+                });
+            }
+        };
+        table = taken.table;
+        if let Some(parsed) = taken.rule {
+            used = store_rule(kept, used, table.source, table.inputs, parsed, table.clocks);
+            count += 1;
+        }
         at = next_line(end, text.len());
     }
-    Said {
-        refusal: 0,
-        line: 0,
-        count,
-        used,
-        table,
-    }
+    Ok(Said { count, used, table })
 }

@@ -1,38 +1,19 @@
 -- A condition's word, by what was found for it.
-use Rattle.std.specs.Prelude.{◌≡◌, ℕ, ◌-◌, ◌≤◌, ◌<◌, length, get_or, take, drop}
+use Rattle.std.specs.Prelude.{◌≡◌, ℕ, ◌-◌, ◌<◌, length, get_or, take, drop}
 use Rattle.std.proofs.Math.Path.{refl}
 use mathlib.Core.List.{List, [], ◌∷◌}
-use Rattle.std.proofs.Math.Option.{Option}
-use Rattle.std.proofs.Common.{arith, lt-ltb, le-ltb, eq-eqb, ne_eqb}
+use Rattle.std.proofs.Common.{arith, eq-eqb, ne_eqb}
 use Rattle.std.proofs.Math.Seq.{take_all}
-use Rattle.streams.specs.Answer.{Answer, refused, gives}
+use Rattle.streams.specs.Answer.{refused}
 use Rattle.wording.specs.Words.{Word}
-use Rattle.wording.specs.Names.{find, known}
-use Rattle.words.specs.Spans.{spans, place_below}
-use Rattle.wording.specs.Reader.{Scope, Begun, sign, turn, on_signal, signal_by, signal, signal_or, condition}
+use Rattle.wording.specs.Names.{known}
+use Rattle.words.specs.Spans.{spans}
+use Rattle.wording.specs.Reader.{Scope, Begun, on_signal, signal_by, signal, signal_or, condition}
 
 -- The scope of a rule, by what the code has: tags, and spans of the text for the names of signals, clocks and locations.
 abbrev pub scope_of : (text tags starts lengths : List ℕ) (clocks places : ℕ) → Scope
 scope_of text tags starts lengths clocks places =
     record { letters = tags; names = spans text starts lengths 0 (length tags); clocks = spans text starts lengths 8 clocks; places = spans text starts lengths 12 places }
-
-module _ {A : Type 0} {o : Option ℕ} {n i : ℕ} (e : o ≡ place_below n i) (go : ℕ → Answer A) where
-  -- A place below n was found: the answer goes on from it.
-  pub known_there : i < n → go i ≡ known o go
-  known_there h = rw (e, lt-ltb i n h)
-
-  -- A place that is not below n stands for an unknown name: 31.
-  pub known_not : n ≤ i → refused 31 ≡ known o go
-  known_not h = rw (e, le-ltb i n h)
-
-module _ (d : Scope) (b : Begun) (w : Word) where
-  -- A word that was found among the signals asks that the signal be on.
-  pub or_signal : {o : Option ℕ} {n i : ℕ} → o ≡ place_below n i → i < n → on_signal b 1 i ≡ signal_or d b w o
-  or_signal {n = n} {i = i} e h = rw (e, lt-ltb i n h)
-
-  -- A word that was not must name a clock, and the clock's sign comes next.
-  pub or_clock : {o : Option ℕ} {n i : ℕ} → o ≡ place_below n i → n ≤ i → known (find 0 w d.clocks) (λ k. gives (turn (sign k) b)) ≡ signal_or d b w o
-  or_clock {n = n} {i = i} e h = rw (e, le-ltb i n h)
 
 -- By the first byte.
 module _ (d : Scope) (b : Begun) where

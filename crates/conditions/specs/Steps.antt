@@ -1,24 +1,28 @@
 -- What the code has of a rule whose words it reads, as what the definitions have of it.
 -- In order: the parts, the bounds and a whole rule; powers of two, and room in a mask; a signal or a reset, said once or twice; a bound that changes.
-use Rattle.std.specs.Prelude.{◌≡◌, refl, List, [], ◌∷◌, ℕ, zero, suc, ◌+◌, ◌*◌, ◌/◌, ◌%◌, ◌^◌, ◌≤◌, ◌<◌, min, max, get_or, set}
+use Rattle.std.specs.Prelude.{◌≡◌, refl, List, [], ◌∷◌, ℕ, zero, suc, ◌+◌, ◌*◌, ◌/◌, ◌%◌, ◌^◌, ◌≤◌, ◌<◌, min, max, get_or, set, Result, Ok, Err}
 use Rattle.std.proofs.Common.{ap, arith, eq-eqb, ne_eqb}
-use Rattle.streams.specs.Answer.{Answer, refused, gives, answer}
+use Rattle.streams.specs.Answer.{Answer, refused, gives}
+use Rattle.refusals.specs.Refused.{number_of}
+use Rattle.std.specs.Result.{IsErrAnd}
+use Rattle.refusals.specs.Laws.{handed_on}
+use Rattle.refusals.specs.declared.Refusal.{Refusal}
 use Rattle.policy.specs.Rules.{Bound}
 use Rattle.wording.specs.Reader.{Part, opening, more, arrow, sign, at_least, at_most, goes, gone, clears, Begun, at_least_of, at_most_of, change, on_bound, on_signal, on_reset}
+use Rattle.conditions.specs.declared.steps.Part.{Part as Next}
 use Rattle.conditions.specs.declared.steps.Parsed.{Parsed}
-use Rattle.conditions.specs.declared.steps.Step.{Step}
 
--- The parts by number, with the clock that some of them speak of.
-abbrev pub part_of : ℕ → ℕ → Part
-part_of zero k = opening
-part_of (suc zero) k = more
-part_of (suc (suc zero)) k = arrow
-part_of (suc (suc (suc zero))) k = sign k
-part_of (suc (suc (suc (suc zero)))) k = at_least k
-part_of (suc (suc (suc (suc (suc zero))))) k = at_most k
-part_of (suc (suc (suc (suc (suc (suc zero)))))) k = goes
-part_of (suc (suc (suc (suc (suc (suc (suc zero))))))) k = gone
-part_of (suc (suc (suc (suc (suc (suc (suc (suc n)))))))) k = clears
+-- The parts, with the clock that some of them speak of.
+abbrev pub part_of : Next → ℕ → Part
+part_of Next.Opening k = opening
+part_of Next.More k = more
+part_of Next.Arrow k = arrow
+part_of Next.Sign k = sign k
+part_of Next.AtLeast k = at_least k
+part_of Next.AtMost k = at_most k
+part_of Next.Goes k = goes
+part_of Next.Gone k = gone
+part_of Next.Clears k = clears
 
 -- The first n bounds of two rows of numbers.
 unfoldable pub bounds_of : ℕ → List ℕ → List ℕ → List Bound
@@ -40,8 +44,13 @@ begun_of n p =
     }
 
 -- The answer to one word: its refusal, or the rule as it stands after the word.
-abbrev pub step_said : ℕ → Step → Answer Begun
-step_said n s = answer s.refusal (begun_of n s.parsed)
+abbrev pub parse_said : ℕ → Result Parsed Refusal → Answer Begun
+parse_said n (Ok p) = gives (begun_of n p)
+parse_said n (Err r) = refused (number_of r)
+
+-- A refusal that a `?` hands on.
+pub parse_handed : (n : ℕ) (r : Result Parsed Refusal) (e : Refusal) → IsErrAnd r (λ d. d ≡ e) → parse_said n r ≡ refused (number_of e)
+parse_handed n r e h = ap (parse_said n) (handed_on r e h)
 
 -- The masks are of at most eight signals and four clocks, and so is the clock spoken of.
 pub record Masked (p : Parsed) : Type 0 where
@@ -50,22 +59,6 @@ pub record Masked (p : Parsed) : Type 0 where
   pub reset : p.reset < 16
   pub clock : p.clock < 4
   pub target : p.target < 256
-
--- A power of two below 256, by a table.
-abbrev pub powers : List ℕ
-powers = 1 ∷ 2 ∷ 4 ∷ 8 ∷ 16 ∷ 32 ∷ 64 ∷ 128 ∷ []
-
--- Entry i of the table is 2 ^ i.
-pub power_at : (i : ℕ) → i < 8 → get_or powers i 0 ≡ 2 ^ i
-power_at zero h = refl
-power_at (suc zero) h = refl
-power_at (suc (suc zero)) h = refl
-power_at (suc (suc (suc zero))) h = refl
-power_at (suc (suc (suc (suc zero)))) h = refl
-power_at (suc (suc (suc (suc (suc zero))))) h = refl
-power_at (suc (suc (suc (suc (suc (suc zero)))))) h = refl
-power_at (suc (suc (suc (suc (suc (suc (suc zero))))))) h = refl
-power_at (suc (suc (suc (suc (suc (suc (suc (suc i)))))))) h = absurd (omega arith)
 
 -- The bit of each of eight signals is from 1 to 128.
 pub power_small : (i : ℕ) → i < 8 → (0 < 2 ^ i) × (2 ^ i ≤ 128)
@@ -152,7 +145,7 @@ high_changed (suc m) (l ∷ lows) (h ∷ highs) (suc k) n = ap (λ (z : List Bou
 module _ (m : ℕ) (p : Parsed) (k n : ℕ) where
   -- What the code does for `>= n`: the low of clock k becomes the greater of the two.
   pub at-least : {v : ℕ} → v ≡ max n (get_or p.low k 0) →
-      begun_of m (record { part = 1; clock = p.clock; care = p.care; value = p.value; target = p.target; reset = p.reset; low = set p.low k v; high = p.high })
+      begun_of m (record { part = Next.More; clock = p.clock; care = p.care; value = p.value; target = p.target; reset = p.reset; low = set p.low k v; high = p.high })
       ≡ on_bound (begun_of m p) k (at_least_of n)
   unfolding on_bound
   at-least e =
@@ -161,7 +154,7 @@ module _ (m : ℕ) (p : Parsed) (k n : ℕ) where
 
   -- What the code does for `<= n`: the high of clock k becomes the lesser of the two.
   pub at-most : {v : ℕ} → v ≡ min n (get_or p.high k 0) →
-      begun_of m (record { part = 1; clock = p.clock; care = p.care; value = p.value; target = p.target; reset = p.reset; low = p.low; high = set p.high k v })
+      begun_of m (record { part = Next.More; clock = p.clock; care = p.care; value = p.value; target = p.target; reset = p.reset; low = p.low; high = set p.high k v })
       ≡ on_bound (begun_of m p) k (at_most_of n)
   unfolding on_bound
   at-most e =

@@ -1,12 +1,37 @@
 // A rule whose words are read, one after another.
-ghost use Rattle.std.specs.Prelude.{◌≡◌, ℕ, ◌^◌, ◌≤◌, ◌<◌, min, max};
+ghost use Rattle.std.specs.Prelude.{◌≡◌, cond, ℕ, ◌^◌, ◌≤◌, ◌<◌, IfOk};
 ghost use Rattle.wording.specs.Reader.{at_least_of, at_most_of, on_bound, on_signal, on_reset};
-ghost use Rattle.conditions.specs.Steps.{begun_of, step_said, Masked};
+ghost use Rattle.conditions.specs.Steps.{begun_of, parse_said, Masked};
 
-// What the words so far have said. `part` numbers what may come next, and `clock` is the clock that it speaks of.
+use refusals::Refusal;
+
+// What may come next in a rule.
+#[derive(Clone, Copy, PartialEq, Eq)]
+pub enum Part {
+    // `any` or a condition.
+    Opening,
+    // The arrow or another condition.
+    More,
+    // The arrow behind `any`.
+    Arrow,
+    // The sign behind a clock's name.
+    Sign,
+    // The number behind `>=`.
+    AtLeast,
+    // The number behind `<=`.
+    AtMost,
+    // The target.
+    Goes,
+    // `reset`, or the end.
+    Gone,
+    // A clock that is reset, or the end.
+    Clears,
+}
+
+// What the words so far have said. `clock` is the clock that `part` speaks of, if it does.
 #[derive(Clone, Copy)]
 pub struct Parsed {
-    pub part: u8,
+    pub part: Part,
     pub clock: usize,
     pub care: usize,
     pub value: usize,
@@ -16,89 +41,46 @@ pub struct Parsed {
     pub high: [u16; 4],
 }
 
-// A refusal, or 0 and what the words with one more have said.
-#[derive(Clone, Copy)]
-pub struct Step {
-    pub refusal: u8,
-    pub parsed: Parsed,
-}
-
 pub fn power(i: usize) -> usize
     requires { i < 8 }
     ensures { (result ≡ 2 ^ i) × (0 < result) × (result ≤ 128) }
 {
-    let powers = [1usize, 2, 4, 8, 16, 32, 64, 128];
-    powers[i]
+    1 << i
 }
 
-// The signal i is to be on (v is 1) or off (0).
-pub fn on_signal(parsed: Parsed, v: usize, i: usize) -> Step
-    requires { (i < 8) × (v ≤ 1) × Masked parsed }
-    ensures { ((n : ℕ) → step_said n result ≡ on_signal (begun_of n parsed) v i) × Masked result.parsed }
+// The signal i is to be on or off.
+pub fn on_signal(parsed: Parsed, on: bool, i: usize) -> Result<Parsed, Refusal>
+    requires { (i < 8) × Masked parsed }
+    ensures said { (n : ℕ) → parse_said n result ≡ on_signal (begun_of n parsed) (cond on 1 0) i }
+    ensures masked { IfOk result Masked }
 {
     let bit = power(i);
     if parsed.care / bit % 2 != 0 {
-        return Step {
-            refusal: 31,
-            parsed,
-        };
+        return Err(Refusal::BadName);
     }
-    let low = parsed.low;
-    let high = parsed.high;
-    Step {
-        refusal: 0,
-        parsed: Parsed {
-            part: 1,
-            clock: parsed.clock,
-            care: parsed.care + bit,
-            value: parsed.value + v * bit,
-            target: parsed.target,
-            reset: parsed.reset,
-            low,
-            high,
-        },
-    }
+    Ok(Parsed {
+        part: Part::More,
+        care: parsed.care + bit,
+        value: parsed.value + usize::from(on) * bit,
+        ..parsed
+    })
 }
 
 // The clock i is to be reset.
-pub fn on_reset(parsed: Parsed, i: usize) -> Step
+pub fn on_reset(parsed: Parsed, i: usize) -> Result<Parsed, Refusal>
     requires { (i < 4) × Masked parsed }
-    ensures { ((n : ℕ) → step_said n result ≡ on_reset (begun_of n parsed) i) × Masked result.parsed }
+    ensures said { (n : ℕ) → parse_said n result ≡ on_reset (begun_of n parsed) i }
+    ensures masked { IfOk result Masked }
 {
     let bit = power(i);
     if parsed.reset / bit % 2 != 0 {
-        return Step {
-            refusal: 31,
-            parsed,
-        };
+        return Err(Refusal::BadName);
     }
-    let low = parsed.low;
-    let high = parsed.high;
-    Step {
-        refusal: 0,
-        parsed: Parsed {
-            part: 8,
-            clock: parsed.clock,
-            care: parsed.care,
-            value: parsed.value,
-            target: parsed.target,
-            reset: parsed.reset + bit,
-            low,
-            high,
-        },
-    }
-}
-
-fn larger(a: u16, b: u16) -> u16
-    ensures { result ≡ max a b }
-{
-    if a < b { b } else { a }
-}
-
-fn smaller(a: u16, b: u16) -> u16
-    ensures { result ≡ min a b }
-{
-    if a < b { a } else { b }
+    Ok(Parsed {
+        part: Part::Clears,
+        reset: parsed.reset + bit,
+        ..parsed
+    })
 }
 
 // The clock k is to be at least n.
@@ -107,17 +89,11 @@ pub fn on_at_least(parsed: Parsed, k: usize, n: u16) -> Parsed
     ensures { ((m : ℕ) → begun_of m result ≡ on_bound (begun_of m parsed) k (at_least_of n)) × Masked result }
 {
     let mut low = parsed.low;
-    low[k] = larger(n, low[k]);
-    let high = parsed.high;
+    low[k] = n.max(low[k]);
     Parsed {
-        part: 1,
-        clock: parsed.clock,
-        care: parsed.care,
-        value: parsed.value,
-        target: parsed.target,
-        reset: parsed.reset,
+        part: Part::More,
         low,
-        high,
+        ..parsed
     }
 }
 
@@ -126,17 +102,11 @@ pub fn on_at_most(parsed: Parsed, k: usize, n: u16) -> Parsed
     requires { (k < 4) × Masked parsed }
     ensures { ((m : ℕ) → begun_of m result ≡ on_bound (begun_of m parsed) k (at_most_of n)) × Masked result }
 {
-    let low = parsed.low;
     let mut high = parsed.high;
-    high[k] = smaller(n, high[k]);
+    high[k] = n.min(high[k]);
     Parsed {
-        part: 1,
-        clock: parsed.clock,
-        care: parsed.care,
-        value: parsed.value,
-        target: parsed.target,
-        reset: parsed.reset,
-        low,
+        part: Part::More,
         high,
+        ..parsed
     }
 }

@@ -18,15 +18,13 @@ use Rattle.enforcer.specs.States.{marks_granted}
 use Rattle.enforcer.specs.Entries.{RunAnswer}
 use Rattle.stepping.specs.Code.{start_state}
 use Rattle.enforcer.specs.Promises.{RunPromise, ran_said}
-use Rattle.enforcer.specs.declared.runs.Ran.{Ran}
+use Rattle.enforcer.specs.Promises.{Ran}
 use Rattle.trimming.specs.Table.{marks_of}
 use Rattle.prepare.specs.Entry.{prepare_of}
-use Rattle.prepare.specs.Promise.{prepared_said, PreparePromise}
+use Rattle.prepare.specs.Promise.{PreparePromise}
 use Rattle.prepare.specs.PromiseLaws.{gives_past, marks_past}
 use Rattle.trimming.specs.Live.{marks_length}
 use Rattle.prepare.specs.declared.Summary.{Summary}
-use Rattle.prepare.specs.declared.Prepared.{Prepared}
-use Rattle.prepare.specs.declared.Prepared.TheVariants as Prepared
 use Rattle.printing.specs.Text.{verdict_line, refused_line, tick_lines}
 use Rattle.printing.specs.Lines.{lines_all}
 use Rattle.frames.specs.Frame.{policy_frame_refusal, policy_part, events_frame_refusal, events_part, input_refusal}
@@ -61,12 +59,12 @@ pub record Enforces (reading : ℕ) (input : List ℕ) (s : Summary) (marks rele
   pub front : take (length (events_part input)) released ≡ (ran_under reading (policy_part input) (events_part input)).out
 
 -- What the code promises: its answer is the outcome, and where that is a summary the slices hold what they should.
-pub record OutcomePromise (reading : ℕ) (input : List ℕ) (r : Prepared) (marks released : List ℕ) : Type 0 where
-  pub said : prepared_said r ≡ outcome reading input
-  pub enforces : (s : Summary) → r ≡ Prepared.Gives s → Enforces reading input s marks released
+pub record OutcomePromise (reading : ℕ) (input : List ℕ) (r : Answer Summary) (marks released : List ℕ) : Type 0 where
+  pub said : r ≡ outcome reading input
+  pub enforces : (s : Summary) → r ≡ gives s → Enforces reading input s marks released
 
 -- A policy that gives a summary passes its checks, and its marks stand in front of what the slice held.
-pub prepared-marks : {reading : ℕ} {file before after : List ℕ} {s : Summary} → PreparePromise reading file before (Prepared.Gives s) after →
+pub prepared-marks : {reading : ℕ} {file before after : List ℕ} {s : Summary} → PreparePromise reading file before (gives s) after →
     (refusal_of file ≡ 0) × (s.states ≤ length after) × (take s.states after ≡ marks_of (policy_of reading file))
 prepared-marks {reading} {file} {before} {after} {s} h =
     let p = policy_of reading file in
@@ -81,7 +79,7 @@ prepared-marks {reading} {file} {before} {after} {s} h =
 
 -- Where prepare gives a summary, the front of its slice has the marks of the input's policy.
 pub prepares : {reading : ℕ} {input file before after : List ℕ} {s : Summary} → file ≡ policy_part input →
-    PreparePromise reading (policy_part input) before (Prepared.Gives s) after → Prepares reading input file (take s.states after)
+    PreparePromise reading (policy_part input) before (gives s) after → Prepares reading input file (take s.states after)
 prepares e h = let m = prepared-marks h in record { part = e; passes = rw e m.0; marked = rw e m.2 }
 
 -- A lent slice of n bytes has the length n.
@@ -135,40 +133,40 @@ module _ (reading : ℕ) (input : List ℕ) where
       go (suc n) d e = let z : ◌≡◌ {A = ℕ} 0 1 = cc in absurd (omega arith)
       go zero d e = by ((none_refused (reading_refusal reading) _).0 d).1 (prepare_of reading (policy_part input) (lent 65536)) refl e
 
-  refuses : {n : ℕ} {marks released : List ℕ} → refused n ≡ outcome reading input → OutcomePromise reading input (Prepared.Refused n) marks released
+  refuses : {n : ℕ} {marks released : List ℕ} → refused n ≡ outcome reading input → OutcomePromise reading input (refused n) marks released
   refuses e = record { said = e; enforces = λ s d. let z : ◌≡◌ {A = ℕ} 0 1 = cc in absurd (omega arith) }
 
   -- The reading or the policy's frame is refused.
   pub input_refused : {n : ℕ} {marks released : List ℕ} → n ≡ input_refusal input reading → (n ≡ 0 → ⊥) →
-      OutcomePromise reading input (Prepared.Refused n) marks released
+      OutcomePromise reading input (refused n) marks released
   unfolding outcome
   input_refused {n} e h = refuses (rw (← e, answer_refused n (policy_part input) h))
 
   -- It is not: what prepare answers decides, whatever the marks held, and then the events.
-  module _ {marks after : List ℕ} {a : Prepared} (long : length marks ≡ 65536) (framed : input_refusal input reading ≡ 0)
+  module _ {marks after : List ℕ} {a : Answer Summary} (long : length marks ≡ 65536) (framed : input_refusal input reading ≡ 0)
       (h : PreparePromise reading (policy_part input) marks a after) where
-    prepared : outcome reading input ≡ prepared_said a and_then answer (events_refusal reading input)
+    prepared : outcome reading input ≡ a and_then answer (events_refusal reading input)
     unfolding outcome
     prepared = rw (framed, h.said, prepare_alike reading (policy_part input) (lent 65536) marks (lent_length 65536 ∙ sym long))
 
-    by_events : {s : Summary} {r : ℕ} → a ≡ Prepared.Gives s → r ≡ events_refusal reading input → outcome reading input ≡ answer r s
-    by_events {s} g e = prepared ∙ ap (λ (z : Prepared). prepared_said z and_then answer (events_refusal reading input)) g ∙ ap (λ (n : ℕ). answer n s) (sym e)
+    by_events : {s : Summary} {r : ℕ} → a ≡ gives s → r ≡ events_refusal reading input → outcome reading input ≡ answer r s
+    by_events {s} g e = prepared ∙ ap (λ (z : Answer Summary). z and_then answer (events_refusal reading input)) g ∙ ap (λ (n : ℕ). answer n s) (sym e)
 
     -- Prepare refuses, and that is the outcome.
-    pub prepare_refuses : {n : ℕ} {released : List ℕ} → a ≡ Prepared.Refused n → OutcomePromise reading input (Prepared.Refused n) after released
-    prepare_refuses g = refuses (sym (prepared ∙ ap (λ (z : Prepared). prepared_said z and_then answer (events_refusal reading input)) g))
+    pub prepare_refuses : {n : ℕ} {released : List ℕ} → a ≡ refused n → OutcomePromise reading input (refused n) after released
+    prepare_refuses g = refuses (sym (prepared ∙ ap (λ (z : Answer Summary). z and_then answer (events_refusal reading input)) g))
 
     -- The events are refused, and that is the outcome.
-    pub events_refuse : {s : Summary} {r : ℕ} {released : List ℕ} → a ≡ Prepared.Gives s → RanEvents reading input r released → (r ≡ 0 → ⊥) →
-        OutcomePromise reading input (Prepared.Refused r) after released
+    pub events_refuse : {s : Summary} {r : ℕ} {released : List ℕ} → a ≡ gives s → RanEvents reading input r released → (r ≡ 0 → ⊥) →
+        OutcomePromise reading input (refused r) after released
     events_refuse {s} {r} g k n = refuses (sym (by_events g k.refusal ∙ answer_refused r s n))
 
     -- The events are not refused: the outcome is the summary, and the released events stand in front.
-    pub events_released : {s : Summary} {r : ℕ} {released : List ℕ} → a ≡ Prepared.Gives s → RanEvents reading input r released → r ≡ 0 →
-        OutcomePromise reading input (Prepared.Gives s) after released
+    pub events_released : {s : Summary} {r : ℕ} {released : List ℕ} → a ≡ gives s → RanEvents reading input r released → r ≡ 0 →
+        OutcomePromise reading input (gives s) after released
     events_released {s} {r} {released} g k z =
         let e : outcome reading input ≡ gives s = by_events g k.refusal ∙ ap (λ (n : ℕ). answer n s) z in
-        let m = prepared-marks (subst (λ (q : Prepared). PreparePromise reading (policy_part input) marks q after) g h) in
+        let m = prepared-marks (subst (λ (q : Answer Summary). PreparePromise reading (policy_part input) marks q after) g h) in
         let it : Enforces reading input s after released =
         record { said = sym e; passes = outcome_gives e; enough = m.1; marked = m.2; front = k.front z } in
         record {

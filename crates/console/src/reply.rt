@@ -5,7 +5,6 @@ ghost use Rattle.printing.specs.Reply.{Replied};
 
 use crate::checks::outcome;
 use frames::{EVENTS, events_in};
-use prepare::Prepared;
 use printing::{put_refused, put_ticks, put_verdict};
 use stepping::State;
 
@@ -24,8 +23,8 @@ fn reply(input: &[u8], marks: &mut [u8], released: &mut [u8], text: &mut [u8]) -
     ensures { Replied text.old (printed input.now) result text.new }
 {
     match outcome(READING, input, marks, released) {
-        Prepared::Refused(n) => put_refused(text, 0, n),
-        Prepared::Gives(summary) => {
+        Err(refusal) => put_refused(text, 0, u8::from(refusal)),
+        Ok(summary) => {
             let next = put_verdict(text, 0, summary.verdict, summary.states, summary.live);
             put_ticks(text, next, events_in(input), released)
         }

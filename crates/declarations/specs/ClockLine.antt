@@ -3,10 +3,12 @@
 -- the table.
 use Rattle.std.specs.Prelude.{◌≡◌, refl, Bool, true, false, List, [], ◌∷◌, ◌++◌, leb, ltb, length, set}
 use Rattle.std.proofs.Math.Path.{ap}
-use Rattle.std.proofs.Common.{sym, ◌∙◌, arith, length-set, lt-ltb, le-ltb, le-leb, ltb-true}
+use Rattle.std.proofs.Common.{sym, ◌∙◌, arith, length-set, le-leb, ltb-true}
 use Prim.Native.Nat.{ℕ, zero, suc, ◌+◌, ◌≤◌, ◌<◌}
 use Rattle.std.proofs.lemmas.Bool.{lt-leb}
-use Rattle.streams.specs.Answer.{Answer, refused, gives, answer, unless, ◌or_else◌}
+use Rattle.streams.specs.Answer.{Answer, refused, gives, unless, ◌or_else◌}
+use Rattle.refusals.specs.Refused.{number_of as code_of}
+use Rattle.refusals.specs.declared.Refusal.{Refusal}
 use Rattle.policy.specs.Rules.{Rule}
 use Rattle.policy.specs.Check.{ceiling_good}
 use Rattle.policy.specs.File.{part}
@@ -39,22 +41,6 @@ with_clock d w c =
 -- Of a ceiling c after n clocks. 4: it is 0 or above 1,001. 33: there are four clocks already.
 abbrev pub clock_refusal : ℕ → ℕ → ℕ
 clock_refusal c n = unless (ceiling_good c) 4 or_else unless (ltb n 4) 33
-
--- A ceiling of 0 is refused by 4.
-pub ceiling_none : (c n : ℕ) → c < 1 → 4 ≡ clock_refusal c n
-ceiling_none c n h = rw (lt-leb 1 c h)
-
--- A ceiling above 1,001 is refused by 4.
-pub ceiling_large : (c n : ℕ) → 1 ≤ c → 1001 < c → 4 ≡ clock_refusal c n
-ceiling_large c n h l = rw (le-leb 1 c h, lt-leb c 1001 l)
-
--- A ceiling from 1 to 1,001 is not refused where there are fewer than four clocks.
-pub clock_room : (c n : ℕ) → 1 ≤ c → c ≤ 1001 → n < 4 → 0 ≡ clock_refusal c n
-clock_room c n h l g = rw (le-leb 1 c h, le-leb c 1001 l, lt-ltb n 4 g)
-
--- A ceiling from 1 to 1,001 is refused by 33 where there are four clocks already.
-pub clock_full : (c n : ℕ) → 1 ≤ c → c ≤ 1001 → 4 ≤ n → 33 ≡ clock_refusal c n
-clock_full c n h l g = rw (le-leb 1 c h, le-leb c 1001 l, le-ltb n 4 g)
 
 -- Behind `clock` stand two words, or the line is refused by 30.
 pub clock_form : (d : Draft) (n : ℕ) (v w : Word) (l : Line) → (n ≡ 2 → ⊥) → Shaped n v w l → refused 30 ≡ clock_line d l
@@ -95,32 +81,22 @@ module _ (d : Draft) (v w : Word) (l : Line) (two : l ≡ v ∷ w ∷ []) where
     timely = steps ∙ rw (le-leb d.stage 3 h)
 
     -- The refusal of the name, if it has one, is that of the line.
-    pub clock_named : (r : ℕ) (x : Draft) → r ≡ name → (r ≡ 0 → ⊥) → answer r x ≡ clock_line d l
-    clock_named r x e z = refusing r x (number_of w and_then last) z ∙ ap (λ (n : ℕ). refuse n (number_of w and_then last)) e ∙ sym timely
+    pub clock_named : (r : Refusal) → code_of r ≡ name → refused (code_of r) ≡ clock_line d l
+    clock_named r e = refusing r (number_of w and_then last) ∙ ap (λ (n : ℕ). refuse n (number_of w and_then last)) e ∙ sym timely
 
-    module _ (fresh : 0 ≡ name) (q c : ℕ) (number : answer q c ≡ number_of w) where
-      then : clock_line d l ≡ answer q c and_then last
-      then = timely ∙ ap (λ (n : ℕ). refuse n (number_of w and_then last)) (sym fresh) ∙ ap (λ (a : Answer ℕ). a and_then last) (sym number)
-
-      no_number : (n : ℕ) (x : Draft) → (n ≡ 0 → ⊥) → answer n x ≡ answer n c and_then last
-      no_number zero x z = absurd (z refl)
-      no_number (suc n) x z = refl
-
+    module _ (fresh : 0 ≡ name) where
       -- With a new name, the refusal of the second word as a number is that of the line.
-      pub clock_number : (x : Draft) → (q ≡ 0 → ⊥) → answer q x ≡ clock_line d l
-      clock_number x z = no_number q x z ∙ sym then
+      pub clock_read : (x : Answer ℕ) → x ≡ number_of w → (x and_then last) ≡ clock_line d l
+      clock_read x number = sym (timely ∙ ap (λ (n : ℕ). refuse n (number_of w and_then last)) (sym fresh) ∙ ap (λ (a : Answer ℕ). a and_then last) (sym number))
 
-      module _ (zero_q : q ≡ 0) where
-        lasts : clock_line d l ≡ last c
-        lasts = then ∙ ap (λ (n : ℕ). answer n c and_then last) zero_q
-
+      module _ (c : ℕ) (number : gives c ≡ number_of w) where
         -- With a new name and a number, the refusal of the ceiling (4) or for want of room (33) is that of the line.
-        pub clock_last : (r : ℕ) (x : Draft) → r ≡ clock_refusal c (length d.clocks) → (r ≡ 0 → ⊥) → answer r x ≡ clock_line d l
-        clock_last r x e z = refusing r x (gives (with_clock d v c)) z ∙ ap (λ (n : ℕ). refuse n (gives (with_clock d v c))) e ∙ sym lasts
+        pub clock_last : (r : Refusal) → code_of r ≡ clock_refusal c (length d.clocks) → refused (code_of r) ≡ clock_line d l
+        clock_last r e = refusing r (gives (with_clock d v c)) ∙ ap (λ (n : ℕ). refuse n (gives (with_clock d v c))) e ∙ clock_read (gives c) number
 
         -- A clock that nothing refuses is added, with its ceiling.
         pub clock_given : 0 ≡ clock_refusal c (length d.clocks) → gives (with_clock d v c) ≡ clock_line d l
-        clock_given e = ap (λ (n : ℕ). refuse n (gives (with_clock d v c))) e ∙ sym lasts
+        clock_given e = ap (λ (n : ℕ). refuse n (gives (with_clock d v c))) e ∙ clock_read (gives c) number
 
 -- A clock more in the table.
 abbrev pub more_clock : Table → ℕ → Table

@@ -1,18 +1,23 @@
 -- New names and what is kept of them.
 -- In order: whether a word may be a new name; one name more in the slices of the names.
 use Rattle.std.specs.Prelude.{◌≡◌, Bool, true, false, List, [], ◌∷◌, ◌++◌, eqb, length, get_or, take, set}
-use Rattle.std.proofs.Math.Path.{refl, ap}
-use Rattle.std.proofs.Common.{◌∙◌, length-set, get_or-set_same, take-suc-set, lt-ltb, le-ltb, eqb-true}
+use Rattle.std.proofs.Math.Path.{refl, ap, sym}
+use Rattle.std.proofs.Common.{◌∙◌, length-set, get_or-set_same, take-suc-set, eqb-true}
 use Rattle.std.proofs.Math.Option.{Option, none, some}
 use Prim.Native.Nat.{ℕ, zero, suc, ◌+◌, ◌≤◌, ◌<◌}
 use native.Mathlib.Omega.{arith}
 use Rattle.std.proofs.Math.Seq.{get_or-set_other}
-use Rattle.std.proofs.lemmas.Bool.{eqb-false}
-use Rattle.streams.specs.Answer.{Answer, refused, answer}
+use Rattle.std.proofs.lemmas.Bool.{eqb-false, false≢true}
+use Rattle.std.specs.Prelude.{Some, None, is_some}
+use Rattle.std.specs.Prelude.{Option as Found}
+use Rattle.refusals.specs.Refused.{number_of}
+use Rattle.refusals.specs.Laws.{number_above}
+use Rattle.refusals.specs.declared.Refusal.{Refusal}
+use Rattle.streams.specs.Answer.{Answer, refused}
 use Rattle.policy.specs.File.{part}
 use Rattle.wording.specs.Words.{Word, Line}
 use Rattle.wording.specs.Names.{must, free, find, is_name}
-use Rattle.words.specs.Spans.{spans, NamesIn, place_below}
+use Rattle.words.specs.Spans.{spans, NamesIn, found_said}
 use Rattle.wording.specs.Reader.{Draft}
 use Rattle.declarations.specs.declared.table.Table.{Table}
 
@@ -27,31 +32,28 @@ name_refusal true none none = 0
 abbrev pub name_found : (text starts lengths : List ℕ) → Table → Word → ℕ
 name_found text starts lengths t w = name_refusal (is_name w) (find 0 w (spans text starts lengths 0 t.signals)) (find 0 w (spans text starts lengths 8 t.clocks))
 
--- A word that cannot be a name is refused by 30.
-pub name_not : (t : Bool) (o p : Option ℕ) → t ≡ false → 30 ≡ name_refusal t o p
-name_not t o p e = rw e
+-- A search that found something.
+pub found_some : (r : Found ℕ) {o : Option ℕ} → found_said r ≡ o → is_some r ≡ true → (i : ℕ) × (o ≡ some i)
+found_some (Some i) e h = (i, sym e)
+found_some None e h = absurd (false≢true h)
 
--- A name that a signal has is refused by 31.
-pub name_signal : (t : Bool) (o p : Option ℕ) {n k : ℕ} → t ≡ true → o ≡ place_below n k → k < n → 31 ≡ name_refusal t o p
-name_signal t o p {n = n} {k = k} e f h = rw (e, f, lt-ltb k n h)
-
--- A name that a clock has, and no signal, is refused by 31.
-pub name_clock : (t : Bool) (o p : Option ℕ) {n k m j : ℕ} → t ≡ true → o ≡ place_below n k → n ≤ k → p ≡ place_below m j → j < m → 31 ≡ name_refusal t o p
-name_clock t o p {n = n} {k = k} {m = m} {j = j} e f h g l = rw (e, f, le-ltb k n h, g, lt-ltb j m l)
-
--- A name that neither a signal nor a clock has is not refused.
-pub name_fresh : (t : Bool) (o p : Option ℕ) {n k m j : ℕ} → t ≡ true → o ≡ place_below n k → n ≤ k → p ≡ place_below m j → m ≤ j → 0 ≡ name_refusal t o p
-name_fresh t o p {n = n} {k = k} {m = m} {j = j} e f h g l = rw (e, f, le-ltb k n h, g, le-ltb j m l)
+-- A search that found nothing.
+pub found_none : (r : Found ℕ) {o : Option ℕ} → found_said r ≡ o → is_some r ≡ false → o ≡ none
+found_none (Some i) e h = absurd (false≢true (sym h))
+found_none None e h = sym e
 
 -- The refusal n, unless it is 0.
 abbrev pub refuse : {A : Type 0} → ℕ → Answer A → Answer A
 refuse zero a = a
 refuse (suc n) a = refused (suc n)
 
--- Where the refusal is not 0, it is the answer, whatever would follow.
-pub refusing : {A : Type 0} (n : ℕ) (x : A) (a : Answer A) → (n ≡ 0 → ⊥) → answer n x ≡ refuse n a
-refusing zero x a z = absurd (z refl)
-refusing (suc n) x a z = refl
+-- No refusal has the number 0, so each is the answer, whatever would follow.
+pub refusing : {A : Type 0} (r : Refusal) (a : Answer A) → refused (number_of r) ≡ refuse (number_of r) a
+refusing r a = go (number_of r) (number_above r)
+  where
+    go : (n : ℕ) → 0 < n → refused n ≡ refuse n a
+    go zero h = absurd (omega arith)
+    go (suc n) h = refl
 
 -- A clock's name, looked up among the clocks first; a signal's among the signals first.
 pub clock_new : (t : Bool) (o p : Option ℕ) (a : Answer Draft) → must t 30 (free p (free o a)) ≡ refuse (name_refusal t o p) a

@@ -1,42 +1,18 @@
 -- The letter of a signal that is declared, by what was found of it.
-use Rattle.std.specs.Prelude.{◌≡◌, refl, Bool, true, false, List, [], ◌∷◌, ℕ, suc, ◌+◌, ◌-◌, ◌≤◌, ◌<◌, length, get_or, take, drop}
+use Rattle.std.specs.Prelude.{◌≡◌, refl, Bool, true, false, ◌||◌, List, [], ◌∷◌, ℕ, eqb, length, get_or}
 use native.Mathlib.Omega.{arith}
-use Rattle.std.proofs.Common.{drop-cons}
-use borrow.Author.Tests.{eq-eqb, ne_eqb}
+use Rattle.std.specs.List.{list_any}
+use Rattle.std.proofs.Common.{ap}
 use Rattle.streams.specs.Answer.{refused, gives}
 use Rattle.policy.specs.Check.{is_capital, among}
 use Rattle.wording.specs.Words.{Word}
 use Rattle.wording.specs.Reader.{letter}
 
-module _ (c n : ℕ) (tags : List ℕ) where
-  -- Whether c is one of the first n tags, looked for from number i on.
-  abbrev pub among_from : ℕ → Bool
-  among_from i = among c (take (n - i) (drop i tags))
-
-  -- From 0 on, all n tags are looked at.
-  pub among_start : among_from 0 ≡ among c (take n tags)
-  among_start = let e : n - 0 ≡ n = omega arith in rw e
-
-  turn : (i : ℕ) → i < n → n ≤ length tags → take (n - i) (drop i tags) ≡ get_or tags i 0 ∷ take (n - (i + 1)) (drop (i + 1) tags)
-  turn i h l =
-      let e : n - i ≡ suc (n - (i + 1)) = omega arith in
-      let s : suc i ≡ i + 1 = omega arith in
-      rw (e, drop-cons tags i 0 (omega arith), s)
-
-  -- The tag at i is c: it is found.
-  pub among_here : (i : ℕ) → i < n → n ≤ length tags → get_or tags i 0 ≡ c → among_from i ≡ true
-  unfolding among
-  among_here i h l e = rw (turn i h l, eq-eqb (get_or tags i 0) c e)
-
-  -- The tag at i is another: those after it decide.
-  pub among_on : (i : ℕ) → i < n → n ≤ length tags → (get_or tags i 0 ≡ c → ⊥) → among_from i ≡ among_from (i + 1)
-  unfolding among
-  among_on i h l e = rw (turn i h l, ne_eqb (get_or tags i 0) c e)
-
-  -- After the last tag, it is not found.
-  pub among_end : (i : ℕ) → n ≤ i → among_from i ≡ false
-  unfolding among
-  among_end i h = let e : n - i ≡ 0 = omega arith in rw e
+-- Whether the tags contain c.
+pub among_any : (c : ℕ) (tags : List ℕ) → list_any (λ t. eqb t c) tags ≡ among c tags
+unfolding among
+among_any c [] = refl
+among_any c (t ∷ ts) = ap (λ (b : Bool). eqb t c || b) (among_any c ts)
 
 module _ (before : List ℕ) where
   -- A word that is not a single byte is refused by 30.

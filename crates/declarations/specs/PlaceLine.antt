@@ -1,19 +1,22 @@
 -- A location's line, by what was found of it.
 -- In order: one location more in a draft; the words `must be left`, and the byte they give; a new location by its refusals, in their order; one
 -- location more in the table; the three words found one by one; the line.
-use Rattle.std.specs.Prelude.{◌≡◌, refl, Bool, true, false, cond, ◌&&◌, ℕ, ◌+◌, ◌-◌, ◌≤◌, ◌<◌, eqb, length, set}
+use Rattle.std.specs.Prelude.{◌≡◌, refl, Bool, true, false, cond, ◌&&◌, not, leb, ltb, eqb, ℕ, zero, suc, ◌+◌, ◌-◌, ◌≤◌, ◌<◌, length, take, drop, set}
 use Rattle.std.proofs.Math.Path.{ap, sym}
 use Rattle.std.proofs.Common.{◌∙◌, arith}
 use mathlib.Core.List.{List, [], ◌∷◌, ◌++◌}
-use borrow.Author.Tests.{lt-ltb, le-ltb, le-leb, lt-leb, eq-eqb, ne_eqb}
-use Rattle.streams.specs.Answer.{refused, gives}
+use borrow.Author.Tests.{ltb-true, ltb-false, lt-ltb, le-ltb, le-leb, lt-leb}
+use Rattle.std.proofs.Math.Bool.{and-false, and-true}
+use Rattle.std.proofs.Math.Option.{none, some}
+use Rattle.streams.specs.Answer.{Answer, refused, gives}
 use Rattle.policy.specs.Rules.{Rule}
 use Rattle.policy.specs.File.{part}
 use Rattle.wording.specs.Words.{Word, Line, words_of}
-use Rattle.wording.specs.Names.{find, is, is_name, must}
-use Rattle.words.specs.Spans.{NamesIn, place_below}
+use Rattle.wording.specs.Names.{same, find, is, is_name, must, ◌and_then◌}
+use Rattle.words.specs.Spans.{NamesIn}
 use Rattle.wording.specs.Reader.{Draft, new_place, location_line}
-use Rattle.words.specs.Keywords.{keywords, keyword_is}
+use Rattle.std.specs.Cmp.Lexicographic.{pointwise}
+use Rattle.words.specs.Lex.{same_is}
 use Rattle.words.specs.Firsts.{NextIn, in_none, in_word}
 use Rattle.declarations.specs.Fresh.{spans_other, spans_more, take_more}
 use Rattle.declarations.specs.Table.{draft_of, Fit}
@@ -48,6 +51,12 @@ abbrev pub left_byte : Line → ℕ
 left_byte [] = 0
 left_byte (w ∷ ws) = cond (must_be_left (w ∷ ws)) 1 2
 
+-- As an answer: 30 for words that do not belong there.
+abbrev pub byte_answer : ℕ → Answer ℕ
+byte_answer zero = gives 0
+byte_answer (suc zero) = gives 1
+byte_answer (suc (suc n)) = refused 30
+
 location_left : (d : Draft) (w a : Word) (as' : Line) → location_line d (w ∷ a ∷ as') ≡ must (must_be_left (a ∷ as')) 30 (new_place d w 1)
 unfolding location_line
 location_left d w a [] = refl
@@ -67,21 +76,21 @@ module _ (d : Draft) (w : Word) (byte : ℕ) where
     unfolding new_place
     place_unnamed e = rw (le-leb d.stage 4 h, e)
 
-    module _ (named : is_name w ≡ true) {n k : ℕ} (e : find 0 w d.places ≡ place_below n k) where
+    module _ (named : is_name w ≡ true) where
       -- A name that a location has already is refused by 31.
-      pub place_taken : k < n → refused 31 ≡ new_place d w byte
+      pub place_taken : {k : ℕ} → find 0 w d.places ≡ some k → refused 31 ≡ new_place d w byte
       unfolding new_place
-      place_taken l = rw (le-leb d.stage 4 h, named, e, lt-ltb k n l)
+      place_taken e = rw (le-leb d.stage 4 h, named, e)
 
       -- A new name is refused by 33 where there are 64 locations already.
-      pub place_full : n ≤ k → 64 ≤ length d.places → refused 33 ≡ new_place d w byte
+      pub place_full : find 0 w d.places ≡ none → 64 ≤ length d.places → refused 33 ≡ new_place d w byte
       unfolding new_place
-      place_full l m = rw (le-leb d.stage 4 h, named, e, le-ltb k n l, le-ltb (length d.places) 64 m)
+      place_full e m = rw (le-leb d.stage 4 h, named, e, le-ltb (length d.places) 64 m)
 
       -- A new name is added, with its byte, where there are fewer than 64 locations.
-      pub place_given : n ≤ k → length d.places < 64 → gives (with_place d w byte) ≡ new_place d w byte
+      pub place_given : find 0 w d.places ≡ none → length d.places < 64 → gives (with_place d w byte) ≡ new_place d w byte
       unfolding new_place
-      place_given l m = rw (le-leb d.stage 4 h, named, e, le-ltb k n l, lt-ltb (length d.places) 64 m)
+      place_given e m = rw (le-leb d.stage 4 h, named, e, lt-ltb (length d.places) 64 m)
 
 -- A location more in the table.
 abbrev pub more_place : Table → Table
@@ -126,53 +135,55 @@ fit_place f h =
       ceilings_long = f.ceilings_long;
     }
 
--- The three words, found one by one.
-module _ {text : List ℕ} {end at a b : ℕ} (n : NextIn text end at a b) where
-  -- No word at all is not `must be left`.
-  pub left_none : b ≤ a → false ≡ must_be_left (words_of (part text at (end - at)))
-  left_none h = rw (in_none n h)
+-- What `!=` says of a word and one of the language.
+pub word_unlike : (w v u : Word) {t : Bool} → v ≡ u → t ≡ not (pointwise eqb w v) → same w u ≡ not t
+word_unlike w v u h e = sym (ap not e ∙ not_not (pointwise eqb w v) ∙ same_is w v ∙ ap (same w) h)
+  where
+    not_not : (b : Bool) → not (not b) ≡ b
+    not_not true = refl
+    not_not false = refl
 
-  module _ {c d : ℕ} (h : a < b) (m : NextIn text end b c d) where
-    -- One word is not `must be left`.
-    pub left_one : d ≤ c → false ≡ must_be_left (words_of (part text at (end - at)))
-    left_one k = rw (in_word n h, in_none m k)
+-- No word behind the third.
+pub none_left : (g i : ℕ) → leb i g ≡ not (ltb g i)
+none_left g i = go (ltb g i) refl
+  where
+    go : (t : Bool) → ltb g i ≡ t → leb i g ≡ not t
+    go true h = lt-leb i g (ltb-true g i h)
+    go false h = le-leb i g (ltb-false g i h)
 
-    module _ {e f : ℕ} (k : c < d) (o : NextIn text end d e f) where
-      -- Two words are not `must be left`.
-      pub left_two : f ≤ e → false ≡ must_be_left (words_of (part text at (end - at)))
-      left_two l = rw (in_word n h, in_word m k, in_none o l)
+-- A part of no byte.
+no_bytes : (text : List ℕ) (a b : ℕ) → ltb a b ≡ false → part text a (b - a) ≡ []
+no_bytes text a b h = let e : b - a ≡ 0 = omega (arith, ltb-false a b h) in ap (λ (n : ℕ). take n (drop a text)) e
 
-      module _ {g i : ℕ} (l : e < f) (p : NextIn text end f g i) where
-        -- Four words or more are not `must be left`.
-        pub left_more : g < i → false ≡ must_be_left (words_of (part text at (end - at)))
-        left_more q = rw (in_word n h, in_word m k, in_word o l, in_word p q)
+-- Four words, each found behind the one before it: the first three are tested, and the fourth is none.
+module _ {text : List ℕ} {end at a b c d e f g i : ℕ} (n : NextIn text end at a b) (m : NextIn text end b c d) (o : NextIn text end d e f) (p : NextIn text end f g i) where
+  abbrev first : Word
+  first = part text a (b - a)
 
-        module _ (q : i ≤ g) where
-          abbrev three : Bool
-          three = is "must" (part text a (b - a)) && (is "be" (part text c (d - c)) && is "left" (part text e (f - e)))
+  abbrev second : Word
+  second = part text c (d - c)
 
-          just : must_be_left (words_of (part text at (end - at))) ≡ three
-          just = ap must_be_left (in_word n h ∙ ap (λ (z : Line). part text a (b - a) ∷ z) (in_word m k ∙ ap (λ (z : Line). part text c (d - c) ∷ z) (in_word o l ∙ ap (λ (z : Line). part text e (f - e) ∷ z) (in_none p q))))
+  abbrev third : Word
+  third = part text e (f - e)
 
-          module _ (r : ℕ) (rr : find 0 (part text a (b - a)) keywords ≡ place_below 14 r) where
-            must_is : is "must" (part text a (b - a)) ≡ eqb r 9
-            must_is = keyword_is (part text a (b - a)) r rr 9 (omega arith)
+  found : words_of (part text at (end - at))
+      ≡ cond (ltb a b) (first ∷ cond (ltb c d) (second ∷ cond (ltb e f) (third ∷ cond (ltb g i) (part text g (i - g) ∷ words_of (part text i (end - i))) []) []) []) []
+  found =
+      n.words ∙ ap (λ (z : Line). cond (ltb a b) (first ∷ z) []) (m.words ∙ ap (λ (z : Line). cond (ltb c d) (second ∷ z) []) (o.words ∙ ap (λ (z : Line). cond (ltb e f) (third ∷ z) []) p.words))
 
-            -- Three words that do not begin with `must` are not `must be left`.
-            pub left_must : (r ≡ 9 → ⊥) → false ≡ must_be_left (words_of (part text at (end - at)))
-            left_must z = sym (just ∙ rw (must_is, ne_eqb r 9 z))
-
-            module _ (s : ℕ) (ss : find 0 (part text c (d - c)) keywords ≡ place_below 14 s) (y : r ≡ 9) where
-              be_is : is "be" (part text c (d - c)) ≡ eqb s 10
-              be_is = keyword_is (part text c (d - c)) s ss 10 (omega arith)
-
-              -- Three words of which the first is `must` and the second not `be` are not `must be left`.
-              pub left_be : (s ≡ 10 → ⊥) → false ≡ must_be_left (words_of (part text at (end - at)))
-              left_be z = sym (just ∙ rw (must_is, eq-eqb r 9 y, be_is, ne_eqb s 10 z))
-
-              -- Three words that begin with `must be` are `must be left` exactly if the third is `left`.
-              pub left_left : (u : ℕ) → find 0 (part text e (f - e)) keywords ≡ place_below 14 u → s ≡ 10 → eqb u 11 ≡ must_be_left (words_of (part text at (end - at)))
-              left_left u uu z = sym (just ∙ rw (must_is, eq-eqb r 9 y, be_is, eq-eqb s 10 z, keyword_is (part text e (f - e)) u uu 11 (omega arith)))
+  -- Whether they are `must be left`.
+  pub left_test : must_be_left (words_of (part text at (end - at))) ≡ is "must" first && (is "be" second && (is "left" third && not (ltb g i)))
+  unfolding same
+  left_test = ap must_be_left found ∙ go (ltb a b) (ltb c d) (ltb e f) (ltb g i) (no_bytes text a b) (no_bytes text c d) (no_bytes text e f)
+    where
+      go : (x y z u : Bool) → (x ≡ false → first ≡ []) → (y ≡ false → second ≡ []) → (z ≡ false → third ≡ []) →
+          must_be_left (cond x (first ∷ cond y (second ∷ cond z (third ∷ cond u (part text g (i - g) ∷ words_of (part text i (end - i))) []) []) []) [])
+          ≡ is "must" first && (is "be" second && (is "left" third && not u))
+      go false y z u j k l = let q : is "must" first ≡ false = ap (is "must") (j refl) in rw q
+      go true false z u j k l = let q : is "be" second ≡ false = ap (is "be") (k refl) in rw (q, and-false (is "must" first))
+      go true true false u j k l = let q : is "left" third ≡ false = ap (is "left") (l refl) in rw (q, and-false (is "be" second), and-false (is "must" first))
+      go true true true true j k l = rw (and-false (is "left" third), and-false (is "be" second), and-false (is "must" first))
+      go true true true false j k l = rw (and-true (is "left" third))
 
 -- With words behind the name the byte is 1 for `must be left`, and 2 for any others.
 pub byte_is : (l : Line) {w : Word} {ws : Line} → l ≡ w ∷ ws → {t : Bool} → must_be_left l ≡ t → cond t 1 2 ≡ left_byte l
@@ -181,22 +192,14 @@ byte_is (v ∷ vs) e m = ap (λ (b : Bool). cond b 1 2) (sym m)
 
 -- The line.
 module _ (d : Draft) (w : Word) where
-  by_byte : (t : Bool) (k : ℕ) → k ≡ cond t 1 2 → k ≤ 1 → new_place d w k ≡ must t 30 (new_place d w 1)
-  by_byte true k e h = ap (new_place d w) e
-  by_byte false k e h = absurd (omega arith)
+  by_byte : (t : Bool) → (byte_answer (cond t 1 2) and_then new_place d w) ≡ must t 30 (new_place d w 1)
+  by_byte true = refl
+  by_byte false = refl
 
-  no_byte : (t : Bool) (k : ℕ) → k ≡ cond t 1 2 → 1 < k → refused 30 ≡ must t 30 (new_place d w 1)
-  no_byte true k e h = absurd (omega arith)
-  no_byte false k e h = refl
-
-  with_byte : (l : Line) (k : ℕ) → k ≡ left_byte l → k ≤ 1 → new_place d w k ≡ location_line d (w ∷ l)
+  with_byte : (l : Line) → (byte_answer (left_byte l) and_then new_place d w) ≡ location_line d (w ∷ l)
   unfolding location_line
-  with_byte [] k e h = ap (new_place d w) e
-  with_byte (v ∷ vs) k e h = by_byte (must_be_left (v ∷ vs)) k e h ∙ sym (location_left d w v vs)
-
-  without_byte : (l : Line) (k : ℕ) → k ≡ left_byte l → 1 < k → refused 30 ≡ location_line d (w ∷ l)
-  without_byte [] k e h = absurd (omega arith)
-  without_byte (v ∷ vs) k e h = no_byte (must_be_left (v ∷ vs)) k e h ∙ sym (location_left d w v vs)
+  with_byte [] = refl
+  with_byte (v ∷ vs) = by_byte (must_be_left (v ∷ vs)) ∙ sym (location_left d w v vs)
 
 module _ (dr : Draft) {text : List ℕ} {end at a b : ℕ} (n : NextIn text end at a b) where
   -- `location` without a name is refused by 30.
@@ -204,11 +207,10 @@ module _ (dr : Draft) {text : List ℕ} {end at a b : ℕ} (n : NextIn text end 
   unfolding location_line
   location_none h = rw (in_none n h)
 
-  module _ (h : a < b) {k : ℕ} (e : k ≡ left_byte (words_of (part text b (end - b)))) where
-    -- A name with words behind it that are not `must be left` is refused by 30.
-    pub location_no : 1 < k → refused 30 ≡ location_line dr (words_of (part text at (end - at)))
-    location_no l = without_byte dr (part text a (b - a)) (words_of (part text b (end - b))) k e l ∙ sym (ap (location_line dr) (in_word n h))
-
-    -- A name alone is a new location with byte 0, and one with `must be left` behind it a new location with byte 1.
-    pub location_given : k ≤ 1 → new_place dr (part text a (b - a)) k ≡ location_line dr (words_of (part text at (end - at)))
-    location_given l = with_byte dr (part text a (b - a)) (words_of (part text b (end - b))) k e l ∙ sym (ap (location_line dr) (in_word n h))
+  -- A name alone is a new location with byte 0, one with `must be left` behind it a new location with byte 1, and other words are refused by 30.
+  pub location_by : a < b → (x : Answer ℕ) → x ≡ byte_answer (left_byte (words_of (part text b (end - b)))) →
+      (x and_then new_place dr (part text a (b - a))) ≡ location_line dr (words_of (part text at (end - at)))
+  location_by h x e =
+      ap (λ (y : Answer ℕ). y and_then new_place dr (part text a (b - a))) e
+      ∙ with_byte dr (part text a (b - a)) (words_of (part text b (end - b)))
+      ∙ sym (ap (location_line dr) (in_word n h))

@@ -7,15 +7,19 @@ use Rattle.std.proofs.Common.{sym, ◌∙◌, arith, length-set, length-drop, ta
 use Prim.Native.Nat.{ℕ, zero, suc, ◌+◌, ◌-◌, ◌≤◌, ◌<◌}
 use Rattle.std.proofs.lemmas.List.{take-set-le, drop-set-add}
 use Rattle.std.proofs.lemmas.Bool.{lt-leb}
-use Rattle.streams.specs.Answer.{Answer, refused, gives, answer}
+use Rattle.streams.specs.Answer.{Answer, refused, gives}
+use Rattle.refusals.specs.Refused.{number_of}
+use Rattle.refusals.specs.declared.Refusal.{Refusal}
 use Rattle.policy.specs.Rules.{Rule}
 use Rattle.policy.specs.File.{part}
 use Rattle.wording.specs.Words.{Word, Line}
 use Rattle.wording.specs.Names.{find, is_name, must, ◌and_then◌}
 use Rattle.words.specs.Spans.{spans, NamesIn}
 use Rattle.wording.specs.Reader.{Draft, tags, letter, with_input, with_output, signal_line, input_line, output_line}
-use Rattle.words.specs.Firsts.{Shaped}
-use Rattle.declarations.specs.Fresh.{name_refusal, name_found, refuse, signal_new, spans_other, spans_more, take_more}
+use Rattle.words.specs.declared.words.Span.{Span}
+use Rattle.words.specs.Firsts.{Shaped, count_of, first_span, second_span, first_held, second_held, word_of}
+use Rattle.words.specs.declared.firsts.Few.{Few}
+use Rattle.declarations.specs.Fresh.{name_refusal, name_found, refuse, refusing, signal_new, spans_other, spans_more, take_more}
 use Rattle.declarations.specs.Table.{draft_of, Fit}
 use Rattle.declarations.specs.declared.table.Table.{Table}
 
@@ -37,38 +41,35 @@ wanted_some zero r h = absurd (omega arith)
 wanted_some (suc zero) r h = absurd (omega arith)
 wanted_some (suc (suc n)) r h = refl
 
+-- Of more than two words the second is no name.
+pub wanted_more : (text starts lengths : List ℕ) (t : Table) (few : Few) (v w : Span) → few ≡ Few.More v w → 30 ≡ wanted (count_of few) (name_found text starts lengths t (word_of text (second_span few)))
+unfolding is_name
+wanted_more text starts lengths t few v w e = rw e
+
 -- The letter, then the refusal r of the name, then room.
 abbrev pub signal_tag : (before : List ℕ) (count r : ℕ) → Word → Answer ℕ
 signal_tag before count r w = letter before w and_then λ t. refuse r (must (ltb count 4) 33 (gives t))
 
-module _ (before : List ℕ) (count : ℕ) (w : Word) (q c : ℕ) (e : answer q c ≡ letter before w) where
+module _ (before : List ℕ) (count : ℕ) (w : Word) where
+  tag_by : (x : Answer ℕ) → x ≡ letter before w → (r : ℕ) → signal_tag before count r w ≡ x and_then λ t. refuse r (must (ltb count 4) 33 (gives t))
+  tag_by x e r = ap (λ (a : Answer ℕ). a and_then λ t. refuse r (must (ltb count 4) 33 (gives t))) (sym e)
+
   -- The refusal of the letter, if it has one, comes before all else.
-  pub tag_not : (r : ℕ) → (q ≡ 0 → ⊥) → answer q c ≡ signal_tag before count r w
-  tag_not r z = go q z ∙ ap (λ (a : Answer ℕ). a and_then λ t. refuse r (must (ltb count 4) 33 (gives t))) e
-    where
-      go : (n : ℕ) → (n ≡ 0 → ⊥) → answer n c ≡ answer n c and_then λ t. refuse r (must (ltb count 4) 33 (gives t))
-      go zero k = absurd (k refl)
-      go (suc n) k = refl
+  pub tag_not : (q : Refusal) → refused (number_of q) ≡ letter before w → (r : ℕ) → refused (number_of q) ≡ signal_tag before count r w
+  tag_not q e r = sym (tag_by (refused (number_of q)) e r)
 
-  module _ (z : q ≡ 0) where
-    there : (r : ℕ) → signal_tag before count r w ≡ refuse r (must (ltb count 4) 33 (gives c))
-    there r = ap (λ (a : Answer ℕ). a and_then λ t. refuse r (must (ltb count 4) 33 (gives t))) (sym e ∙ ap (λ (n : ℕ). answer n c) z)
-
+  module _ (c : ℕ) (e : gives c ≡ letter before w) where
     -- With a good letter, the refusal of the name is the answer.
-    pub tag_named : (r x : ℕ) {s : ℕ} → r ≡ s → (r ≡ 0 → ⊥) → answer r x ≡ signal_tag before count s w
-    tag_named r x {s = s} f k = go r k ∙ ap (λ (n : ℕ). refuse n (must (ltb count 4) 33 (gives c))) f ∙ sym (there s)
-      where
-        go : (n : ℕ) → (n ≡ 0 → ⊥) → answer n x ≡ refuse n (must (ltb count 4) 33 (gives c))
-        go zero y = absurd (y refl)
-        go (suc n) y = refl
+    pub tag_named : (q : Refusal) {s : ℕ} → number_of q ≡ s → refused (number_of q) ≡ signal_tag before count s w
+    tag_named q {s = s} f = refusing q (must (ltb count 4) 33 (gives c)) ∙ ap (λ (n : ℕ). refuse n (must (ltb count 4) 33 (gives c))) f ∙ sym (tag_by (gives c) e s)
 
     -- With a good letter and name, 33 is the answer where there are four of the kind already.
     pub tag_full : {s : ℕ} → 0 ≡ s → 4 ≤ count → refused 33 ≡ signal_tag before count s w
-    tag_full {s = s} f h = sym (there s ∙ rw (← f, le-ltb count 4 h))
+    tag_full {s = s} f h = sym (tag_by (gives c) e s ∙ rw (← f, le-ltb count 4 h))
 
     -- With a good letter and name, the letter is given where there are fewer than four of the kind.
-    pub tag_given : {s : ℕ} → 0 ≡ s → count < 4 → answer q c ≡ signal_tag before count s w
-    tag_given {s = s} f h = rw z (sym (there s ∙ rw (← f, lt-ltb count 4 h)))
+    pub tag_given : {s : ℕ} → 0 ≡ s → count < 4 → gives c ≡ signal_tag before count s w
+    tag_given {s = s} f h = sym (tag_by (gives c) e s ∙ rw (← f, lt-ltb count 4 h))
 
 -- A signal more in the table.
 abbrev pub more_signal : Table → (c inputs stage : ℕ) → Table
@@ -233,40 +234,40 @@ module _ (text starts lengths left : List ℕ) {t : Table} (f : Fit t) (rules : 
     unfolding output_line
     output_form h k = rw (le-leb t.stage 2 h) (signal_form d (length d.outputs) (with_output d) n v w l k s)
 
-    module _ (a : 1 ≤ n) (b : n ≤ 2) (q c : ℕ) where
-      -- The letter's answer carried on.
-      carried : (r : ℕ) (x : Draft) (go : ℕ → Word → Draft) → (r ≡ 0 → ⊥) → answer r x ≡ answer r c and_then λ u. gives (go u w)
-      carried zero x go z = absurd (z refl)
-      carried (suc r) x go z = refl
+    -- The letter's answer carried on.
+    module _ (a : 1 ≤ n) (b : n ≤ 2) (x : Answer ℕ) where
+      -- The refusal of an input's letter, of its name or for want of room is that of the line, and an input that nothing refuses is added.
+      pub input_is : t.stage ≤ 1 → x ≡ signal_tag (take t.signals t.tags) t.inputs (wanted n (name_found text starts lengths t w)) v →
+          (x and_then λ u. gives (with_input d u w)) ≡ input_line d l
+      unfolding input_line
+      input_is h e =
+          sym (rw (le-leb t.stage 1 h) (signal-line d (length d.inputs) (with_input d) n v w l a b s
+          ∙ (λ i. signal_tag (tags_whole i) (inputs_long f i) (wanted n (name_found text starts lengths t w)) v and_then λ u. gives (with_input d u w))
+          ∙ ap (λ (z : Answer ℕ). z and_then λ u. gives (with_input d u w)) (sym e)))
 
-      module _ (h : t.stage ≤ 1) (e : answer q c ≡ signal_tag (take t.signals t.tags) t.inputs (wanted n (name_found text starts lengths t w)) v) where
-        input_is : input_line d l ≡ answer q c and_then λ u. gives (with_input d u w)
-        unfolding input_line
-        input_is =
-            rw (le-leb t.stage 1 h) (signal-line d (length d.inputs) (with_input d) n v w l a b s
-            ∙ (λ i. signal_tag (tags_whole i) (inputs_long f i) (wanted n (name_found text starts lengths t w)) v and_then λ u. gives (with_input d u w))
-            ∙ ap (λ (z : Answer ℕ). z and_then λ u. gives (with_input d u w)) (sym e))
+      -- The same of an output.
+      pub output_is : t.stage ≤ 2 → x ≡ signal_tag (take t.signals t.tags) (t.signals - t.inputs) (wanted n (name_found text starts lengths t w)) v →
+          (x and_then λ u. gives (with_output d u w)) ≡ output_line d l
+      unfolding output_line
+      output_is h e =
+          sym (rw (le-leb t.stage 2 h) (signal-line d (length d.outputs) (with_output d) n v w l a b s
+          ∙ (λ i. signal_tag (tags_whole i) (outputs_long f i) (wanted n (name_found text starts lengths t w)) v and_then λ u. gives (with_output d u w))
+          ∙ ap (λ (z : Answer ℕ). z and_then λ u. gives (with_output d u w)) (sym e)))
 
-        -- The refusal of an input's letter, of its name or for want of room is that of the line.
-        pub input_not : (x : Draft) → (q ≡ 0 → ⊥) → answer q x ≡ input_line d l
-        input_not x z = carried q x (with_input d) z ∙ sym input_is
+  -- A line by the words that were found: with none or more than two of them it is refused by 30, as its letter is.
+  pub input_few : (few : Few) (l : Line) → Shaped (count_of few) (word_of text (first_held few)) (word_of text (second_held few)) l → (x : Answer ℕ) → t.stage ≤ 1 →
+      x ≡ signal_tag (take t.signals t.tags) t.inputs (wanted (count_of few) (name_found text starts lengths t (word_of text (second_span few)))) (word_of text (first_span few)) →
+      (x and_then λ u. gives (with_input (draft_of text starts lengths left t rules) u (word_of text (second_span few)))) ≡ input_line (draft_of text starts lengths left t rules) l
+  input_few Few.None l s x h e = ap (λ (a : Answer ℕ). a and_then λ u. gives (with_input (draft_of text starts lengths left t rules) u [])) e ∙ input_form 0 [] [] l s h (λ a b. omega arith)
+  input_few (Few.One v) l s x h e = input_is 1 (word_of text v) [] l s (omega arith) (omega arith) x h e
+  input_few (Few.Two v w) l s x h e = input_is 2 (word_of text v) (word_of text w) l s (omega arith) (omega arith) x h e
+  input_few (Few.More v w) l s x h e = ap (λ (a : Answer ℕ). a and_then λ u. gives (with_input (draft_of text starts lengths left t rules) u [])) e ∙ input_form 3 (word_of text v) (word_of text w) l s h (λ a b. omega arith)
 
-        -- An input that nothing refuses is added, with its letter and its name.
-        pub input_given : q ≡ 0 → gives (with_input d c w) ≡ input_line d l
-        input_given z = sym (input_is ∙ ap (λ (r : ℕ). answer r c and_then λ u. gives (with_input d u w)) z)
-
-      module _ (h : t.stage ≤ 2) (e : answer q c ≡ signal_tag (take t.signals t.tags) (t.signals - t.inputs) (wanted n (name_found text starts lengths t w)) v) where
-        output_is : output_line d l ≡ answer q c and_then λ u. gives (with_output d u w)
-        unfolding output_line
-        output_is =
-            rw (le-leb t.stage 2 h) (signal-line d (length d.outputs) (with_output d) n v w l a b s
-            ∙ (λ i. signal_tag (tags_whole i) (outputs_long f i) (wanted n (name_found text starts lengths t w)) v and_then λ u. gives (with_output d u w))
-            ∙ ap (λ (z : Answer ℕ). z and_then λ u. gives (with_output d u w)) (sym e))
-
-        -- The refusal of an output's letter, of its name or for want of room is that of the line.
-        pub output_not : (x : Draft) → (q ≡ 0 → ⊥) → answer q x ≡ output_line d l
-        output_not x z = carried q x (with_output d) z ∙ sym output_is
-
-        -- An output that nothing refuses is added, with its letter and its name.
-        pub output_given : q ≡ 0 → gives (with_output d c w) ≡ output_line d l
-        output_given z = sym (output_is ∙ ap (λ (r : ℕ). answer r c and_then λ u. gives (with_output d u w)) z)
+  -- The same of an output.
+  pub output_few : (few : Few) (l : Line) → Shaped (count_of few) (word_of text (first_held few)) (word_of text (second_held few)) l → (x : Answer ℕ) → t.stage ≤ 2 →
+      x ≡ signal_tag (take t.signals t.tags) (t.signals - t.inputs) (wanted (count_of few) (name_found text starts lengths t (word_of text (second_span few)))) (word_of text (first_span few)) →
+      (x and_then λ u. gives (with_output (draft_of text starts lengths left t rules) u (word_of text (second_span few)))) ≡ output_line (draft_of text starts lengths left t rules) l
+  output_few Few.None l s x h e = ap (λ (a : Answer ℕ). a and_then λ u. gives (with_output (draft_of text starts lengths left t rules) u [])) e ∙ output_form 0 [] [] l s h (λ a b. omega arith)
+  output_few (Few.One v) l s x h e = output_is 1 (word_of text v) [] l s (omega arith) (omega arith) x h e
+  output_few (Few.Two v w) l s x h e = output_is 2 (word_of text v) (word_of text w) l s (omega arith) (omega arith) x h e
+  output_few (Few.More v w) l s x h e = ap (λ (a : Answer ℕ). a and_then λ u. gives (with_output (draft_of text starts lengths left t rules) u [])) e ∙ output_form 3 (word_of text v) (word_of text w) l s h (λ a b. omega arith)

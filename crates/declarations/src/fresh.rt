@@ -1,36 +1,38 @@
 // A new name of a signal or of a clock.
-ghost use Rattle.std.specs.Prelude.{◌≡◌, ◌≤◌, ◌-◌, length};
+ghost use Rattle.std.specs.Prelude.{◌≡◌, ◌≤◌, ◌-◌, length, OnOk};
+ghost use Rattle.refusals.specs.Refused.{refusal_in};
 ghost use Rattle.policy.specs.File.{part};
 ghost use Rattle.words.specs.Spans.{NamesIn};
 ghost use Rattle.declarations.specs.Table.{Fit};
 ghost use Rattle.declarations.specs.Fresh.{name_found};
 
 use crate::table::Table;
+use refusals::Refusal;
 use words::keywords::is_name;
-use words::names::{CLOCK_NAMES, find_name};
+use words::names::{CLOCK_NAMES, which_name};
 
-// 30 if the word from `a` to `b` is no name, 31 if a signal or a clock has it, else 0. A name has at most 16 bytes.
-pub(crate) fn name_refusal(
+// Whether the word from `a` to `b` is a name, of at most 16 bytes, that no signal and no clock has.
+pub(crate) fn check_name(
     text: &[u8],
     a: usize,
     b: usize,
     starts: &[usize],
     lengths: &[u8],
     table: Table,
-) -> u8
+) -> Result<(), Refusal>
     requires { (a ≤ b) × (b ≤ length text.now) × Fit table × NamesIn 76 text.now starts.now lengths.now }
-    ensures { result ≡ name_found text.now starts.now lengths.now table (part text.now a (b - a)) × (result ≡ 0 → b - a ≤ 16) }
+    ensures said { refusal_in result ≡ name_found text.now starts.now lengths.now table (part text.now a (b - a)) }
+    ensures short { OnOk result (b - a ≤ 16) }
 {
-    if !is_name(&text[a..b]) {
-        return 30;
+    let word = &text[a..b];
+    if !is_name(word) {
+        return Err(Refusal::BadForm);
     }
-    let signals = table.signals;
-    if find_name(text, starts, lengths, 0, signals, &text[a..b]) < signals {
-        return 31;
+    if which_name(text, starts, lengths, 0, table.signals, word).is_some() {
+        return Err(Refusal::BadName);
     }
-    let clocks = table.clocks;
-    if find_name(text, starts, lengths, CLOCK_NAMES, clocks, &text[a..b]) < clocks {
-        return 31;
+    if which_name(text, starts, lengths, CLOCK_NAMES, table.clocks, word).is_some() {
+        return Err(Refusal::BadName);
     }
-    0
+    Ok(())
 }

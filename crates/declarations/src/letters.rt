@@ -1,58 +1,22 @@
 // The letter of a signal that is declared.
-ghost use Rattle.std.specs.Prelude.{◌≡◌, ◌≤◌, take};
-ghost use Rattle.streams.specs.Answer.{answer};
-ghost use Rattle.policy.specs.Check.{among};
+ghost use Rattle.std.specs.Prelude.{◌≡◌};
+ghost use Rattle.refusals.specs.Refused.{told};
 ghost use Rattle.wording.specs.Reader.{letter};
 
-use words::names::is_capital;
+use refusals::Refusal;
 
-// A refusal, or 0 and the letter.
-#[derive(Clone, Copy)]
-pub(crate) struct Tag {
-    pub(crate) refusal: u8,
-    pub(crate) value: u8,
-}
-
-// One of the first `count` tags is c.
-fn is_among(tags: [u8; 8], count: usize, c: u8) -> bool
-    requires { count ≤ 8 }
-    ensures { result ≡ among c (take count tags) }
+// The word as a letter that none of the tags is.
+pub(crate) fn letter_of(word: &[u8], tags: &[u8]) -> Result<u8, Refusal>
+    ensures { told result ≡ letter tags.now word.now }
 {
-    let mut i = 0;
-    while i < count {
-        if tags[i] == c {
-            return true;
-        }
-        i += 1;
+    let [letter] = word else {
+        return Err(Refusal::BadForm);
+    };
+    if !letter.is_ascii_uppercase() {
+        return Err(Refusal::BadForm);
     }
-    false
-}
-
-pub(crate) fn letter_of(word: &[u8], tags: [u8; 8], count: usize) -> Tag
-    requires { count ≤ 8 }
-    ensures { answer result.refusal result.value ≡ letter (take count tags) word.now }
-{
-    if word.len() != 1 {
-        return Tag {
-            refusal: 30,
-            value: 0,
-        };
+    if tags.contains(letter) {
+        return Err(Refusal::BadName);
     }
-    let c = word[0];
-    if !is_capital(c) {
-        return Tag {
-            refusal: 30,
-            value: 0,
-        };
-    }
-    if is_among(tags, count, c) {
-        return Tag {
-            refusal: 31,
-            value: 0,
-        };
-    }
-    Tag {
-        refusal: 0,
-        value: c,
-    }
+    Ok(*letter)
 }

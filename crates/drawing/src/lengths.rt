@@ -27,11 +27,9 @@ fn values_length(signals: &[u8], shown: u8) -> usize
 {
     let mut total = 0;
     let mut shown_on = shown;
-    let mut i = 0;
-    while i < signals.len() {
+    for _signal in signals {
         total += (shown_on % 2) as usize * 3;
         shown_on /= 2;
-        i += 1;
     }
     total
 }
@@ -60,14 +58,12 @@ fn later_length(inputs: &[u8], outputs: &[u8], events: &[u8]) -> usize
 {
     let mut total = 0;
     let mut before = events[0];
-    let mut i = 1;
-    while i < events.len() {
-        let event = events[i];
-        total += change_length(inputs, outputs, i, before ^ event);
+    for time in 1..events.len() {
+        let event = events[time];
+        total += change_length(inputs, outputs, time, before ^ event);
         before = event;
-        i += 1;
     }
-    total + time_length(i)
+    total + time_length(events.len())
 }
 
 pub fn text_length(inputs: &[u8], outputs: &[u8], events: &[u8]) -> usize

@@ -20,11 +20,9 @@ fn put_vars(text: &mut [u8], at: usize, tags: &[u8]) -> usize
     ensures { Wrote text.old at (var_lines tags.now) result text.new }
 {
     let mut next = at;
-    let mut i = 0;
-    while i < tags.len() {
-        let line = var_line(tags[i]);
+    for tag in tags {
+        let line = var_line(*tag);
         next = put_bytes(text, next, &line);
-        i += 1;
     }
     next
 }
@@ -70,12 +68,10 @@ fn put_values(text: &mut [u8], at: usize, tags: &[u8], shown: u8, values: u8) ->
     let mut next = at;
     let mut shown_on = shown;
     let mut values_on = values;
-    let mut i = 0;
-    while i < tags.len() {
-        next = put_value(text, next, tags[i], shown_on, values_on);
+    for tag in tags {
+        next = put_value(text, next, *tag, shown_on, values_on);
         shown_on /= 2;
         values_on /= 2;
-        i += 1;
     }
     next
 }

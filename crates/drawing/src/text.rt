@@ -33,14 +33,12 @@ fn put_later(text: &mut [u8], at: usize, inputs: &[u8], outputs: &[u8], events: 
 {
     let mut next = at;
     let mut before = events[0];
-    let mut i = 1;
-    while i < events.len() {
-        let event = events[i];
-        next = put_change(text, next, inputs, outputs, i, before ^ event, event);
+    for time in 1..events.len() {
+        let event = events[time];
+        next = put_change(text, next, inputs, outputs, time, before ^ event, event);
         before = event;
-        i += 1;
     }
-    put_time(text, next, i)
+    put_time(text, next, events.len())
 }
 
 pub fn put_text(text: &mut [u8], inputs: &[u8], outputs: &[u8], events: &[u8]) -> usize

@@ -1,6 +1,7 @@
 -- What the proofs of the run cite: where its loop stands, a turn, and the two ends; and that a state in range is that of its place.
 use mathlib.Core.Path.{◌≡◌, refl, sym, ap, ◌∙◌}
 use mathlib.Core.Bool.{Bool, true, false, cond, and-eq-true_iff}
+use mathlib.Core.Option.{Option}
 use mathlib.Core.List.{List, [], ◌++◌, map}
 use Prim.Native.Nat.{ℕ, zero, suc, ◌+◌, ◌-◌, ◌*◌, ◌≤◌, ◌<◌, zero-le}
 use native.Mathlib.Nat.{add-zero, zero-add}
@@ -10,7 +11,11 @@ use lib.Dec.{ltb}
 use lib.ListN.{length, get_or, take, drop, set, length-set, take-append-drop, drop_of_length-le, length-take}
 use lib.Seq.{drop-cons, append_snoc, drop-set-lt, take-suc-set}
 use borrow.Author.Tests.{le-leb}
+use Rattle.std.specs.Prelude as Code
 use Rattle.streams.specs.Answer.{unless}
+use Rattle.refusals.specs.Refused.{number_of}
+use Rattle.refusals.specs.Laws.{number_above}
+use Rattle.refusals.specs.declared.Refusal.{Refusal}
 use Rattle.policy.specs.Rules.{Policy}
 use Rattle.policy.specs.File.{policy_of}
 use Rattle.policy.specs.Check.{all_pass}
@@ -25,10 +30,9 @@ use Rattle.stepping.specs.Ready.{Laid, Standing}
 use Rattle.stepping.specs.Laid.{laid_clocks, laid_inputs, laid_outputs, place_back, next_inside}
 use Rattle.enforcer.specs.States.{good_inside, clocks_back}
 use Rattle.correcting.specs.Chosen.{tick_from, tick_none, tick_some}
-use Rattle.enforcer.specs.Promises.{RunPromise, ran_said}
+use Rattle.enforcer.specs.Promises.{RunPromise, ran_said, ran_told, ran_or_none}
 use Rattle.stepping.specs.declared.state.State.{State}
 use Rattle.correcting.specs.declared.tick.Ticked.{Ticked}
-use Rattle.enforcer.specs.declared.runs.Ran.{Ran}
 
 -- What a run answers that has written i events to `out` and goes on as r.
 abbrev goes_on : ℕ → List ℕ → Spec.Progress → RunAnswer
@@ -47,9 +51,9 @@ goes_put p marks t r i out h =
     rw (n, drop-set-lt (suc i + length r.released) out i (byte_of t.event) (omega arith), take-suc-set, append_snoc)
 
 goes_ends : (i : ℕ) (out : List ℕ) (k : ℕ) (s : State) (b : Bool) → state_of (place k s) ≡ s →
-    goes_on i out (record { released = []; place = place k s; stuck = b }) ≡ ran_said (record { refusal = cond b 17 0; count = i; state = s }) out
+    goes_on i out (record { released = []; place = place k s; stuck = b }) ≡ record { refusal = cond b 17 0; count = i; state = s; out = out }
 goes_ends i out k s b w =
-    rw (add-zero, take-append-drop) (ap (λ (u : State). ran_said (record { refusal = cond b 17 0; count = i; state = u }) out) w)
+    rw (add-zero, take-append-drop) (ap (λ (u : State). record { refusal = cond b 17 0; count = i; state = u; out = out }) w)
 
 -- A run from s₀ over the events has written the first i that it releases to `out`, and stands in s.
 pub record Going (f : List ℕ) (l : Layout) (marks events out₀ : List ℕ) (s₀ : State) (i : ℕ) (out : List ℕ) (s : State) : Type 0 where
@@ -67,27 +71,29 @@ going_starts events out k w = record { most = zero-le; long = refl; standing = k
 
 module _ {f : List ℕ} {l : Layout} {marks events out₀ : List ℕ} {s₀ : State} {i : ℕ} {out : List ℕ} {s : State}
     (g : Going f l marks events out₀ s₀ i out s) where
-  abbrev said : ℕ → Type 0
+  abbrev said : Code.Option Refusal → Type 0
   said n =
-      ran_said (record { refusal = n; count = i; state = s }) out
+      ran_said (ran_told (record { refusal = n; count = i; state = s })) out
       ≡ run_from s₀ out₀ 0 (Spec.ran (policy_of l.reading f) marks (place l.clocks s₀) (map event_of events))
 
-  pub going_ends : length events ≤ i → said 0
+  pub going_ends : length events ≤ i → said Code.None
   unfolding Spec.ran
   going_ends h = sym (g.answer ∙ rw (drop_of_length-le events) (goes_ends i out l.clocks s false g.whole))
 
-  -- By the answer r of the tick at the event i.
-  module _ (h : i < length events) {r : Ticked}
-      (e : r ≡ tick_from s (Spec.tick (policy_of l.reading f) marks (place l.clocks s) (event_of (get_or events i 0)))) where
-    pub going_stuck : r.released ≡ false → said 17
-    going_stuck n =
-        sym (g.answer ∙ rw (drop-cons events i 0, ran_none _ _ _ _ _ (tick_none s _ e n)) (goes_ends i out l.clocks s true g.whole))
+  -- By the answer of the tick at the event i.
+  module _ (h : i < length events) where
+    abbrev there : Option Spec.ReleasedTick
+    there = Spec.tick (policy_of l.reading f) marks (place l.clocks s) (event_of (get_or events i 0))
 
-    pub going_turn : r.released ≡ true → i < length out →
+    pub going_stuck : Code.None ≡ tick_from there → said (Code.Some Refusal.NothingStands)
+    going_stuck e =
+        sym (g.answer ∙ rw (drop-cons events i 0, ran_none _ _ _ _ _ (tick_none _ e)) (goes_ends i out l.clocks s true g.whole))
+
+    pub going_turn : {r : Ticked} → Code.Some r ≡ tick_from there → i < length out →
         (r.x < 16) × (r.y < 16) × Going f l marks events out₀ s₀ (i + 1) (set out i (r.x + r.y * 16)) r.state
-    going_turn n o =
+    going_turn e o =
         let k = g.standing.laid in
-        let t = tick_some s _ e n in
+        let t = tick_some _ e in
         let p = ticked (policy_of l.reading f) marks (place l.clocks s) (event_of (get_or events i 0)) t.0 t.1 in
         let z = ticked_fits (policy_of l.reading f) marks (place l.clocks s) p in
         let d = of_some (Inside (policy_of l.reading f)) p.moves (next_inside k s t.0.event g.standing.inside) in
@@ -127,11 +133,11 @@ run_past reading file marks events out s l e m n z =
     rw (m, le-leb _ _ n, e, w)
 
 -- A refusal is answered with the state that was given, and nothing is written.
-pub run_refused : {reading : ℕ} {file marks events out : List ℕ} {s : State} {r : Ran} {n : ℕ} → r ≡ record { refusal = n; count = 0; state = s } → (n ≡ 0 → ⊥) →
-    run_refusal reading file marks s events out ≡ n → RunPromise reading file marks s events out r out
+pub run_refused : {reading : ℕ} {file marks events out : List ℕ} {s : State} (n : Refusal) → run_refusal reading file marks s events out ≡ number_of n →
+    RunPromise reading file marks s events out (ran_told (ran_or_none s (Code.Err n))) out
 unfolding run_of
-run_refused {out = out} {s = s} {n = n} e h k = record { said = rw (e, k) (go n h _) }
+run_refused {out = out} {s = s} n e = record { said = rw e (go (number_of n) (number_above n) _) }
   where
-    go : (m : ℕ) → (m ≡ 0 → ⊥) → (q : Spec.Progress) → record { refusal = m; count = 0; state = s; out = out } ≡ run_from s out m q
-    go zero h q = absurd (h refl)
+    go : (m : ℕ) → 0 < m → (q : Spec.Progress) → record { refusal = m; count = 0; state = s; out = out } ≡ run_from s out m q
+    go zero h q = absurd (omega arith)
     go (suc m) h q = refl

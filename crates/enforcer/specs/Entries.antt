@@ -7,7 +7,9 @@ use Rattle.streams.specs.Stream.{Event}
 use Rattle.policy.specs.Rules.{Place, input_values, output_values}
 use Rattle.policy.specs.File.{policy_of}
 use Rattle.policy.specs.Check.{refusal_under, all_pass}
+use Rattle.policy.specs.Layout.{layout_of}
 use Rattle.policy.specs.Number.{states, number_of}
+use Rattle.policy.specs.declared.Layout.{Layout}
 use Rattle.stepping.specs.State.{place_in, state_of, state_good, is_marked}
 use Rattle.stepping.specs.Tick.{ReleasedTick, Progress, input_choice, output_tick, ran}
 use Rattle.stepping.specs.declared.state.State.{State}
@@ -72,6 +74,10 @@ module _ (reading : ℕ) (file marks : List ℕ) where
   -- 22 and 1 to 9, then 10: "the mark slice is shorter than the number of states".
   unfoldable pub marks_refusal : ℕ
   marks_refusal = refusal_under reading file or_else unless (leb (states (policy_of reading file)) (length marks)) 10
+
+  -- The layout of a file that passes under the reading, where there is a mark for each state.
+  unfoldable pub layout_for : Answer Layout
+  layout_for = answer marks_refusal (layout_of reading file)
 
   -- The input half past 16, from the place t of the policy: 15 and 17 alone are left to ask.
   abbrev pub input_past : Place → ℕ → Answer ℕ

@@ -9,23 +9,31 @@ use Rattle.std.proofs.Math.Option.{Option}
 use Rattle.std.proofs.Math.Dec.{leb-suc-zero, eqb-zero-suc}
 use Rattle.std.proofs.lemmas.List.{length-replicate, get_or-replicate}
 use borrow.Author.Tests.{leb-true, ltb-true, le-leb, lt-ltb, eqb-true}
-use Rattle.streams.specs.Answer.{refused, ◌or_else◌, unless}
-use Rattle.streams.specs.AnswerLaws.{none_refused, none_unless}
+use Rattle.streams.specs.Answer.{refused, gives, ◌or_else◌, unless, answer}
+use Rattle.streams.specs.AnswerLaws.{none_refused, none_unless, given_only}
+use Rattle.refusals.specs.Refused as Refused
+use Rattle.refusals.specs.Laws.{number_above}
+use Rattle.refusals.specs.declared.Refusal.{Refusal}
 use Rattle.policy.specs.Rules.{Policy, Place}
 use Rattle.policy.specs.Number.{states, number_of}
 use Rattle.policy.specs.File.{ceilings_of, policy_of}
 use Rattle.policy.specs.Check.{refusal_under, all_pass}
 use Rattle.policy.specs.Sound.{Inside}
 use Rattle.policy.specs.Numbered.{number_of_below}
-use Rattle.policy.specs.Layout.{checked_under}
-use Rattle.policy.specs.LayoutLaws.{under_says}
+use Rattle.policy.specs.Layout.{checked_under, layout_of}
+use Rattle.policy.specs.LayoutLaws.{under_says, under_passed}
 use Rattle.policy.specs.declared.Layout.{Layout}
-use Rattle.policy.specs.declared.Checked.{Checked}
+use Rattle.policy.specs.Layout.{Checked}
 use Rattle.stepping.specs.State.{place_in, place, state_of, clocks_good, in_range, state_good, is_marked}
-use Rattle.enforcer.specs.Entries.{chosen, marks_refusal, state_refusal, input_refusal, input_of, input_past, output_from, output_refusal, output_of, output_past}
+use Rattle.enforcer.specs.Entries.{chosen, marks_refusal, layout_for, state_refusal, input_refusal, input_of, input_past, output_from, output_refusal, output_of, output_past}
 use Rattle.stepping.specs.Ready.{Laid, Standing}
 use Rattle.stepping.specs.Laid.{Numbered, state_number, laid_of, laid_well, laid_locations, laid_most, laid_place, laid_number}
 use Rattle.stepping.specs.declared.state.State.{State}
+
+-- What is refused is the refusal.
+pub refused_only : {A : Type 0} (n : ℕ) (a : A) {m : ℕ} → answer n a ≡ refused m → n ≡ m
+refused_only zero a e = let z : ◌≡◌ {A = ℕ} 0 1 = cc in absurd (omega arith)
+refused_only (suc n) a e = cc
 
 -- Of refusals in their order the answer is the first that is given.
 pub chosen_first : {A : Type 0} (a b : ℕ) (o : Option A) {r : ℕ} → r ≡ a → (r ≡ 0 → ⊥) → chosen (a or_else b) o ≡ refused r
@@ -208,36 +216,72 @@ granted_standing {file} {marks} {l = l} {s = s} k e z =
       inside = rw (laid_place k s) (good_inside (policy_of l.reading file) s ((state_granted l.reading file marks s).0 z).0);
     }
 
--- A half by what it finds past the refusals up to 10: first 16, and past that only 15 and 17 are left.
-module _ (reading : ℕ) (file marks : List ℕ) {r : Checked} (e : r ≡ checked_under reading file) (none : marks_refusal reading file marks ≡ 0)
-    (s : State) {n : ℕ} (q : n ≡ state_refusal r.layout.reading file marks s) where
-  granted : Granted reading file marks r.layout
-  granted = granted_laid marks e none
+module _ (reading : ℕ) (file marks : List ℕ) where
+  -- Where the code has no layout, its refusal is the one up to 10.
+  module _ (r : Refusal) (e : refused (Refused.number_of r) ≡ layout_for reading file marks) where
+    -- It is the refusal up to 10.
+    pub layout_refused : marks_refusal reading file marks ≡ Refused.number_of r
+    unfolding layout_for
+    layout_refused = refused_only _ _ (sym e)
 
-  -- A state that is refused: the input half answers with that number.
-  pub input_16 : (x : ℕ) → (n ≡ 0 → ⊥) → input_of reading file marks s x ≡ refused n
-  unfolding input_of input_refusal
-  input_16 x h = rw (none, ← granted.named) (chosen_first _ _ _ q h)
-
-  -- A state that is refused: the output half answers with that number, and hands the state back.
-  pub output_16 : (x y : ℕ) → (n ≡ 0 → ⊥) → output_of reading file marks s x y ≡ record { answer = refused n; state = s }
-  unfolding output_of output_refusal
-  output_16 x y h = rw (none, ← granted.named) (ap (output_from s) (chosen_first _ _ _ q h))
-
-  module _ (z : n ≡ 0) where
-    good : state_refusal r.layout.reading file marks s ≡ 0
-    good = sym q ∙ z
-
-    -- A state that is not refused is in range, and there is a mark for each state.
-    pub half_standing : Standing file r.layout marks s
-    half_standing = granted_standing granted.laid granted.enough good
-
-    -- Past 16 the input half has 15, 17 and its choice left.
-    pub input_left : (x : ℕ) → input_of reading file marks s x ≡ input_past r.layout.reading file marks (place r.layout.clocks s) x
+    -- The input half answers with it.
+    pub input_early : (s : State) (x : ℕ) → input_of reading file marks s x ≡ refused (Refused.number_of r)
     unfolding input_of input_refusal
-    input_left x = rw (none, ← granted.named, good, laid_place granted.laid s)
+    input_early s x = chosen_first _ _ _ (sym layout_refused) (λ z. omega (arith, number_above r))
 
-    -- Past 16 the output half has 15, 17 and its choice left.
-    pub output_left : (x y : ℕ) → output_of reading file marks s x y ≡ output_past r.layout.reading file marks s (place r.layout.clocks s) x y
+    -- The output half answers with it, and hands the state back.
+    pub output_early : (s : State) (x y : ℕ) → output_of reading file marks s x y ≡ record { answer = refused (Refused.number_of r); state = s }
     unfolding output_of output_refusal
-    output_left x y = rw (none, ← granted.named, good, laid_place granted.laid s)
+    output_early s x y = ap (output_from s) (chosen_first _ _ _ (sym layout_refused) (λ z. omega (arith, number_above r)))
+
+  -- Where it has one, nothing up to 10 is refused, and the layout is the one that the check gives.
+  module _ {l : Layout} (e : gives l ≡ layout_for reading file marks) where
+    given : (marks_refusal reading file marks ≡ 0) × (layout_of reading file ≡ l)
+    unfolding layout_for
+    given = given_only _ _ _ (sym e)
+
+    -- Nothing up to 10 is refused.
+    pub layout_none : marks_refusal reading file marks ≡ 0
+    layout_none = given.0
+
+    -- The layout is the file's.
+    pub layout_is : layout_of reading file ≡ l
+    layout_is = given.1
+
+    -- The layout is the one that the check gives.
+    pub layout_checked : record { refusal = 0; layout = l } ≡ checked_under reading file
+    layout_checked =
+        sym (under_passed reading file ((marks_granted reading file marks).0 given.0).0 ∙ ap (λ (k : Layout). record { refusal = 0; layout = k }) given.1)
+
+    -- It is that of the file, and there is a mark for each state.
+    pub layout_granted : Granted reading file marks l
+    layout_granted = granted_laid marks layout_checked given.0
+
+    -- A half by what it finds past the refusals up to 10: first 16, and past that only 15 and 17 are left.
+    module _ (s : State) where
+      -- A state that is refused.
+      module _ (r : Refusal) (q : Refused.number_of r ≡ state_refusal l.reading file marks s) where
+        -- The input half answers with that refusal.
+        pub input_16 : (x : ℕ) → input_of reading file marks s x ≡ refused (Refused.number_of r)
+        unfolding input_of input_refusal
+        input_16 x = rw (layout_none, ← layout_granted.named) (chosen_first _ _ _ q (λ z. omega (arith, number_above r)))
+
+        -- The output half answers with that refusal, and hands the state back.
+        pub output_16 : (x y : ℕ) → output_of reading file marks s x y ≡ record { answer = refused (Refused.number_of r); state = s }
+        unfolding output_of output_refusal
+        output_16 x y = rw (layout_none, ← layout_granted.named) (ap (output_from s) (chosen_first _ _ _ q (λ z. omega (arith, number_above r))))
+
+      module _ (z : 0 ≡ state_refusal l.reading file marks s) where
+        -- A state that is not refused is in range, and there is a mark for each state.
+        pub half_standing : Standing file l marks s
+        half_standing = granted_standing layout_granted.laid layout_granted.enough (sym z)
+
+        -- Past 16 the input half has 15, 17 and its choice left.
+        pub input_left : (x : ℕ) → input_of reading file marks s x ≡ input_past l.reading file marks (place l.clocks s) x
+        unfolding input_of input_refusal
+        input_left x = rw (layout_none, ← layout_granted.named, ← z, laid_place layout_granted.laid s)
+
+        -- Past 16 the output half has 15, 17 and its choice left.
+        pub output_left : (x y : ℕ) → output_of reading file marks s x y ≡ output_past l.reading file marks s (place l.clocks s) x y
+        unfolding output_of output_refusal
+        output_left x y = rw (layout_none, ← layout_granted.named, ← z, laid_place layout_granted.laid s)

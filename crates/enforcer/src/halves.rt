@@ -1,45 +1,30 @@
 // The input half, and the output half by value. Past the refusals a half asks whether the event stands as it was read: mostly it does. Only if not does it choose.
-ghost use Rattle.std.specs.Prelude.{◌≡◌, ◌≤◌, leb, length};
-ghost use Rattle.streams.specs.Answer.{◌or_else◌, unless};
+ghost use Rattle.std.specs.Prelude.{◌≡◌, ◌≤◌, length};
+ghost use Rattle.refusals.specs.Refused.{refusal_in, told};
 ghost use Rattle.policy.specs.Number.{states};
 ghost use Rattle.policy.specs.File.{policy_of, rules_of};
 ghost use Rattle.policy.specs.Own.{own_of};
 ghost use Rattle.stepping.specs.State.{state_good, place};
-ghost use Rattle.enforcer.specs.Entries.{state_refusal, input_past, output_past};
+ghost use Rattle.enforcer.specs.Entries.{layout_for, state_refusal, input_past, output_past};
 ghost use Rattle.stepping.specs.Ready.{Laid, Standing};
-ghost use Rattle.enforcer.specs.Promises.{InputPromise, OutputPromise, answer_said, output_said};
+ghost use Rattle.enforcer.specs.Promises.{InputPromise, OutputPromise, handed};
 
-use choice::Choice;
 use correcting::{choose_input, output_arrival, output_tick};
 use leading::{input_reaches, inputs_of, outputs_of};
-use policy::{Checked, Layout, Own};
+use policy::{Layout, Own, layout_under};
+use refusals::Refusal;
 use stepping::{State, here_by, own_of};
 
-#[derive(Clone, Copy)]
-pub enum HalfAnswer {
-    Value(u8),
-    Refused(u8),
-}
-
-// What the output half hands back: where it refuses, the state it was given.
-#[derive(Clone, Copy)]
-pub struct Output {
-    pub answer: HalfAnswer,
-    pub state: State,
-}
-
-// 22 and 1 to 9 as the check has them, then 10.
-pub fn marks_refusal(checked: Checked, marks: &[u8]) -> u8
-    ensures { result ≡ (checked.refusal or_else unless (leb checked.layout.states (length marks.now)) 10) }
+// The layout of a file that passes, where there is a mark for each state. 22, 1 to 10.
+#[inline]
+pub fn layout_for(reading: u8, file: &[u8], marks: &[u8]) -> Result<Layout, Refusal>
+    ensures { told result ≡ layout_for reading file.now marks.now }
 {
-    if checked.refusal != 0 {
-        return checked.refusal;
+    let layout = layout_under(reading, file)?;
+    if marks.len() < layout.states {
+        return Err(Refusal::FewMarks);
     }
-    if marks.len() < checked.layout.states {
-        10
-    } else {
-        0
-    }
+    Ok(layout)
 }
 
 // The state is within its own limits, which no policy goes beyond, and in range in this policy, where an unused clock has the ceiling 0.
@@ -49,47 +34,45 @@ fn state_good(file: &[u8], layout: Layout, state: State) -> bool
 {
     let most = State::limits();
     let highest = [most.ceiling as u16; State::CLOCKS];
-    if !state.in_range(most.locations, highest) {
-        return false;
-    }
     let ceilings = layout.ceilings;
-    state.in_range(layout.locations, ceilings)
+    state.in_range(most.locations, highest) && state.in_range(layout.locations, ceilings)
 }
 
-// 16 where the state is not in range or not marked, else 0.
-pub fn state_refusal(file: &[u8], layout: Layout, marks: &[u8], state: State) -> u8
+// 16 where the state is not in range or not marked.
+pub fn check_state(file: &[u8], layout: Layout, marks: &[u8], state: State) -> Result<(), Refusal>
     requires { Laid file.now layout × (states (policy_of layout.reading file.now) ≤ length marks.now) }
-    ensures { result ≡ state_refusal layout.reading file.now marks.now state }
+    ensures { refusal_in result ≡ state_refusal layout.reading file.now marks.now state }
 {
     if !state_good(file, layout, state) {
-        return 16;
+        return Err(Refusal::BadState);
     }
     let ceilings = layout.ceilings;
     let number = state.number(ceilings, layout.clocks);
-    if marks[number] == 1 { 0 } else { 16 }
+    if marks[number] != 1 {
+        return Err(Refusal::BadState);
+    }
+    Ok(())
 }
 
 // The input that is passed to the controller. 22, 1 to 10, 16, 15, 17. The slices are handed on as parts of their own, so that the compiler need not keep them in memory for what is asked here.
-pub fn input_half(reading: u8, file: &[u8], marks: &[u8], state: State, x: u8) -> HalfAnswer
-    ensures { InputPromise reading file.now marks.now state x result }
+pub fn input_half(
+    reading: u8,
+    file: &[u8],
+    marks: &[u8],
+    state: State,
+    x: u8,
+) -> Result<u8, Refusal>
+    ensures { InputPromise reading file.now marks.now state x (told result) }
 {
-    let checked = policy::check_under(reading, &file[..]);
-    let r = marks_refusal(checked, marks);
-    if r != 0 {
-        return HalfAnswer::Refused(r);
-    }
-    let layout = checked.layout;
-    let r = state_refusal(file, layout, marks, state);
-    if r != 0 {
-        return HalfAnswer::Refused(r);
-    }
+    let layout = layout_for(reading, &file[..], marks)?;
+    check_state(file, layout, marks, state)?;
     if inputs_of(file, layout) <= x as usize {
-        return HalfAnswer::Refused(15);
+        return Err(Refusal::BadEvent);
     }
     let own = own_of(file, layout, state);
     let here = here_by(file, layout, own, state);
     if input_reaches(file, layout, here, marks, x) {
-        return HalfAnswer::Value(x);
+        return Ok(x);
     }
     input_by(&file[..], layout, own, &marks[..], state, x)
 }
@@ -102,18 +85,15 @@ pub fn input_by(
     marks: &[u8],
     state: State,
     x: u8,
-) -> HalfAnswer
+) -> Result<u8, Refusal>
     requires { Standing file.now layout marks.now state × (own ≡ own_of layout.clocks state.location (rules_of file.now)) }
-    ensures { answer_said result ≡ input_past layout.reading file.now marks.now (place layout.clocks state) x }
+    ensures { told result ≡ input_past layout.reading file.now marks.now (place layout.clocks state) x }
 {
     if inputs_of(file, layout) <= x as usize {
-        return HalfAnswer::Refused(15);
+        return Err(Refusal::BadEvent);
     }
     let here = here_by(file, layout, own, state);
-    match choose_input(file, layout, here, marks, x) {
-        Choice::Value(z) => HalfAnswer::Value(z),
-        Choice::Nothing => HalfAnswer::Refused(17),
-    }
+    choose_input(file, layout, here, marks, x).ok_or(Refusal::NothingStands)
 }
 
 // The output half past 16, by the rules of the state's location.
@@ -125,66 +105,44 @@ pub fn output_by(
     state: State,
     x: u8,
     y: u8,
-) -> Output
+) -> Result<(u8, State), Refusal>
     requires { Standing file.now layout marks.now state × (own ≡ own_of layout.clocks state.location (rules_of file.now)) }
-    ensures { output_said result ≡ output_past layout.reading file.now marks.now state (place layout.clocks state) x y }
+    ensures { handed state result ≡ output_past layout.reading file.now marks.now state (place layout.clocks state) x y }
 {
     if inputs_of(file, layout) <= x as usize {
-        return refused(state, 15);
+        return Err(Refusal::BadEvent);
     }
     if outputs_of(file, layout) <= y as usize {
-        return refused(state, 15);
+        return Err(Refusal::BadEvent);
     }
     let here = here_by(file, layout, own, state);
-    let t = output_tick(file, layout, here, marks, x, y);
-    if !t.released {
-        return refused(state, 17);
-    }
-    let next = t.state;
-    Output {
-        answer: HalfAnswer::Value(t.y),
-        state: next,
-    }
+    let tick = output_tick(file, layout, here, marks, x, y).ok_or(Refusal::NothingStands)?;
+    Ok((tick.y, tick.state))
 }
 
-// The state takes the x that was passed to the controller and its answer y, and hands back the next state. 22, 1 to 10, 16, 15, 17.
-pub fn output_of(state: State, reading: u8, file: &[u8], marks: &[u8], x: u8, y: u8) -> Output
-    ensures { OutputPromise reading file.now marks.now state x y result }
+// The state takes the x that was passed to the controller and its answer y: what is released for y, and the next state. 22, 1 to 10, 16, 15, 17.
+pub fn output_of(
+    state: State,
+    reading: u8,
+    file: &[u8],
+    marks: &[u8],
+    x: u8,
+    y: u8,
+) -> Result<(u8, State), Refusal>
+    ensures { OutputPromise reading file.now marks.now state x y (handed state result) }
 {
-    let checked = policy::check_under(reading, &file[..]);
-    let r = marks_refusal(checked, marks);
-    if r != 0 {
-        return refused(state, r);
-    }
-    let layout = checked.layout;
-    let r = state_refusal(file, layout, marks, state);
-    if r != 0 {
-        return refused(state, r);
-    }
+    let layout = layout_for(reading, &file[..], marks)?;
+    check_state(file, layout, marks, state)?;
     if inputs_of(file, layout) <= x as usize {
-        return refused(state, 15);
+        return Err(Refusal::BadEvent);
     }
     if outputs_of(file, layout) <= y as usize {
-        return refused(state, 15);
+        return Err(Refusal::BadEvent);
     }
     let own = own_of(file, layout, state);
     let here = here_by(file, layout, own, state);
-    let read = output_arrival(file, layout, here, marks, x, y);
-    if read.permitted {
-        let next = read.state;
-        return Output {
-            answer: HalfAnswer::Value(y),
-            state: next,
-        };
+    if let Some(next) = output_arrival(file, layout, here, marks, x, y) {
+        return Ok((y, next));
     }
     output_by(&file[..], layout, own, &marks[..], state, x, y)
-}
-
-fn refused(state: State, refusal: u8) -> Output
-    ensures { result ≡ record { answer = HalfAnswer.Refused refusal; state = state } }
-{
-    Output {
-        answer: HalfAnswer::Refused(refusal),
-        state,
-    }
 }

@@ -5,8 +5,6 @@ mod halves;
 mod lent;
 mod runs;
 
-pub use halves::{
-    HalfAnswer, Output, input_by, input_half, marks_refusal, output_by, output_of, state_refusal,
-};
+pub use halves::{check_state, input_by, input_half, layout_for, output_by, output_of};
 pub use lent::output_half;
 pub use runs::{Ran, events_good, run};

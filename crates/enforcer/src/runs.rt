@@ -7,21 +7,38 @@ ghost use Rattle.stepping.specs.Tick.{ran};
 ghost use Rattle.enforcer.specs.Entries.{event_of, event_good, run_from};
 ghost use Rattle.stepping.specs.State.{place, state_of};
 ghost use Rattle.stepping.specs.Ready.{Laid, Standing};
-ghost use Rattle.enforcer.specs.Promises.{RunPromise, ran_said};
+ghost use Rattle.enforcer.specs.Promises.{RunPromise, ran_or_none, ran_said, ran_told};
 
-use crate::halves::{marks_refusal, state_refusal};
+use crate::halves::{check_state, layout_for};
 use correcting::tick::tick;
 use index::{NUMBERS, fill, own_at};
 use leading::{inputs_of, outputs_of};
 use policy::Layout;
+use refusals::Refusal;
 use stepping::State;
 
-// How many events were released and the state after them, with the refusal's number or 0.
+// How many events were released and the state after them, with what is refused. Only 17 comes with events released.
 #[derive(Clone, Copy)]
 pub struct Ran {
-    pub refusal: u8,
+    pub refusal: Option<Refusal>,
     pub count: usize,
     pub state: State,
+}
+
+impl Ran {
+    // The run, or its refusal before any event is released, with the state that was given.
+    pub fn or_none(state: State, ran: Result<Ran, Refusal>) -> Ran
+        ensures { result ≡ ran_or_none state ran }
+    {
+        match ran {
+            Ok(ran) => ran,
+            Err(refusal) => Ran {
+                refusal: Some(refusal),
+                count: 0,
+                state,
+            },
+        }
+    }
 }
 
 // No event has a bit beyond its signals.
@@ -31,16 +48,11 @@ pub fn events_good(file: &[u8], layout: Layout, events: &[u8]) -> bool
 {
     let inputs = inputs_of(file, layout);
     let outputs = outputs_of(file, layout);
-    let mut i = 0;
-    while i < events.len() {
-        let event = events[i] as usize;
-        if inputs <= event % 16 {
+    for event in events {
+        let event = *event as usize;
+        if inputs <= event % 16 || outputs <= event / 16 {
             return false;
         }
-        if outputs <= event / 16 {
-            return false;
-        }
-        i += 1;
     }
     true
 }
@@ -58,31 +70,50 @@ fn release(
     requires standing { Standing file.now layout marks.now start × (state_of (place layout.clocks start) ≡ start) }
     requires events_in_bounds { (length events.now ≤ length out.old) × (all_pass (event_good layout.reading file.now) events.now ≡ true) }
     requires index_value { index.now ≡ index_of file.now }
-    ensures { ran_said result out.new ≡ run_from start out.old 0 (ran (policy_of layout.reading file.now) marks.now (place layout.clocks start) (map event_of events.now)) }
+    ensures { ran_said (ran_told result) out.new ≡ run_from start out.old 0 (ran (policy_of layout.reading file.now) marks.now (place layout.clocks start) (map event_of events.now)) }
 {
     let mut state = start;
-    let mut i = 0;
-    while i < events.len() {
-        let event = events[i];
+    for (i, event) in events.iter().enumerate() {
         let own = own_at(file, layout, index, state.location);
-        let t = tick(file, layout, own, marks, state, event % 16, event / 16);
-        if !t.released {
+        let Some(t) = tick(file, layout, own, marks, state, *event % 16, *event / 16) else {
             return Ran {
-                refusal: 17,
+                refusal: Some(Refusal::NothingStands),
                 count: i,
                 state,
             };
-        }
+        };
         out[i] = t.x + t.y * 16;
-        let next = t.state;
-        state = next;
-        i += 1;
+        state = t.state;
     }
     Ran {
-        refusal: 0,
-        count: i,
+        refusal: None,
+        count: events.len(),
         state,
     }
+}
+
+// The run, past its refusals: 22, 1 to 10, 14, 16, then 15 for all events before the first is released.
+fn started(
+    reading: u8,
+    file: &[u8],
+    marks: &[u8],
+    state: State,
+    events: &[u8],
+    out: &mut [u8],
+) -> Result<Ran, Refusal>
+    ensures { RunPromise reading file.now marks.now state events.now out.old (ran_told (ran_or_none state result)) out.new }
+{
+    let layout = layout_for(reading, file, marks)?;
+    if out.len() < events.len() {
+        return Err(Refusal::NoRoom);
+    }
+    check_state(file, layout, marks, state)?;
+    if !events_good(file, layout, events) {
+        return Err(Refusal::BadEvent);
+    }
+    let mut index = [0; NUMBERS];
+    fill(file, layout, &mut index);
+    Ok(release(file, layout, &index, marks, state, events, out))
 }
 
 // 22, 1 to 10, 14, 16, then 15 for all events before the first is released, 17. Only 17 comes with events released, and the rest of the slice untouched.
@@ -94,35 +125,8 @@ pub fn run(
     events: &[u8],
     out: &mut [u8],
 ) -> Ran
-    ensures { RunPromise reading file.now marks.now state events.now out.old result out.new }
+    ensures { RunPromise reading file.now marks.now state events.now out.old (ran_told result) out.new }
 {
-    let checked = policy::check_under(reading, file);
-    let r = marks_refusal(checked, marks);
-    if r != 0 {
-        return refused(state, r);
-    }
-    if out.len() < events.len() {
-        return refused(state, 14);
-    }
-    let layout = checked.layout;
-    let r = state_refusal(file, layout, marks, state);
-    if r != 0 {
-        return refused(state, r);
-    }
-    if !events_good(file, layout, events) {
-        return refused(state, 15);
-    }
-    let mut index = [0; NUMBERS];
-    fill(file, layout, &mut index);
-    release(file, layout, &index, marks, state, events, out)
-}
-
-fn refused(state: State, refusal: u8) -> Ran
-    ensures { result ≡ record { refusal = refusal; count = 0; state = state } }
-{
-    Ran {
-        refusal,
-        count: 0,
-        state,
-    }
+    let ran = started(reading, file, marks, state, events, out);
+    Ran::or_none(state, ran)
 }

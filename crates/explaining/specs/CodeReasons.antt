@@ -3,7 +3,6 @@ use Rattle.explaining.specs.Reasons.{kept, rule, unmatched, ticks, rests}
 use Rattle.explaining.specs.Reasons as Reasons
 use Rattle.explaining.specs.EachHalf as EachHalf
 use Rattle.explaining.specs.declared.reason.Reason.{Reason}
-use Rattle.explaining.specs.declared.reason.Reason.TheVariants as Reason
 use Rattle.explaining.specs.declared.reason.Reasons.{Reasons as Both}
 
 -- What the answers say, in 02's words.

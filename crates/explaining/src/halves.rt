@@ -8,16 +8,15 @@ ghost use Rattle.policy.specs.Sound.{Inside};
 ghost use Rattle.stepping.specs.State.{is_marked, place};
 ghost use Rattle.stepping.specs.Tick.{reaches};
 ghost use Rattle.stepping.specs.Ready.{Laid, HereOf, Standing};
-ghost use Rattle.enforcer.specs.Promises.{answer_said};
 ghost use Rattle.trimming.specs.Table.{marks_of};
 ghost use Rattle.prepare.specs.Enforcing.{AsPrepared};
 ghost use Rattle.counting.specs.Counted.{CountsOf};
-ghost use Rattle.explaining.specs.Halves.{value_or, GivenIn, GivenOut, BothTold, Moves};
+ghost use Rattle.explaining.specs.Halves.{GivenIn, GivenOut, BothTold, Moves};
 ghost use Rattle.explaining.specs.CodeReasons.{reason_said, both_said};
 
 use crate::reason::{Reason, Reasons};
 use crate::tell::{reason_for_input, reason_of};
-use enforcer::{HalfAnswer, input_by, output_by};
+use enforcer::{input_by, output_by};
 use policy::{Layout, Own};
 use stepping::{Here, State, here_by, own_of};
 
@@ -28,16 +27,6 @@ pub struct Told {
     pub x: u8,
     pub y: u8,
     pub state: State,
-}
-
-// The value of an answer, or another one.
-fn value_or(answer: HalfAnswer, other: u8) -> u8
-    ensures { result ≡ value_or (answer_said answer) other }
-{
-    match answer {
-        HalfAnswer::Value(z) => z,
-        HalfAnswer::Refused(_) => other,
-    }
 }
 
 // For the input x, of which `passed` was passed on.
@@ -100,15 +89,13 @@ pub fn tell(
     ensures { BothTold (policy_of layout.reading file.now) marks.now (place layout.clocks state) x y (both_said result.reasons) × Moves (policy_of layout.reading file.now) marks.now (place layout.clocks state) x y result.x result.y result.state }
 {
     let here = here_by(file, layout, own, state);
-    let passed = value_or(input_by(file, layout, own, marks, state, x), x);
+    let passed = input_by(file, layout, own, marks, state, x).unwrap_or(x);
     let output = output_by(file, layout, own, marks, state, passed, y);
-    let answer = output.answer;
-    let released = value_or(answer, y);
+    let (released, next) = output.unwrap_or((y, state));
     let reasons = Reasons {
         input: for_input(file, layout, here, ticks, rests, x, passed),
         output: for_output(file, layout, here, ticks, rests, passed, y, released),
     };
-    let next = output.state;
     Told {
         reasons,
         x: passed,
@@ -132,7 +119,5 @@ pub fn reasons(
     ensures { BothTold (policy_of layout.reading file.now) marks.now (place layout.clocks state) x y (both_said result) }
 {
     let own = own_of(file, layout, state);
-    let told = tell(file, layout, own, marks, ticks, rests, state, x, y);
-    let reasons = told.reasons;
-    reasons
+    tell(file, layout, own, marks, ticks, rests, state, x, y).reasons
 }

@@ -1,5 +1,5 @@
 // The reasons, and which of two goes first.
-ghost use Rattle.std.specs.Prelude.{◌≡◌, ◌≤◌, max};
+ghost use Rattle.std.specs.Prelude.{◌≡◌, ◌≤◌};
 ghost use Rattle.explaining.specs.Reasons.{kind_of, count_of};
 ghost use Rattle.explaining.specs.Better.{better};
 ghost use Rattle.explaining.specs.CodeReasons.{reason_said};
@@ -21,22 +21,13 @@ pub struct Reasons {
     pub output: Reason,
 }
 
-fn most(a: usize, b: usize) -> usize
-    ensures { result ≡ max a b }
-{
-    if a < b { b } else { a }
-}
-
 // A count of rests goes before all others, and the greater before the less.
 fn with_rests(j: usize, best: Reason) -> Reason
     ensures { reason_said result ≡ better (reason_said best) (reason_said (Reason.Rests j)) }
 {
     match best {
-        Reason::Rests(k) => Reason::Rests(most(j, k)),
-        Reason::Kept => Reason::Rests(j),
-        Reason::Rule(_) => Reason::Rests(j),
-        Reason::Unmatched => Reason::Rests(j),
-        Reason::Ticks(_) => Reason::Rests(j),
+        Reason::Rests(k) => Reason::Rests(j.max(k)),
+        Reason::Kept | Reason::Rule(_) | Reason::Unmatched | Reason::Ticks(_) => Reason::Rests(j),
     }
 }
 
@@ -45,11 +36,9 @@ fn with_ticks(j: usize, best: Reason) -> Reason
     ensures { reason_said result ≡ better (reason_said best) (reason_said (Reason.Ticks j)) }
 {
     match best {
-        Reason::Rests(k) => Reason::Rests(k),
-        Reason::Ticks(k) => Reason::Ticks(most(j, k)),
-        Reason::Kept => Reason::Ticks(j),
-        Reason::Rule(_) => Reason::Ticks(j),
-        Reason::Unmatched => Reason::Ticks(j),
+        Reason::Rests(_) => best,
+        Reason::Ticks(k) => Reason::Ticks(j.max(k)),
+        Reason::Kept | Reason::Rule(_) | Reason::Unmatched => Reason::Ticks(j),
     }
 }
 
@@ -60,8 +49,7 @@ pub(crate) fn better(best: Reason, one: Reason) -> Reason
     match one {
         Reason::Rests(j) => with_rests(j, best),
         Reason::Ticks(j) => with_ticks(j, best),
-        Reason::Kept => best,
-        Reason::Rule(_) => best,
+        Reason::Kept | Reason::Rule(_) => best,
         Reason::Unmatched => best,
     }
 }
@@ -84,10 +72,8 @@ pub fn number(reason: Reason) -> u64
     ensures { result ≡ count_of (reason_said reason) }
 {
     match reason {
-        Reason::Kept => 0,
+        Reason::Kept | Reason::Unmatched => 0,
         Reason::Rule(i) => i as u64,
-        Reason::Unmatched => 0,
-        Reason::Ticks(k) => k as u64,
-        Reason::Rests(k) => k as u64,
+        Reason::Ticks(k) | Reason::Rests(k) => k as u64,
     }
 }

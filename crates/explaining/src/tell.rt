@@ -17,10 +17,10 @@ use crate::reason::{Reason, better};
 use counting::ENDLESS;
 use leading::{next_of, values};
 use policy::{Layout, may_rest};
-use stepping::{Found, Here, State, first_rule};
+use stepping::{Here, State, first_rule};
 
 // The rule that decides the event x, y, by its number among the location's own.
-fn decided(file: &[u8], layout: Layout, here: Here, x: u8, y: u8) -> Found
+fn decided(file: &[u8], layout: Layout, here: Here, x: u8, y: u8) -> Option<usize>
     requires { Laid file.now layout × HereOf file.now layout here }
     ensures { found_said result ≡ decider (rules_from layout.clocks file.now (layout.rules_start + here.own.start) here.own.count) (looked stopped (policy_of layout.reading file.now) (place layout.clocks here.state)) (event_xy x y) }
 {
@@ -64,23 +64,15 @@ pub(crate) fn reason_of(
     requires counts_of { CountsOf (policy_of layout.reading file.now) ticks.now rests.now × (reaches (policy_of layout.reading file.now) (marks_of (policy_of layout.reading file.now)) (place layout.clocks here.state) x y ≡ false) }
     ensures { ToldWhy (policy_of layout.reading file.now) (place layout.clocks here.state) (event_xy x y) (reason_said result) }
 {
-    match decided(file, layout, here, x, y) {
-        Found::Nothing => Reason::Unmatched,
-        Found::Rule(i) => {
-            let size = 7 + 4 * layout.clocks;
-            let to = next_of(
-                file,
-                layout,
-                here.state,
-                layout.rules_start + here.own.start + i * size,
-            );
-            if !to.some {
-                let number = here.own.start / size + i;
-                return Reason::Rule(number);
-            }
-            left_at(file, layout, ticks, rests, to.number)
-        }
-    }
+    let Some(i) = decided(file, layout, here, x, y) else {
+        return Reason::Unmatched;
+    };
+    let size = 7 + 4 * layout.clocks;
+    let at = layout.rules_start + here.own.start + i * size;
+    let Some(number) = next_of(file, layout, here.state, at) else {
+        return Reason::Rule(here.own.start / size + i);
+    };
+    left_at(file, layout, ticks, rests, number)
 }
 
 // Why the input x, with which no output reaches a live state, was edited.
@@ -98,11 +90,9 @@ pub(crate) fn reason_for_input(
 {
     let outputs = values(layout.outputs);
     let mut best = reason_of(file, layout, here, ticks, rests, x, 0);
-    let mut y = 1u8;
-    while (y as usize) < outputs {
+    for y in 1..outputs as u8 {
         let one = reason_of(file, layout, here, ticks, rests, x, y);
         best = better(best, one);
-        y += 1;
     }
     best
 }

@@ -37,6 +37,7 @@ pub fn read_full<R: Read>(input: &mut R, bytes: &mut [u8]) -> (usize, io::Result
     ensures whole { OnOk result.1 (result.0 < length bytes.new → IsAtEnd (R.remaining input.new)) }
 {
     let mut done = 0;
+    // A `while`: a read gives as many bytes as it likes.
     while done < bytes.len() {
         match input.read(&mut bytes[done..]) {
             Ok(0) => break,

@@ -2,10 +2,12 @@
 #![tactic(auto)]
 
 ghost use Rattle.std.specs.Prelude.{◌≡◌, ◌<◌, ◌^◌};
+ghost use Rattle.refusals.specs.Refused.{refusal_in};
 ghost use Rattle.frames.specs.Frame.{count_refusal, policy_frame_refusal, policy_part, events_frame_refusal, events_part, input_refusal};
 
 use policy::bytes::pair_at;
 use policy::limits::FILE;
+use refusals::Refusal;
 
 // The most events that the input may have.
 pub const EVENTS: usize = 16384;
@@ -13,51 +15,45 @@ pub const EVENTS: usize = 16384;
 // The longest input, and one byte more: it tells that bytes are left over.
 pub const INPUT: usize = 2 + FILE + 2 + EVENTS + 1;
 
-// The refusal of a count at `at` and of the bytes that it counts.
-fn count_refusal(input: &[u8], at: usize, most: usize) -> u8
+// A count at `at`, and the bytes that it counts.
+fn check_count(input: &[u8], at: usize, most: usize) -> Result<(), Refusal>
     requires { at < 2 ^ 32 }
-    ensures { result ≡ count_refusal input.now at most }
+    ensures { refusal_in result ≡ count_refusal input.now at most }
 {
     if input.len() < at + 2 {
-        return 1;
+        return Err(Refusal::CutShort);
     }
     let n = pair_at(input, at);
     if most < n {
-        return 2;
+        return Err(Refusal::BadCount);
     }
     if input.len() < at + 2 + n {
-        return 1;
+        return Err(Refusal::CutShort);
     }
-    0
+    Ok(())
 }
 
-// The refusal of the reading, and then of the policy's frame.
-pub fn input_refusal(reading: u8, input: &[u8]) -> u8
-    ensures { result ≡ input_refusal input.now reading }
+// The reading, and then the policy's frame.
+pub fn check_input(reading: u8, input: &[u8]) -> Result<(), Refusal>
+    ensures { refusal_in result ≡ input_refusal input.now reading }
 {
-    if reading < 1 {
-        return 22;
+    if reading < 1 || 2 < reading {
+        return Err(Refusal::BadReading);
     }
-    if 2 < reading {
-        return 22;
-    }
-    count_refusal(input, 0, FILE)
+    check_count(input, 0, FILE)
 }
 
-// The refusal of the events' frame, after the policy.
-pub fn events_refusal(input: &[u8]) -> u8
-    ensures { result ≡ events_frame_refusal input.now }
+// The events' frame, after the policy.
+pub fn check_events(input: &[u8]) -> Result<(), Refusal>
+    ensures { refusal_in result ≡ events_frame_refusal input.now }
 {
     let at = 2 + pair_at(input, 0);
-    let refusal = count_refusal(input, at, EVENTS);
-    if refusal != 0 {
-        return refusal;
-    }
+    check_count(input, at, EVENTS)?;
     let end = at + 2 + pair_at(input, at);
     if end < input.len() {
-        return 8;
+        return Err(Refusal::LeftOver);
     }
-    0
+    Ok(())
 }
 
 // The policy of an input whose frame is not refused, and its events.

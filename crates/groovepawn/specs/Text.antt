@@ -13,15 +13,12 @@ use Rattle.wording.specs.RuleLines.{rule_numbers}
 use Rattle.wording.specs.Good.{good_at_most}
 use Rattle.wording.specs.Given.{read_said}
 use Rattle.wording.specs.Longest.{written_at_most}
-use Rattle.compiling.specs.Promise.{fitted, answered, filled}
-use Rattle.compiling.specs.declared.reader.ReadText.{ReadText}
+use Rattle.compiling.specs.Promise.{ReadText, fitted, answered, filled}
 use Rattle.showing.specs.Entry.{write_refusal, written_over, length_unless}
-use Rattle.pointing.specs.RuleAt.{line_of_rule, rule_found}
-use Rattle.pointing.specs.NameAt.{name_given}
+use Rattle.pointing.specs.RuleAt.{RuleAt, line_of_rule, rule_found}
+use Rattle.pointing.specs.NameAt.{NameAt, name_given}
 use Rattle.wording.specs.Given.{stopped_by}
 use Rattle.pointing.specs.Short.{Shaped, given_shaped}
-use Rattle.pointing.specs.declared.ruleat.RuleAt.{RuleAt}
-use Rattle.pointing.specs.declared.nameat.NameAt.{NameAt}
 use Rattle.groovepawn.specs.Words.{answer_word}
 use Rattle.groovepawn.specs.Fields.{answer_in, answer_back}
 

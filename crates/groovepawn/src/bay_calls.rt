@@ -2,12 +2,13 @@
 ghost use Rattle.groovepawn.specs.Bays.{NewCall, BayInputCall, BayOutputCall};
 
 use crate::answer_word;
+use refusals::number;
 
 // Refusals: 25.
 pub fn groovepawn_bays_new(states: &mut [u16]) -> u32
     ensures { NewCall states.old result states.new }
 {
-    bays::bays_new(states) as u32
+    u32::from(number(bays::bays_new(states)))
 }
 
 // Refusals: 22, 1 to 10, 24, 16, 15, 17.

@@ -14,11 +14,11 @@ mod ticks_call;
 mod viewer;
 mod why_call;
 
-ghost use Rattle.std.specs.Prelude.{◌≡◌};
+ghost use Rattle.std.specs.Prelude.{◌≡◌, ◌<◌};
 ghost use Rattle.streams.specs.Answer.{gives};
-ghost use Rattle.enforcer.specs.Promises.{answer_said, OutputPromise};
+ghost use Rattle.refusals.specs.Refused.{number_of, told};
+ghost use Rattle.enforcer.specs.Promises.{refusal_said};
 ghost use Rattle.prepare.specs.declared.Summary.{Summary};
-ghost use Rattle.prepare.specs.Promise.{prepared_said};
 ghost use Rattle.groovepawn.specs.Bounds.{Small};
 ghost use Rattle.groovepawn.specs.Words.{answer_word, summary_word};
 ghost use Rattle.groovepawn.specs.Calls.{PrepareCall, InputCall, OutputCall, RunCall};
@@ -27,13 +27,13 @@ pub use bay_calls::{groovepawn_bay_input, groovepawn_bay_output, groovepawn_bays
 use bays::odd_refusal;
 pub use check_call::groovepawn_check;
 pub use clean_call::groovepawn_clean;
-use enforcer::{HalfAnswer, Output, input_half, output_half, run};
+use enforcer::{input_half, output_half, run};
 pub use index_calls::{groovepawn_index, groovepawn_input_indexed, groovepawn_output_indexed};
 pub use join_call::groovepawn_join;
 pub use meter_calls::{groovepawn_meter_input, groovepawn_meter_new, groovepawn_meter_output};
-use prepare::Prepared;
+use prepare::Summary;
+use refusals::Refusal;
 pub use second::groovepawn_prepare_fast;
-use stepping::State;
 use stepping::five::{STATE_NUMBERS, put_state, state_of};
 pub use text_calls::{
     groovepawn_text_line_of_rule, groovepawn_text_name_of_clock, groovepawn_text_name_of_location,
@@ -43,35 +43,40 @@ pub use ticks_call::groovepawn_ticks;
 pub use viewer::{groovepawn_wave_read, groovepawn_wave_write};
 pub use why_call::{groovepawn_why, groovepawn_why_run};
 
-pub(crate) fn answer_word(answer: HalfAnswer) -> u32
-    ensures { result ≡ answer_word (answer_said answer) }
+// The word of a refusal is its number.
+pub(crate) fn refusal_word(refusal: Refusal) -> u32
+    ensures { result ≡ number_of refusal }
+{
+    u32::from(u8::from(refusal))
+}
+
+pub(crate) fn answer_word(answer: Result<u8, Refusal>) -> u32
+    ensures { result ≡ answer_word (told answer) }
 {
     match answer {
-        HalfAnswer::Value(v) => v as u32 * 256,
-        HalfAnswer::Refused(n) => n as u32,
+        Ok(value) => u32::from(value) * 256,
+        Err(refusal) => refusal_word(refusal),
+    }
+}
+
+// The low eight bits of a run's word.
+pub(crate) fn refused_word(refusal: Option<Refusal>) -> u64
+    ensures { (result ≡ refusal_said refusal) × (result < 256) }
+{
+    match refusal {
+        Some(refusal) => u64::from(refusal_word(refusal)),
+        None => 0,
     }
 }
 
 // Of both engines. The numbers of a summary are small, so that no field reaches into the next.
-pub(crate) fn summary_word(prepared: Prepared) -> u64
-    requires { (s : Summary) → prepared_said prepared ≡ gives s → Small s }
-    ensures { result ≡ summary_word (prepared_said prepared) }
+pub(crate) fn summary_word(prepared: Result<Summary, Refusal>) -> u64
+    requires { (s : Summary) → told prepared ≡ gives s → Small s }
+    ensures { result ≡ summary_word (told prepared) }
 {
     match prepared {
-        Prepared::Gives(s) => packing::pack_summary(s.verdict, s.states, s.live),
-        Prepared::Refused(n) => n as u64,
-    }
-}
-
-// The state is held here while it is lent to the output half, and is handed back as the half left it.
-fn lend(given: State, reading: u8, file: &[u8], marks: &[u8], x: u8, y: u8) -> Output
-    ensures { OutputPromise reading file.now marks.now given x y result }
-{
-    let mut held = given;
-    let answer = output_half(&mut held, reading, file, marks, x, y);
-    Output {
-        answer,
-        state: held,
+        Ok(s) => packing::pack_summary(s.verdict, s.states, s.live),
+        Err(refusal) => u64::from(refusal_word(refusal)),
     }
 }
 
@@ -87,7 +92,7 @@ pub fn groovepawn_input(reading: u8, file: &[u8], marks: &[u8], state: &[u16], x
     ensures { InputCall reading file.now marks.now state.now x result }
 {
     if state.len() != STATE_NUMBERS {
-        return odd_refusal(reading, file, marks, true) as u32;
+        return refusal_word(odd_refusal(reading, file, marks, true));
     }
     answer_word(input_half(reading, file, marks, state_of(state), x))
 }
@@ -104,13 +109,11 @@ pub fn groovepawn_output(
     ensures { OutputCall reading file.now marks.now state.old x y result state.new }
 {
     if state.len() != STATE_NUMBERS {
-        return odd_refusal(reading, file, marks, true) as u32;
+        return refusal_word(odd_refusal(reading, file, marks, true));
     }
-    let given = state_of(state);
-    let output = lend(given, reading, file, marks, x, y);
-    let next = output.state;
-    put_state(state, next);
-    let answer = output.answer;
+    let mut held = state_of(state);
+    let answer = output_half(&mut held, reading, file, marks, x, y);
+    put_state(state, held);
     answer_word(answer)
 }
 
@@ -126,11 +129,12 @@ pub fn groovepawn_run(
     ensures { RunCall reading file.now marks.now state.old events.now released.old result state.new released.new }
 {
     if state.len() != STATE_NUMBERS {
-        return odd_refusal(reading, file, marks, events.len() <= released.len()) as u64;
+        let odd = odd_refusal(reading, file, marks, events.len() <= released.len());
+        return u64::from(refusal_word(odd));
     }
     let given = state_of(state);
     let ran = run(reading, file, marks, given, events, released);
     let after = ran.state;
     put_state(state, after);
-    ran.refusal as u64 + ran.count as u64 % 72057594037927936 * 256
+    refused_word(ran.refusal) + ran.count as u64 % 72057594037927936 * 256
 }

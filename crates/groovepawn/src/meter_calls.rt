@@ -2,6 +2,7 @@
 ghost use Rattle.groovepawn.specs.Meter.{MeterNewCall, MeterInputCall, MeterOutputCall};
 
 use crate::answer_word;
+use refusals::number;
 
 // Refusals: 14.
 pub fn groovepawn_meter_new(
@@ -11,7 +12,7 @@ pub fn groovepawn_meter_new(
 ) -> u32
     ensures { MeterNewCall station.old totals.old reading_of_register result station.new totals.new }
 {
-    meter::meter_new(station, totals, reading_of_register) as u32
+    u32::from(number(meter::meter_new(station, totals, reading_of_register)))
 }
 
 // Refusals: 22, 1 to 9, 26, 10, 16, 15, 17.

@@ -1,7 +1,8 @@
 // Milliseconds as ticks, for a controller in C.
 ghost use Rattle.groovepawn.specs.Calls.{TicksCall};
 
-use ticks::{Conversion, Milliseconds, Rounding};
+use crate::refusal_word;
+use ticks::{Milliseconds, Rounding};
 
 // Refusals: 18, 19.
 pub fn groovepawn_ticks(milliseconds: u32, tick_length: u32, up: u8) -> u32
@@ -13,7 +14,7 @@ pub fn groovepawn_ticks(milliseconds: u32, tick_length: u32, up: u8) -> u32
         Rounding::Up
     };
     match Milliseconds(milliseconds).to_ticks(Milliseconds(tick_length), rounding) {
-        Conversion::Gives(t) => t.count() * 256,
-        Conversion::Refused(n) => n as u32,
+        Ok(t) => t.count() * 256,
+        Err(refusal) => refusal_word(refusal),
     }
 }

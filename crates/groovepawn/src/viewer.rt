@@ -1,15 +1,15 @@
 // The calls for a wave viewer: a stream as the text of a Value Change Dump file, and back.
 ghost use Rattle.groovepawn.specs.Waves.{WaveWriteCall, WaveReadCall};
 
-use waves::{Taken, Written};
+use crate::refusal_word;
 
 // Refusals: 1 to 9, 29, 15, 14.
 pub fn groovepawn_wave_write(file: &[u8], events: &[u8], text: &mut [u8]) -> u64
     ensures { WaveWriteCall file.now events.now text.old result text.new }
 {
     match waves::write(file, events, text) {
-        Written::Length(n) => n as u64 * 256,
-        Written::Refused(n) => n as u64,
+        Ok(length) => length as u64 * 256,
+        Err(refusal) => u64::from(refusal_word(refusal)),
     }
 }
 
@@ -18,7 +18,7 @@ pub fn groovepawn_wave_read(file: &[u8], text: &[u8], events: &mut [u8]) -> u64
     ensures { WaveReadCall file.now text.now events.old result events.new }
 {
     match waves::take(file, text, events) {
-        Taken::Count(n) => n as u64 * 256,
-        Taken::Refused(n) => n as u64,
+        Ok(count) => count as u64 * 256,
+        Err(refusal) => u64::from(refusal_word(refusal)),
     }
 }

@@ -1,10 +1,12 @@
 // Reasons for a controller in C: for one event, and for a run of them.
 ghost use Rattle.std.specs.Prelude.{◌≡◌};
+ghost use Rattle.refusals.specs.Refused.{number_of};
 ghost use Rattle.groovepawn.specs.Why.{WhyCall, odd_why_run, WhyRunCall};
 
+use crate::refusal_word;
 use bays::odd_refusal;
-use policy::check_under;
-use reasons::{room_refusal, shortest, why, why_run, word};
+use reasons::{room_for, shortest, why, why_run, word};
+use refusals::Refusal;
 use stepping::five::{STATE_NUMBERS, put_state, state_of};
 
 // Refusals: 22, 1 to 10, 16, 20, 15, 17.
@@ -12,7 +14,7 @@ pub fn groovepawn_why(reading: u8, file: &[u8], marks: &[u8], state: &[u16], x: 
     ensures { WhyCall reading file.now marks.now state.now x y result }
 {
     if state.len() != STATE_NUMBERS {
-        return odd_refusal(reading, file, marks, true) as u64;
+        return u64::from(refusal_word(odd_refusal(reading, file, marks, true)));
     }
     word(why(reading, file, marks, state_of(state), x, y))
 }
@@ -25,22 +27,13 @@ fn odd_why_run(
     work: usize,
     events: usize,
     words: usize,
-) -> u8
-    ensures { result ≡ odd_why_run reading file.now marks.now work events words }
+) -> Refusal
+    ensures { number_of result ≡ odd_why_run reading file.now marks.now work events words }
 {
-    let r = room_refusal(
-        reading,
-        file,
-        check_under(reading, file),
-        marks,
-        work,
-        events,
-        words,
-    );
-    if r != 0 {
-        return r;
+    match room_for(reading, file, marks, work, events, words) {
+        Err(refusal) => refusal,
+        Ok(_) => Refusal::BadState,
     }
-    16
 }
 
 // Refusals 22, 1 to 10, 23, 14, 16, 20, 15; or how many events are explained.
@@ -73,14 +66,18 @@ pub fn groovepawn_why_run(
             bound.len(),
             place.len(),
         );
-        return odd_why_run(reading, file, marks, work, events.len(), words.len()) as u64;
+        let odd = odd_why_run(reading, file, marks, work, events.len(), words.len());
+        return u64::from(refusal_word(odd));
     }
     let given = state_of(state);
-    let ran = why_run(
+    match why_run(
         reading, file, marks, given, events, words, ticks, rests, prepared, stack, from, ways,
         bound, place,
-    );
-    let after = ran.state;
-    put_state(state, after);
-    ran.refusal as u64 + ran.count as u64 % 72057594037927936 * 256
+    ) {
+        Ok(after) => {
+            put_state(state, after);
+            events.len() as u64 % 72057594037927936 * 256
+        }
+        Err(refusal) => u64::from(refusal_word(refusal)),
+    }
 }

@@ -2,20 +2,20 @@
 use mathlib.Core.Path.{◌≡◌, refl, sym, ap, ap₂, ◌∙◌}
 use mathlib.Core.Bool.{Bool, true, false, ◌&&◌, and-eq-true_iff, false≢true}
 use mathlib.Core.List.{List, [], ◌∷◌, ◌++◌, append_assoc}
-use Prim.Native.Nat.{ℕ, zero, suc, ◌+◌, ◌-◌, ◌*◌, ◌≤◌, ◌<◌}
+use Prim.Native.Nat.{ℕ, zero, suc, ◌+◌, ◌*◌, ◌≤◌, ◌<◌}
 use native.Mathlib.Numerals.{add-one}
 use native.Mathlib.Omega.{arith}
-use lib.Dec.{ltb, eqb}
+use lib.Dec.{eqb}
 use lib.ListN.{length, get_or, take, drop, set, length-append, length-drop}
 use lib.Seq.{take-suc, drop-cons, append_snoc, set_at, take_all}
-use borrow.Author.Tests.{ltb-true, ltb-false, lt-ltb, le-ltb, le-leb, lt-leb, eq-eqb, ne_eqb, eqb-true, eqb-false}
+use borrow.Author.Tests.{le-ltb, le-leb, lt-leb, eq-eqb, ne_eqb}
 use Rattle.streams.specs.AnswerLaws.{first_refused}
 use Rattle.policy.specs.Check.{refusal_of}
 use Rattle.policy.specs.Layout.{layout_of, CheckPromise}
 use Rattle.policy.specs.LayoutLaws.{checked_says}
 use Rattle.policy.specs.File.{rules_of}
 use Rattle.policy.specs.declared.Layout.{Layout}
-use Rattle.policy.specs.declared.Checked.{Checked}
+use Rattle.policy.specs.Layout.{Checked}
 use Rattle.index.specs.declared.entry.Entry.{Entry}
 use Rattle.index.specs.Index.{lower, number, entry_of, entries, index_of, same, same_exactly, is_index}
 use Rattle.index.specs.Names.{entries_length, entries_at, index_length, entry_within}
@@ -81,21 +81,6 @@ module _ (f xs : List ℕ) where
   unfolding index_of
   all_same n a g e = (same_exactly xs (index_of f)).1 (sym (take_all 128 xs (omega arith)) ∙ rw g at e)
 
--- A number is n exactly if n is not more than it, and is more than the one before it.
-module _ (c n : ℕ) where
-  pub not_exactly : ltb c n ≡ true → eqb c n ≡ false
-  not_exactly h = ne_eqb c n (λ e. absurd (omega (arith, ltb-true c n h)))
-
-  pub none_exactly : ltb c n ≡ false → c ≡ 0 → eqb c n ≡ true
-  none_exactly h z = eq-eqb c n (omega (arith, ltb-false c n h))
-
-  pub last_exactly : ltb c n ≡ false → (c ≡ 0 → ⊥) → ltb (c - 1) n ≡ eqb c n
-  last_exactly h z = go (eqb c n) refl
-    where
-      go : (t : Bool) → eqb c n ≡ t → ltb (c - 1) n ≡ t
-      go true q = lt-ltb (c - 1) n (omega (arith, eqb-true c n q))
-      go false q = let d = eqb-false c n q in le-ltb (c - 1) n (omega (arith, ltb-false c n h))
-
 -- Whether the numbers given are the entry of a location, past the locations and within them.
 module _ {f : List ℕ} {l : Layout} (k : Sections f l) (a : ℕ) (given : Entry) where
   abbrev is_entry : Bool
@@ -124,7 +109,7 @@ sections_of {f} {r} p z =
     let l : r.layout ≡ layout_of 1 f = ap (λ (c : Checked). c.layout) p.said ∙ (checked_says f).1 n in
     rw l (record { passes = n; clocks = refl; locations = refl; rules = refl; start = refl; end = refl })
 
--- What is left to say at each return of `build`.
+-- What is left to say at each return of `write_index`.
 stays : (f before : List ℕ) (n : ℕ) → (n ≡ 0 → ⊥) → written_over f before n ≡ before
 stays f before zero h = absurd (h refl)
 stays f before (suc n) h = refl

@@ -26,7 +26,7 @@ module _ (f index : List ℕ) where
   unfolding build_refusal
   build_le = let h : refusal_of f ≤ 14 = omega (arith, refusal_le f) in search (else_le, unless_le)
 
--- All that is promised of what `build` gives, and of what the slice holds `after`.
+-- All that is promised of what `write_index` gives, and of what the slice holds `after`.
 pub record BuildPromise (f before : List ℕ) (r : ℕ) (after : List ℕ) : Type 0 where
   pub refuses : r ≡ build_refusal f before
   pub writes : after ≡ built_index f before

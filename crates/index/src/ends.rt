@@ -15,11 +15,8 @@ fn has_more(file: &[u8], layout: Layout, location: usize, first: usize, count: u
     ensures { result ≡ ltb count (number location (rules_of file.now)) }
 {
     let rule = first + count;
-    if layout.rules <= rule {
-        return false;
-    }
     let size = RULE_HEAD + BOUND_SIZE * layout.clocks;
-    byte_within(file, layout.rules_start + rule * size) == location
+    rule < layout.rules && byte_within(file, layout.rules_start + rule * size) == location
 }
 
 // The location has exactly `count` rules: the last of so many is its own, and the next is not.
@@ -27,13 +24,8 @@ fn has_exactly(file: &[u8], layout: Layout, location: usize, first: usize, count
     requires { Sections file.now layout × (first ≡ lower location (rules_of file.now)) × (count < 2 ^ 16) }
     ensures { result ≡ eqb count (number location (rules_of file.now)) }
 {
-    if has_more(file, layout, location, first, count) {
-        return false;
-    }
-    if count == 0 {
-        return true;
-    }
-    has_more(file, layout, location, first, count - 1)
+    !has_more(file, layout, location, first, count)
+        && (count == 0 || has_more(file, layout, location, first, count - 1))
 }
 
 // The numbers given are the location's entry.
@@ -47,15 +39,8 @@ pub(crate) fn is_entry(
     requires { Sections file.now layout × (first ≡ lower location (rules_of file.now)) × (given.number < 2 ^ 16) }
     ensures { result ≡ (eqb given.first (entry_of file.now location).first && eqb given.number (entry_of file.now location).number) }
 {
-    let count = given.number;
     if layout.locations <= location {
-        if given.first != 0 {
-            return false;
-        }
-        return count == 0;
+        return given.first == 0 && given.number == 0;
     }
-    if given.first != first {
-        return false;
-    }
-    has_exactly(file, layout, location, first, count)
+    given.first == first && has_exactly(file, layout, location, first, given.number)
 }

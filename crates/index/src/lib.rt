@@ -10,12 +10,14 @@ ghost use Rattle.policy.specs.Own.{own_of};
 ghost use Rattle.index.specs.Index.{index_of, is_index};
 ghost use Rattle.index.specs.Sections.{Sections};
 ghost use Rattle.index.specs.Entry.{BuildPromise};
+ghost use Rattle.refusals.specs.Refused.{refusal_in};
 
 use ends::is_entry;
 pub use entry::Entry;
 use entry::entry_at;
 use policy::limits::{BOUND_SIZE, LOCATIONS, RULE_HEAD};
-use policy::{Layout, Own, check};
+use policy::{Layout, Own, layout_of};
+use refusals::Refusal;
 
 // How many numbers an index is: two for each location that there can be.
 pub const NUMBERS: usize = 2 * LOCATIONS;
@@ -26,14 +28,12 @@ pub fn fill(file: &[u8], layout: Layout, index: &mut [u16])
     ensures { index.new ≡ index_of file.now ++ drop 128 index.old }
 {
     let mut first = 0;
-    let mut location = 0;
-    while location < LOCATIONS {
+    for location in 0..LOCATIONS {
         let entry = entry_at(file, layout, location, first);
         let at = 2 * location;
         index[at] = entry.first as u16;
         index[at + 1] = entry.number as u16;
         first += entry.number;
-        location += 1;
     }
 }
 
@@ -46,18 +46,16 @@ pub fn is_index(file: &[u8], layout: Layout, index: &[u16]) -> bool
         return false;
     }
     let mut first = 0;
-    let mut location = 0;
-    while location < LOCATIONS {
+    for location in 0..LOCATIONS {
         let at = 2 * location;
         let given = Entry {
-            first: index[at] as usize,
-            number: index[at + 1] as usize,
+            first: usize::from(index[at]),
+            number: usize::from(index[at + 1]),
         };
         if !is_entry(file, layout, location, first, given) {
             return false;
         }
         first += given.number;
-        location += 1;
     }
     true
 }
@@ -67,25 +65,21 @@ pub fn own_at(file: &[u8], layout: Layout, index: &[u16], location: u16) -> Own
     requires { Sections file.now layout × (index.now ≡ index_of file.now) × (location < layout.locations) }
     ensures { result ≡ own_of layout.clocks location (rules_of file.now) }
 {
-    let at = 2 * location as usize;
+    let at = 2 * usize::from(location);
     Own {
-        start: index[at] as usize * (RULE_HEAD + BOUND_SIZE * layout.clocks),
-        count: index[at + 1] as usize,
+        start: usize::from(index[at]) * (RULE_HEAD + BOUND_SIZE * layout.clocks),
+        count: usize::from(index[at + 1]),
     }
 }
 
-// 1 to 9, then 14; 0 where the index is written. A refusal writes nothing, and what stands past the index stays.
-pub fn build(file: &[u8], index: &mut [u16]) -> u8
-    ensures { BuildPromise file.now index.old result index.new }
+// Writes the index of a file that is checked first. A refusal writes nothing, and what stands past the index stays.
+pub fn write_index(file: &[u8], index: &mut [u16]) -> Result<(), Refusal>
+    ensures { BuildPromise file.now index.old (refusal_in result) index.new }
 {
-    let checked = check(file);
-    if checked.refusal != 0 {
-        return checked.refusal;
-    }
+    let layout = layout_of(file)?;
     if index.len() < NUMBERS {
-        return 14;
+        return Err(Refusal::NoRoom);
     }
-    let layout = checked.layout;
     fill(file, layout, index);
-    0
+    Ok(())
 }

@@ -1,76 +1,64 @@
--- What the functions' proofs cite: what is refused up to 10, test by test, and what is left past 16.
-use mathlib.Core.Path.{◌≡◌, sym, ap, ◌∙◌}
-use mathlib.Core.Bool.{true, false}
-use mathlib.Core.List.{List}
-use Prim.Native.Nat.{ℕ}
-use lib.Dec.{leb}
-use lib.ListN.{length}
-use Rattle.streams.specs.Answer.{refused, ◌or_else◌, unless}
-use Rattle.streams.specs.AnswerLaws.{first_refused}
-use Rattle.policy.specs.Check.{refusal_under}
-use Rattle.policy.specs.Layout.{checked_under}
-use Rattle.policy.specs.LayoutLaws.{under_says}
-use Rattle.policy.specs.Number.{states}
-use Rattle.policy.specs.declared.Checked.{Checked}
-use Rattle.index.specs.Index.{index_of, is_index}
-use Rattle.index.specs.Sections.{Sections}
-use Rattle.stepping.specs.Ready.{Standing}
-use Rattle.enforcer.specs.Entries.{marks_refusal, state_refusal, input_past, output_past}
+-- What the functions' proofs cite of the layout that the code goes on with: without it, and with it what is refused by 16 and what is left past that.
+use Rattle.std.specs.Prelude.{◌≡◌, List, ℕ}
+use Rattle.std.proofs.Common.{sym, ap, ◌∙◌, arith}
+use Rattle.streams.specs.Answer.{refused, gives}
+use Rattle.streams.specs.AnswerLaws.{given_only}
+use Rattle.refusals.specs.Refused.{number_of}
+use Rattle.refusals.specs.Laws.{number_above}
+use Rattle.refusals.specs.declared.Refusal.{Refusal}
+use Rattle.policy.specs.Layout.{layout_of}
+use Rattle.policy.specs.declared.Layout.{Layout}
+use Rattle.index.specs.Index.{index_of}
 use Rattle.stepping.specs.State.{place}
-use Rattle.stepping.specs.Laid.{laid_of, laid_sections}
-use Rattle.enforcer.specs.States.{Granted, marks_by, granted_laid, input_16, output_16, half_standing, input_left, output_left}
 use Rattle.stepping.specs.declared.state.State.{State}
-use Rattle.indexed.specs.Entries.{index_refusal, early_refusal, input_indexed_of, output_indexed_of}
+use Rattle.enforcer.specs.Entries.{layout_for, marks_refusal, state_refusal, input_past, output_past}
+use Rattle.enforcer.specs.States.{refused_only, input_16, output_16, input_left, output_left}
+use Rattle.indexed.specs.Entries.{early_refusal, layout_by_index, input_indexed_of, output_indexed_of}
+use Rattle.indexed.specs.Same as Same
 use Rattle.indexed.specs.Same.{input_same, output_same, early_granted}
 
--- What the check answered, and what it makes sure of.
-module _ (reading : ℕ) (file : List ℕ) {r : Checked} (e : r ≡ checked_under reading file) where
-  number : r.refusal ≡ refusal_under reading file
-  number = ap (λ (c : Checked). c.refusal) e ∙ (under_says reading file).0
+module _ (reading : ℕ) (file index marks : List ℕ) where
+  -- Without a layout each half answers with that refusal.
+  module _ (r : Refusal) (e : refused (number_of r) ≡ layout_by_index reading file index marks) where
+    early : number_of r ≡ early_refusal reading file index marks
+    unfolding layout_by_index
+    early = sym (refused_only _ _ (sym e))
 
-  pub early_check : (index marks : List ℕ) → (r.refusal ≡ 0 → ⊥) → r.refusal ≡ early_refusal reading file index marks
-  unfolding early_refusal index_refusal
-  early_check index marks h =
-      rw (← number) (sym (ap (λ (n : ℕ). n or_else marks_refusal reading file marks) (first_refused r.refusal _ h) ∙ first_refused r.refusal _ h))
+    pub input_refused : (s : State) (x : ℕ) → input_indexed_of reading file index marks s x ≡ refused (number_of r)
+    input_refused s x = Same.input_early reading file index marks s x early (λ z. omega (arith, number_above r))
 
-  pub early_sections : r.refusal ≡ 0 → Sections file r.layout
-  early_sections z = laid_sections (laid_of reading file r e z).0
+    pub output_refused : (s : State) (x y : ℕ) → output_indexed_of reading file index marks s x y ≡ record { answer = refused (number_of r); state = s }
+    output_refused s x y = Same.output_early reading file index marks s x y early (λ z. omega (arith, number_above r))
 
-  pub early_wrong : (index marks : List ℕ) → r.refusal ≡ 0 → is_index file index ≡ false → 28 ≡ early_refusal reading file index marks
-  unfolding early_refusal index_refusal
-  early_wrong index marks z w = let n = sym number ∙ z in rw (n, w)
+  -- With a layout the index is the file's, and the layout is the one without an index.
+  module _ {l : Layout} (e : gives l ≡ layout_by_index reading file index marks) where
+    granted : (index ≡ index_of file) × (marks_refusal reading file marks ≡ 0) × (layout_of reading file ≡ l)
+    unfolding layout_by_index
+    granted =
+        let k = given_only _ _ _ (sym e) in
+        let g = early_granted reading file index marks k.0 in
+        (g.0, g.1, k.1)
 
-  pub early_marks : (index marks : List ℕ) → r.refusal ≡ 0 → is_index file index ≡ true → {n : ℕ} →
-      n ≡ (r.refusal or_else unless (leb r.layout.states (length marks)) 10) → n ≡ early_refusal reading file index marks
-  unfolding early_refusal index_refusal
-  early_marks index marks z w m = let n = sym number ∙ z in (m ∙ marks_by reading file marks e) ∙ sym (rw (n, w))
-
-  -- Past 10: the index is the file's, its layout, and a mark for each state.
-  module _ (index marks : List ℕ) (none : early_refusal reading file index marks ≡ 0) where
     pub early_index : index ≡ index_of file
-    early_index = (early_granted reading file index marks none).0
+    early_index = granted.0
 
-    granted : marks_refusal reading file marks ≡ 0
-    granted = (early_granted reading file index marks none).1
+    pub early_layout : gives l ≡ layout_for reading file marks
+    unfolding layout_for
+    early_layout = rw granted.1 (ap gives (sym granted.2))
 
-    pub early_laid : Granted reading file marks r.layout
-    early_laid = granted_laid marks e granted
-
-    module _ (s : State) {n : ℕ} (q : n ≡ state_refusal r.layout.reading file marks s) where
+    module _ (s : State) where
       -- 16 is what is refused then.
-      pub input_state : (x : ℕ) → (n ≡ 0 → ⊥) → input_indexed_of reading file index marks s x ≡ refused n
-      input_state x h = input_same reading file index marks s early_index x ∙ input_16 reading file marks e granted s q x h
+      module _ (r : Refusal) (q : number_of r ≡ state_refusal l.reading file marks s) where
+        pub input_state : (x : ℕ) → input_indexed_of reading file index marks s x ≡ refused (number_of r)
+        input_state x = input_same reading file index marks s early_index x ∙ input_16 reading file marks early_layout s r q x
 
-      pub output_state : (x y : ℕ) → (n ≡ 0 → ⊥) → output_indexed_of reading file index marks s x y ≡ record { answer = refused n; state = s }
-      output_state x y h = output_same reading file index marks s early_index x y ∙ output_16 reading file marks e granted s q x y h
+        pub output_state : (x y : ℕ) → output_indexed_of reading file index marks s x y ≡ record { answer = refused (number_of r); state = s }
+        output_state x y = output_same reading file index marks s early_index x y ∙ output_16 reading file marks early_layout s r q x y
 
       -- Past 16 only 15 and 17 are left.
-      module _ (z : n ≡ 0) where
-        pub early_standing : Standing file r.layout marks s
-        early_standing = half_standing reading file marks e granted s q z
+      module _ (z : 0 ≡ state_refusal l.reading file marks s) where
+        pub input-past : (x : ℕ) → input_indexed_of reading file index marks s x ≡ input_past l.reading file marks (place l.clocks s) x
+        input-past x = input_same reading file index marks s early_index x ∙ input_left reading file marks early_layout s z x
 
-        pub input-past : (x : ℕ) → input_indexed_of reading file index marks s x ≡ input_past r.layout.reading file marks (place r.layout.clocks s) x
-        input-past x = input_same reading file index marks s early_index x ∙ input_left reading file marks e granted s q z x
-
-        pub output-past : (x y : ℕ) → output_indexed_of reading file index marks s x y ≡ output_past r.layout.reading file marks s (place r.layout.clocks s) x y
-        output-past x y = output_same reading file index marks s early_index x y ∙ output_left reading file marks e granted s q z x y
+        pub output-past : (x y : ℕ) → output_indexed_of reading file index marks s x y ≡ output_past l.reading file marks s (place l.clocks s) x y
+        output-past x y = output_same reading file index marks s early_index x y ∙ output_left reading file marks early_layout s z x y

@@ -1,7 +1,9 @@
 -- What the halves that use an index answer, for any bytes, index, marks, state and events.
 use Rattle.std.specs.Prelude.{List, ℕ, zero, suc}
-use Rattle.streams.specs.Answer.{Answer, refused, ◌or_else◌, unless}
+use Rattle.streams.specs.Answer.{Answer, refused, answer, ◌or_else◌, unless}
 use Rattle.policy.specs.Check.{refusal_under}
+use Rattle.policy.specs.Layout.{layout_of}
+use Rattle.policy.specs.declared.Layout.{Layout}
 use Rattle.index.specs.Index.{is_index}
 use Rattle.enforcer.specs.Entries.{OutputAnswer, marks_refusal, input_of, output_of}
 use Rattle.stepping.specs.declared.state.State.{State}
@@ -19,6 +21,10 @@ module _ (reading : ℕ) (file index marks : List ℕ) where
   -- All that is refused before the state is looked at.
   unfoldable pub early_refusal : ℕ
   early_refusal = index_refusal reading file index or_else marks_refusal reading file marks
+
+  -- The layout of a file that passes under the reading, where the index is the file's and there is a mark for each state.
+  unfoldable pub layout_by_index : Answer Layout
+  layout_by_index = answer early_refusal (layout_of reading file)
 
   module _ (s : State) where
     -- Past 28 the answer is that of the half without an index: 10 and the rest in their order.

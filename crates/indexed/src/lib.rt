@@ -2,28 +2,35 @@
 #![tactic(auto)]
 
 ghost use Rattle.std.specs.Prelude.{◌≡◌};
-ghost use Rattle.policy.specs.Layout.{checked_under};
-ghost use Rattle.indexed.specs.Entries.{early_refusal};
+ghost use Rattle.refusals.specs.Refused.{told};
+ghost use Rattle.enforcer.specs.Promises.{handed};
+ghost use Rattle.indexed.specs.Entries.{layout_by_index};
 ghost use Rattle.indexed.specs.Promises.{InputIndexedPromise, OutputIndexedPromise};
 
-use enforcer::{HalfAnswer, Output, input_by, marks_refusal, output_by, state_refusal};
+use enforcer::{check_state, input_by, output_by};
 use index::{is_index, own_at};
-use policy::{Checked, check_under};
+use policy::{Layout, layout_under};
+use refusals::Refusal;
 use stepping::State;
 
-// 22 and 1 to 9 as the check has them, then 28, then 10.
-pub fn early_refusal(reading: u8, file: &[u8], checked: Checked, index: &[u16], marks: &[u8]) -> u8
-    requires { checked ≡ checked_under reading file.now }
-    ensures { result ≡ early_refusal reading file.now index.now marks.now }
+// The layout of a file that passes, where the index is the file's and there is a mark for each state. 22 and 1 to 9, then 28, then 10.
+#[inline]
+pub fn layout_by_index(
+    reading: u8,
+    file: &[u8],
+    index: &[u16],
+    marks: &[u8],
+) -> Result<Layout, Refusal>
+    ensures { told result ≡ layout_by_index reading file.now index.now marks.now }
 {
-    if checked.refusal != 0 {
-        return checked.refusal;
-    }
-    let layout = checked.layout;
+    let layout = layout_under(reading, file)?;
     if !is_index(file, layout, index) {
-        return 28;
+        return Err(Refusal::OtherIndex);
     }
-    marks_refusal(checked, marks)
+    if marks.len() < layout.states {
+        return Err(Refusal::FewMarks);
+    }
+    Ok(layout)
 }
 
 // 22, 1 to 9, 28, 10, 16, 15, 17.
@@ -34,24 +41,16 @@ pub fn input_indexed(
     marks: &[u8],
     state: State,
     x: u8,
-) -> HalfAnswer
-    ensures { InputIndexedPromise reading file.now index.now marks.now state x result }
+) -> Result<u8, Refusal>
+    ensures { InputIndexedPromise reading file.now index.now marks.now state x (told result) }
 {
-    let checked = check_under(reading, file);
-    let r = early_refusal(reading, file, checked, index, marks);
-    if r != 0 {
-        return HalfAnswer::Refused(r);
-    }
-    let layout = checked.layout;
-    let r = state_refusal(file, layout, marks, state);
-    if r != 0 {
-        return HalfAnswer::Refused(r);
-    }
+    let layout = layout_by_index(reading, file, index, marks)?;
+    check_state(file, layout, marks, state)?;
     let own = own_at(file, layout, index, state.location);
     input_by(file, layout, own, marks, state, x)
 }
 
-// By value: the next state is handed back, and where it refuses the state it was given. 22, 1 to 9, 28, 10, 16, 15, 17.
+// By value: what is released for y, and the next state. 22, 1 to 9, 28, 10, 16, 15, 17.
 pub fn output_indexed(
     reading: u8,
     file: &[u8],
@@ -60,25 +59,11 @@ pub fn output_indexed(
     state: State,
     x: u8,
     y: u8,
-) -> Output
-    ensures { OutputIndexedPromise reading file.now index.now marks.now state x y result }
+) -> Result<(u8, State), Refusal>
+    ensures { OutputIndexedPromise reading file.now index.now marks.now state x y (handed state result) }
 {
-    let checked = check_under(reading, file);
-    let r = early_refusal(reading, file, checked, index, marks);
-    if r != 0 {
-        return Output {
-            answer: HalfAnswer::Refused(r),
-            state,
-        };
-    }
-    let layout = checked.layout;
-    let r = state_refusal(file, layout, marks, state);
-    if r != 0 {
-        return Output {
-            answer: HalfAnswer::Refused(r),
-            state,
-        };
-    }
+    let layout = layout_by_index(reading, file, index, marks)?;
+    check_state(file, layout, marks, state)?;
     let own = own_at(file, layout, index, state.location);
     output_by(file, layout, own, marks, state, x, y)
 }

@@ -8,7 +8,10 @@ use native.Mathlib.Omega.{arith}
 use lib.Dec.{leb}
 use lib.ListN.{length, take, drop, length-append}
 use borrow.Author.Tests.{le-leb, lt-leb}
-use Rattle.streams.specs.AnswerLaws.{first_refused}
+use Rattle.streams.specs.Answer.{refused, gives}
+use Rattle.refusals.specs.Refused.{number_of}
+use Rattle.refusals.specs.Laws.{number_above, refused_first, refused_answer}
+use Rattle.refusals.specs.declared.Refusal.{Refusal}
 use Rattle.policy.specs.File.{byte_at, rule_size, clock_count, location_count}
 use Rattle.policy.specs.Check.{refusal_of}
 use Rattle.policy.specs.Bytes.{counts_bytes, bytes_of}
@@ -16,7 +19,6 @@ use Rattle.policy.specs.Layout.{layout_of}
 use Rattle.policy.specs.declared.Layout.{Layout}
 use Rattle.pairing.specs.Join.{join}
 use Rattle.join.specs.Entry.{same_signals, join_fits, said, joined_file, written_over, join_refusal, join_of, joined_out}
-use Rattle.join.specs.declared.Joined.TheVariants.{Length, Refused}
 use Rattle.join.specs.Promise.{JoinPromise}
 use Rattle.join.specs.Limits.{states_join}
 use Rattle.join.specs.JoinBytes.{LayoutOf, limits, PartsReady, joined_count, joined_rules, counts_from, counts_length}
@@ -49,39 +51,39 @@ fits_joined {f} {g} l m =
     (regroup (leb (location_count f * location_count g) 64) (leb (clock_count f + clock_count g) 4) (leb (joined_count f g) 256)
     (leb ((layout_of 1 f).states * (layout_of 1 g).states) 65536))
 
+unwritten : (f g out : List ℕ) (n : ℕ) → 0 < n → out ≡ written_over f g out n
+unwritten f g out zero h = absurd (omega arith)
+unwritten f g out (suc n) h = refl
+
 -- The answers: a refusal leaves the slice as it was.
 module _ {f g : List ℕ} (out : List ℕ) where
-  refuses : {n : ℕ} → join_refusal f g out ≡ suc n → JoinPromise f g out (Refused (suc n)) out
+  refuses : (r : Refusal) → join_refusal f g out ≡ number_of r → JoinPromise f g out (refused (number_of r)) out
   unfolding join_of joined_out
-  refuses e = record { answers = rw e; writes = rw e }
+  refuses r e = record { answers = rw (e, refused_answer); writes = rw e (unwritten f g out (number_of r) (number_above r)) }
 
   -- 1 to 9, of A and then of B.
-  refuses_some : (n : ℕ) → (n ≡ 0 → ⊥) → join_refusal f g out ≡ n → JoinPromise f g out (Refused n) out
-  refuses_some zero h e = absurd (h refl)
-  refuses_some (suc n) h e = refuses e
-
-  pub refused_first : {n : ℕ} → n ≡ refusal_of f → (n ≡ 0 → ⊥) → JoinPromise f g out (Refused n) out
+  pub refused_a : (r : Refusal) → refusal_of f ≡ number_of r → JoinPromise f g out (refused (number_of r)) out
   unfolding join_refusal
-  refused_first {n} e h = refuses_some n h (rw (← e) (first_refused n _ h))
+  refused_a r e = refuses r (rw (e, refused_first))
 
-  pub refused_second : {n : ℕ} → refusal_of f ≡ 0 → n ≡ refusal_of g → (n ≡ 0 → ⊥) → JoinPromise f g out (Refused n) out
+  pub refused_b : (r : Refusal) → refusal_of f ≡ 0 → refusal_of g ≡ number_of r → JoinPromise f g out (refused (number_of r)) out
   unfolding join_refusal
-  refused_second {n} l e h = refuses_some n h (rw (l, ← e) (first_refused n _ h))
+  refused_b r l e = refuses r (rw (l, e, refused_first))
 
   module _ {x y : Layout} (l : LayoutOf f x) (m : LayoutOf g y) where
-    pub refused_12 : same_signals (said f) (said g) ≡ false → JoinPromise f g out (Refused 12) out
+    pub refused_12 : same_signals (said f) (said g) ≡ false → JoinPromise f g out (refused 12) out
     unfolding join_refusal
-    refused_12 e = refuses (rw (l.passes, m.passes, e))
+    refused_12 e = refuses Refusal.OtherTags (rw (l.passes, m.passes, e))
 
     module _ (s : same_signals (said f) (said g) ≡ true) where
-      pub refused_13 : (limits x y && leb (joined_count f g) 256) ≡ false → JoinPromise f g out (Refused 13) out
+      pub refused_13 : (limits x y && leb (joined_count f g) 256) ≡ false → JoinPromise f g out (refused 13) out
       unfolding join_refusal
-      refused_13 e = refuses (rw (l.passes, m.passes, s, fits_joined l m, e))
+      refused_13 e = refuses Refusal.LargeJoin (rw (l.passes, m.passes, s, fits_joined l m, e))
 
       module _ (e : (limits x y && leb (joined_count f g) 256) ≡ true) where
-        pub refused_14 : length out < length (joined_file f g out) → JoinPromise f g out (Refused 14) out
+        pub refused_14 : length out < length (joined_file f g out) → JoinPromise f g out (refused 14) out
         unfolding join_refusal
-        refused_14 h = refuses (rw (l.passes, m.passes, s, fits_joined l m, e, lt-leb (length (joined_file f g out)) (length out) h))
+        refused_14 h = refuses Refusal.NoRoom (rw (l.passes, m.passes, s, fits_joined l m, e, lt-leb (length (joined_file f g out)) (length out) h))
 
         pub not_refused : length (joined_file f g out) ≤ length out → join_refusal f g out ≡ 0
         unfolding join_refusal
@@ -108,17 +110,17 @@ module _ {f g : List ℕ} {x y : Layout} (r : PartsReady f x g y) where
         let p = laid_parts (rw (counts_long r n) h) l (rw (← c) at k) in rw (c, counts_joined r a b e) at p
 
   module _ (out : List ℕ) where
-    pub too_many : 256 < joined_count f g → JoinPromise f g out (Refused 13) out
+    pub too_many : 256 < joined_count f g → JoinPromise f g out (refused 13) out
     too_many h = refused_13 out r.first r.second r.signals (rw r.within (lt-leb _ 256 h))
 
     module _ (h : joined_count f g ≤ 256) where
       fits : (limits x y && leb (joined_count f g) 256) ≡ true
       fits = rw r.within (le-leb _ 256 h)
 
-      pub too_short : length out < length (joined_file f g out) → JoinPromise f g out (Refused 14) out
+      pub too_short : length out < length (joined_file f g out) → JoinPromise f g out (refused 14) out
       too_short = refused_14 out r.first r.second r.signals fits
 
       pub written : length (joined_file f g out) ≤ length out → {n : ℕ} {after : List ℕ} → n ≡ length (joined_file f g out) → after ≡ written_over f g out 0 →
-          JoinPromise f g out (Length n) after
+          JoinPromise f g out (gives n) after
       unfolding join_of joined_out
       written s n w = let e = not_refused out r.first r.second r.signals fits s in record { answers = rw (e, n); writes = rw e w }

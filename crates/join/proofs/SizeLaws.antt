@@ -1,40 +1,37 @@
 -- What the proofs of the join cite of one file: its tags, its layout, and the answer of the check.
 use mathlib.Core.Path.{◌≡◌, refl, ap, ap₂, sym, ◌∙◌}
-use mathlib.Core.Bool.{Bool, true, false, ◌&&◌}
+use mathlib.Core.Bool.{Bool, true, false}
 use mathlib.Core.List.{List}
 use Prim.Native.Nat.{ℕ, ◌+◌, ◌-◌, ◌*◌, ◌≤◌, ◌<◌}
-use native.Mathlib.Numerals.{add-one}
 use native.Mathlib.Omega.{arith}
 use lib.Dec.{eqb}
-use lib.ListN.{length, get_or, drop, drop_of_length-le}
-use lib.Seq.{drop-cons}
+use lib.ListN.{length}
 use Rattle.policy.specs.File.{part, rule_size, input_count, outputs_at, output_count, clocks_at, clock_count, rule_count, rules_start, rules_end, input_tags, output_tags, rule_section}
 use Rattle.policy.specs.Check.{refusal_of}
 use Rattle.policy.specs.Frame.{passed, frame, section_length}
-use Rattle.policy.specs.Layout.{CheckPromise}
+use Rattle.policy.specs.Layout.{checked_of, checked_said}
 use Rattle.policy.specs.LayoutLaws.{checked_says}
-use Rattle.policy.specs.declared.Checked.{Checked}
+use Rattle.policy.specs.Layout.{Checked}
 use Rattle.policy.specs.declared.Layout.{Layout}
+use Rattle.refusals.specs.Refused.{number_of}
+use Rattle.refusals.specs.declared.Refusal.{Refusal}
+use Rattle.std.specs.Prelude.{Ok, Err}
+use Rattle.std.specs.Bool.{Decides}
+use lib.Pointwise.{pointwise}
+use Rattle.std.proofs.lemmas.Bool.Decides.{Decides-eqb}
+use Rattle.std.proofs.lemmas.Slice.Eq.{slice_eq-Decides}
 use Rattle.join.specs.Entry.{same_tags}
 use Rattle.join.specs.Again.{same_tags_is}
 use Rattle.join.specs.JoinBytes.{LayoutOf, clocks_for}
 
--- The tags from i on: the first, and the rest.
-pub same_turn : (xs ys : List ℕ) (i : ℕ) → i < length xs → i < length ys →
-    same_tags (drop i xs) (drop i ys) ≡ (eqb (get_or xs i 0) (get_or ys i 0) && same_tags (drop (i + 1) xs) (drop (i + 1) ys))
-unfolding same_tags
-same_turn xs ys i h k = rw (add-one, drop-cons xs i 0, drop-cons ys i 0)
-
-pub same_end : (xs ys : List ℕ) (i : ℕ) → length xs ≤ i → length ys ≤ i → same_tags (drop i xs) (drop i ys) ≡ true
-unfolding same_tags
-same_end xs ys i h k = rw (drop_of_length-le xs h, drop_of_length-le ys k)
-
-pub same_long : (xs ys : List ℕ) → (length xs ≡ length ys → ⊥) → same_tags xs ys ≡ false
-same_long xs ys h = go (same_tags xs ys) refl
+-- What `==` tells of two parts, of their tags.
+pub same_told : (xs ys : List ℕ) (r : Bool) → r ≡ pointwise eqb xs ys → r ≡ same_tags xs ys
+same_told xs ys r e = go r (same_tags xs ys) refl (slice_eq-Decides Decides-eqb xs ys r e)
   where
-    go : (t : Bool) → same_tags xs ys ≡ t → t ≡ false
-    go true e = absurd (h (ap length ((same_tags_is xs ys).0 e)))
-    go false e = refl
+    go : (r t : Bool) → same_tags xs ys ≡ t → Decides r (xs ≡ ys) → r ≡ t
+    go true t q d = sym ((same_tags_is xs ys).1 (d.0 refl)) ∙ q
+    go false false q d = refl
+    go false true q d = d.1 ((same_tags_is xs ys).0 q)
 
 -- Where the sections of a checked file stand, by its layout.
 pub record Sizes (f : List ℕ) (x : Layout) : Type 0 where
@@ -82,11 +79,11 @@ tags_read {f} {x} g =
     let o : 1 + input_count f + 1 + output_count f - (1 + input_count f + 1) ≡ output_count f = omega arith in
     let p : 1 + input_count f + 1 ≡ outputs_at f + 1 = omega arith in rw g.is (ap (part f 1) i, ap₂ (part f) p o)
 
--- What the check's answer says of the file.
-pub checks_not : {f : List ℕ} {c : Checked} → CheckPromise f c → c.refusal ≡ refusal_of f
-checks_not {f} p = ap (λ (d : Checked). d.refusal) p.said ∙ (checked_says f).0
+-- What the check tells of the file, where it refuses it and where it gives the layout.
+pub checks_not : (f : List ℕ) (r : Refusal) → checked_said (Err r) ≡ checked_of f → refusal_of f ≡ number_of r
+checks_not f r e = sym (checked_says f).0 ∙ sym (ap (λ (d : Checked). d.refusal) e)
 
-pub checks : {f : List ℕ} {c : Checked} → CheckPromise f c → c.refusal ≡ 0 → LayoutOf f c.layout
-checks {f} {c} p e =
-    let h : refusal_of f ≡ 0 = sym (checks_not p) ∙ e in
-    record { passes = h; is = ap (λ (d : Checked). d.layout) p.said ∙ (checked_says f).1 h }
+pub checks : (f : List ℕ) (x : Layout) → checked_said (Ok x) ≡ checked_of f → LayoutOf f x
+checks f x e =
+    let h : refusal_of f ≡ 0 = sym (checked_says f).0 ∙ sym (ap (λ (d : Checked). d.refusal) e) in
+    record { passes = h; is = ap (λ (d : Checked). d.layout) e ∙ (checked_says f).1 h }

@@ -1,34 +1,21 @@
 -- What the join promises: its answer and what the slice holds then are those of specs/Entry.antt, for any two files and any slice.
 use Rattle.std.specs.Prelude.{◌≡◌, List, ℕ, ◌≤◌, length}
 use Rattle.std.proofs.Common.{sym, ◌∙◌, arith}
-use Rattle.streams.specs.Answer.{Answer, refused, gives, UpTo}
+use Rattle.streams.specs.Answer.{Answer, UpTo}
 use Rattle.streams.specs.AnswerLaws.{unless_le, else_le, answer_up_to}
 use Rattle.policy.specs.Check.{refusal_of}
 use Rattle.policy.specs.CheckLaws.{refusal_le}
-use Rattle.join.specs.declared.Joined.{Joined}
-use Rattle.join.specs.declared.Joined.TheVariants.{Length, Refused}
 use Rattle.join.specs.Entry.{joined_file, join_refusal, join_of, joined_out}
 
--- What the answer says: the length written or a refusal.
-abbrev pub joined_said : Joined → Answer ℕ
-joined_said (Length n) = gives n
-joined_said (Refused n) = refused n
-
 -- What the join answers, and what its slice holds `before` and `after`.
-pub record JoinPromise (a b before : List ℕ) (r : Joined) (after : List ℕ) : Type 0 where
-  pub answers : joined_said r ≡ join_of a b before
+pub record JoinPromise (a b before : List ℕ) (r : Answer ℕ) (after : List ℕ) : Type 0 where
+  pub answers : r ≡ join_of a b before
   pub writes : after ≡ joined_out a b before
 
-said_one : (r s : Joined) → joined_said r ≡ joined_said s → r ≡ s
-said_one (Length n) (Length m) e = let h : n ≡ m = cc in rw h
-said_one (Length n) (Refused m) e = let z : ◌≡◌ {A = ℕ} 0 1 = cc in absurd (omega arith)
-said_one (Refused n) (Length m) e = let z : ◌≡◌ {A = ℕ} 0 1 = cc in absurd (omega arith)
-said_one (Refused n) (Refused m) e = let h : n ≡ m = cc in rw h
-
 -- It allows one answer and one later slice.
-pub join_one : {a b before after later : List ℕ} {r s : Joined} → JoinPromise a b before r after → JoinPromise a b before s later →
+pub join_one : {a b before after later : List ℕ} {r s : Answer ℕ} → JoinPromise a b before r after → JoinPromise a b before s later →
     (r ≡ s) × (after ≡ later)
-join_one {r = r} {s = s} g h = (said_one r s (g.answers ∙ sym h.answers), g.writes ∙ sym h.writes)
+join_one g h = (g.answers ∙ sym h.answers, g.writes ∙ sym h.writes)
 
 -- No refusal of the join is above 14.
 refusals_le : (a b out : List ℕ) → join_refusal a b out ≤ 14

@@ -1,6 +1,6 @@
 // What stands before the rules: signals, clocks, locations and counts.
 ghost use Rattle.std.specs.Prelude.{◌≡◌, ◌+◌, ◌*◌, ◌≤◌, ◌<◌, ◌^◌, length};
-ghost use Rattle.join.specs.Entry.{same_tags, same_signals, said};
+ghost use Rattle.join.specs.Entry.{same_signals, said};
 ghost use Rattle.pairing.specs.Join.{left_at};
 ghost use Rattle.join.specs.JoinBytes.{LayoutOf, PartsReady, limits, clocks_part, left_part, places_part, counts_from, counts_length};
 ghost use Rattle.laying.specs.Lay.{LaidAt};
@@ -10,22 +10,6 @@ use policy::limits::{CLOCKS, LOCATIONS, STATES};
 use policy::{Layout, may_rest};
 
 // The same tags in the same order.
-fn same_tags(a: &[u8], b: &[u8]) -> bool
-    ensures { result ≡ same_tags a.now b.now }
-{
-    if a.len() != b.len() {
-        return false;
-    }
-    let mut i = 0;
-    while i < a.len() {
-        if a[i] != b[i] {
-            return false;
-        }
-        i += 1;
-    }
-    true
-}
-
 pub(crate) fn same_signals(a: &[u8], first: Layout, b: &[u8], second: Layout) -> bool
     requires { LayoutOf a.now first × LayoutOf b.now second }
     ensures { result ≡ same_signals (said a.now) (said b.now) }
@@ -34,10 +18,7 @@ pub(crate) fn same_signals(a: &[u8], first: Layout, b: &[u8], second: Layout) ->
     let b_end = 1 + second.inputs;
     let a_last = a_end + 1 + first.outputs;
     let b_last = b_end + 1 + second.outputs;
-    if !same_tags(&a[1..a_end], &b[1..b_end]) {
-        return false;
-    }
-    same_tags(&a[a_end + 1..a_last], &b[b_end + 1..b_last])
+    a[1..a_end] == b[1..b_end] && a[a_end + 1..a_last] == b[b_end + 1..b_last]
 }
 
 // The join has at most 64 locations, 4 clocks and 65,536 states.
@@ -102,12 +83,9 @@ fn lay_left(a: &[u8], first: Layout, b: &[u8], second: Layout, out: &mut [u8], a
     requires { PartsReady a.now first b.now second × (at < 2 ^ 18) }
     ensures { LaidAt (left_part a.now first b.now second) out.old at out.new result }
 {
-    let locations = first.locations * second.locations;
     let mut next = at;
-    let mut location = 0;
-    while location < locations {
+    for location in 0..first.locations * second.locations {
         next = put(left_at(a, first, b, second, location), out, next);
-        location += 1;
     }
     next
 }

@@ -7,19 +7,14 @@ ghost use Rattle.std.specs.Prelude.{◌≡◌, ◌+◌, ◌≤◌, ◌<◌, ◌^
 ghost use Rattle.join.specs.Entry.{joined_file, written_over};
 ghost use Rattle.join.specs.JoinBytes.{LayoutOf, PartsReady, joined_count, joined_rules, counts_length};
 ghost use Rattle.laying.specs.Lay.{LaidAt};
+ghost use Rattle.refusals.specs.Refused.{told};
 ghost use Rattle.join.specs.Promise.{JoinPromise};
 
 use counts::{counts_length, lay_counts, same_signals, within_limits};
 use pairing::lay_rules;
 use policy::limits::RULES;
-use policy::{Layout, check};
-
-// The length written, or the refusal's number.
-#[derive(Clone, Copy)]
-pub enum Joined {
-    Length(usize),
-    Refused(u8),
-}
+use policy::{Layout, layout_of};
+use refusals::Refusal;
 
 // The rules of the join of two checked files, from the slice's start on.
 fn lay_joined(a: &[u8], first: Layout, b: &[u8], second: Layout, out: &mut [u8]) -> usize
@@ -66,51 +61,53 @@ fn write_joined(
     start + lay_joined(a, first, b, second, &mut out[start..])
 }
 
-// 13 where there are too many rules, 14 where the slice is too short; otherwise the join is written.
-fn join_within(a: &[u8], first: Layout, b: &[u8], second: Layout, out: &mut [u8]) -> Joined
+// LargeJoin where there are too many rules, NoRoom where the slice is too short; otherwise the join is written.
+fn join_within(
+    a: &[u8],
+    first: Layout,
+    b: &[u8],
+    second: Layout,
+    out: &mut [u8],
+) -> Result<usize, Refusal>
     requires { PartsReady a.now first b.now second }
-    ensures { JoinPromise a.now b.now out.old result out.new }
+    ensures { JoinPromise a.now b.now out.old (told result) out.new }
 {
     let laid = rules_length(a, first, b, second, out);
     let rules = laid / (7 + 4 * (first.clocks + second.clocks));
     if RULES < rules {
-        return Joined::Refused(13);
+        return Err(Refusal::LargeJoin);
     }
     if out.len() < counts_length(first, second) + laid {
-        return Joined::Refused(14);
+        return Err(Refusal::NoRoom);
     }
-    Joined::Length(write_joined(a, first, b, second, rules, out))
+    Ok(write_joined(a, first, b, second, rules, out))
 }
 
-// The two files are checked already: 12, 13, 14, or the join.
-fn join_checked(a: &[u8], first: Layout, b: &[u8], second: Layout, out: &mut [u8]) -> Joined
+// The two files are checked already: OtherTags, LargeJoin, NoRoom, or the join.
+fn join_checked(
+    a: &[u8],
+    first: Layout,
+    b: &[u8],
+    second: Layout,
+    out: &mut [u8],
+) -> Result<usize, Refusal>
     requires { LayoutOf a.now first × LayoutOf b.now second }
-    ensures { JoinPromise a.now b.now out.old result out.new }
+    ensures { JoinPromise a.now b.now out.old (told result) out.new }
 {
     if !same_signals(a, first, b, second) {
-        return Joined::Refused(12);
+        return Err(Refusal::OtherTags);
     }
     if !within_limits(first, second) {
-        return Joined::Refused(13);
+        return Err(Refusal::LargeJoin);
     }
     join_within(a, first, b, second, out)
 }
 
-// A by 1 to 9, B likewise, then 12, 13, 14. A refusal writes nothing, and bytes past the written part stay.
-pub fn join(a: &[u8], b: &[u8], out: &mut [u8]) -> Joined
-    ensures { JoinPromise a.now b.now out.old result out.new }
+// How long the join is. A's refusal comes first, then B's, then OtherTags, LargeJoin, NoRoom. A refusal writes nothing, and bytes past the written part stay.
+pub fn join(a: &[u8], b: &[u8], out: &mut [u8]) -> Result<usize, Refusal>
+    ensures { JoinPromise a.now b.now out.old (told result) out.new }
 {
-    let checked = check(a);
-    let refusal = checked.refusal;
-    if refusal != 0 {
-        return Joined::Refused(refusal);
-    }
-    let other = check(b);
-    let other_refusal = other.refusal;
-    if other_refusal != 0 {
-        return Joined::Refused(other_refusal);
-    }
-    let first = checked.layout;
-    let second = other.layout;
+    let first = layout_of(a)?;
+    let second = layout_of(b)?;
     join_checked(a, first, b, second, out)
 }

@@ -3,8 +3,6 @@ ghost use Rattle.std.specs.Prelude.{[], ◌∷◌, ◌+◌, ◌≤◌, ◌<◌, 
 ghost use Rattle.policy.specs.Bytes.{pair_bytes};
 ghost use Rattle.laying.specs.Lay.{LaidAt, bytes_from, either_from};
 
-use policy::bytes::byte_within;
-
 pub fn put(byte: usize, out: &mut [u8], at: usize) -> usize
     requires { (byte < 256) × (at < 2 ^ 32) }
     ensures { LaidAt (byte ∷ []) out.old at out.new result }
@@ -30,10 +28,8 @@ pub fn copy(from: &[u8], start: usize, n: usize, out: &mut [u8], at: usize) -> u
     ensures { LaidAt (bytes_from from.now start n) out.old at out.new result }
 {
     let mut next = at;
-    let mut i = 0;
-    while i < n {
-        next = put(byte_within(from, start + i), out, next);
-        i += 1;
+    for byte in &from[start..start + n] {
+        next = put(*byte as usize, out, next);
     }
     next
 }
@@ -52,10 +48,8 @@ pub fn put_either(
     ensures { LaidAt (either_from a.now p b.now q n) out.old at out.new result }
 {
     let mut next = at;
-    let mut i = 0;
-    while i < n {
-        next = put(byte_within(a, p + i) | byte_within(b, q + i), out, next);
-        i += 1;
+    for (first, second) in a[p..p + n].iter().zip(&b[q..q + n]) {
+        next = put((first | second) as usize, out, next);
     }
     next
 }

@@ -1,13 +1,11 @@
--- What a rule takes of the events, by its bytes.
+-- Whether a rule of the state's location holds, by its bytes.
 use mathlib.Core.Path.{◌≡◌, ap, ◌∙◌, sym, subst}
-use mathlib.Core.Bool.{Bool, true, false}
+use mathlib.Core.Bool.{Bool}
 use mathlib.Core.List.{List}
 use Prim.Native.Nat.{ℕ, ◌+◌}
-use lib.Dec.{eqb}
-use lib.Bits.{bit_and}
 use lib.ListN.{take}
 use borrow.Author.Tests.{eq-eqb}
-use Rattle.policy.specs.Rules.{Rule, Place, stopped, hold, looked}
+use Rattle.policy.specs.Rules.{Place, stopped, hold, looked}
 use Rattle.policy.specs.File.{bounds_from, rule_from, policy_of}
 use Rattle.policy.specs.declared.Layout.{Layout}
 use Rattle.stepping.specs.State.{place}
@@ -15,9 +13,7 @@ use Rattle.stepping.specs.Ready.{Laid, HereOf}
 use Rattle.stepping.specs.Laid.{here_seen}
 use Rattle.stepping.specs.declared.state.State.{State}
 use Rattle.stepping.specs.declared.here.Here.{Here}
-use Rattle.choice.specs.Sets.{cond_same}
-use Rattle.stepping.specs.Ways.{holds, takes}
-use Rattle.choice.specs.Outs.{outs}
+use Rattle.stepping.specs.Ways.{holds}
 use Rattle.stepping.specs.RuleAhead.{RuleAt}
 
 -- A location's own rule holds if its bounds do.
@@ -33,17 +29,3 @@ pub rule_seen : {f : List ℕ} {l : Layout} → Laid f l → {h : Here} → Here
 rule_seen {f} {l} k {h} o {at} r b e =
     ap (λ (z : Place). holds z (rule_from l.clocks f at)) (sym (here_seen k o))
     ∙ rule_holds h.seen (subst (λ (a : ℕ). RuleAt f l a at) (sym (ap (λ (z : Place). z.location) (here_seen k o))) r) b e
-
--- What a rule takes, by the tests of the code.
-module _ (s : Place) (r : Rule) (x left : ℕ) where
-  pub takes_care : eqb (bit_and x r.in_care) r.in_value ≡ false → takes s r x left ≡ 0
-  unfolding takes
-  takes_care e = rw e (cond_same (holds s r) 0)
-
-  pub takes_bounds : holds s r ≡ false → takes s r x left ≡ 0
-  unfolding takes
-  takes_bounds e = rw e
-
-  pub takes_both : holds s r ≡ true → eqb (bit_and x r.in_care) r.in_value ≡ true → takes s r x left ≡ bit_and left (outs r.out_care r.out_value)
-  unfolding takes
-  takes_both e d = rw (e, d)

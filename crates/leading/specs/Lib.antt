@@ -1,1 +1,2 @@
 pub mod Rowing
+pub mod Shared

@@ -7,7 +7,7 @@ mod reach;
 mod share;
 mod start;
 
-pub use lead::{To, held, lead_of, next_of};
+pub use lead::{held, lead_of, next_of};
 pub use pass::{allowed, goes_on, may_stand, row};
 pub use reach::{input_reaches, reaches, values};
 pub use share::{Share, part_of, take_by, way_by};

@@ -10,7 +10,7 @@ ghost use Rattle.stepping.specs.Decided.{rule_said, Stands};
 
 use crate::lead::leads;
 use policy::Layout;
-use stepping::{DecidedBy, Here, State, rule_of};
+use stepping::{Here, State, rule_of};
 
 // How many values so many signals have, one bit a signal.
 pub fn values(signals: usize) -> usize
@@ -21,17 +21,18 @@ pub fn values(signals: usize) -> usize
 }
 
 // The rule that decides leads to a marked state. No such rule leads nowhere.
-fn leads_by(file: &[u8], layout: Layout, marks: &[u8], state: State, rule: DecidedBy) -> bool
+fn leads_by(file: &[u8], layout: Layout, marks: &[u8], state: State, rule: Option<usize>) -> bool
     requires { Standing file.now layout marks.now state × Stands file.now layout state.location rule }
     ensures { result ≡ arrives (policy_of layout.reading file.now) marks.now (bind (rule_said layout.clocks file.now rule) (taken stopped (policy_of layout.reading file.now) (place layout.clocks state))) }
 {
     match rule {
-        DecidedBy::Nothing => false,
-        DecidedBy::At(at) => leads(file, layout, marks, state, at),
+        None => false,
+        Some(at) => leads(file, layout, marks, state, at),
     }
 }
 
 // The event x, y takes the state to a marked one.
+#[tactic(auto, using(stepping::proofs::DecidedLaws::decided_reaches))]
 pub fn reaches(file: &[u8], layout: Layout, here: Here, marks: &[u8], x: u8, y: u8) -> bool
     requires { Ready file.now layout here marks.now }
     ensures { result ≡ reaches (policy_of layout.reading file.now) marks.now (place layout.clocks here.state) x y }
@@ -41,6 +42,7 @@ pub fn reaches(file: &[u8], layout: Layout, here: Here, marks: &[u8], x: u8, y: 
 }
 
 // The event 0, 0 takes the state to a marked one. Only prepare asks this, so that the compiler lays it into the loop over the states.
+#[tactic(auto, using(stepping::proofs::DecidedLaws::decided_reaches))]
 pub(crate) fn idles(file: &[u8], layout: Layout, here: Here, marks: &[u8]) -> bool
     requires { Ready file.now layout here marks.now }
     ensures { result ≡ reaches (policy_of layout.reading file.now) marks.now (place layout.clocks here.state) 0 0 }
@@ -50,6 +52,7 @@ pub(crate) fn idles(file: &[u8], layout: Layout, here: Here, marks: &[u8]) -> bo
 }
 
 // The event x, 0 takes the state to a marked one. Only the input half asks this, so that the compiler lays it into the half.
+#[tactic(auto, using(stepping::proofs::DecidedLaws::decided_reaches))]
 pub fn input_reaches(file: &[u8], layout: Layout, here: Here, marks: &[u8], x: u8) -> bool
     requires { Ready file.now layout here marks.now }
     ensures { result ≡ reaches (policy_of layout.reading file.now) marks.now (place layout.clocks here.state) x 0 }

@@ -7,7 +7,7 @@ use Prim.Native.Nat.{ℕ, zero, suc, ◌+◌, ◌*◌, ◌/◌, ◌%◌, ◌^◌
 use Rattle.std.proofs.Math.Dec.{leb}
 use Rattle.std.proofs.Math.ListN.{length, take, drop}
 use borrow.Author.Tests.{le-leb}
-use Rattle.streams.specs.Answer.{refused, answer, ◌or_else◌, unless}
+use Rattle.streams.specs.Answer.{refused, gives, answer, ◌or_else◌, unless}
 use Rattle.streams.specs.AnswerLaws.{given_only}
 use Rattle.policy.specs.File.{pair_at, policy_of}
 use Rattle.policy.specs.Check.{refusal_under}
@@ -21,7 +21,6 @@ use Rattle.cleaning.specs.Entry.{struck_of, cleaned_file, struck_list, short_ref
 use Rattle.cleaning.specs.Promise.{CleanPromise}
 use Rattle.cleaning.specs.Sizes.{room}
 use Rattle.cleaning.specs.declared.Lengths.{Lengths}
-use Rattle.cleaning.specs.declared.Cleaned.TheVariants as Cleaned
 use Rattle.printing.specs.Text.{refused_line, unless_refused}
 use Rattle.listing.specs.Listed.{entry_line, lines, bytes_lines, left_line, none_refused, written, printed}
 
@@ -93,7 +92,7 @@ module _ (reading : ℕ) (file out list : List ℕ) (room_out : length out ≡ 5
           rw (le-leb (length (cleaned_file reading file)) (length out) (omega (arith, m.policy, longest file (frame file passed))), le-leb (length (struck_list reading file)) (length list) (omega (arith, m.list)))
 
   -- Clean refuses.
-  pub refused_way : {n : ℕ} {out_after list_after : List ℕ} → CleanPromise reading file out list (Cleaned.Refused n) out_after list_after →
+  pub refused_way : {n : ℕ} {out_after list_after : List ℕ} → CleanPromise reading file out list (refused n) out_after list_after →
       (printed reading file ≡ refused_line n) × (written reading file ≡ []) × (out_after ≡ out)
   unfolding printed written clean_of cleaned_out
   refused_way {n} {out_after} h = rw (← roomy) (go (clean_refusal reading file out list) _ h.said h.cleaned)
@@ -113,7 +112,7 @@ module _ (reading : ℕ) (file out list : List ℕ) (room_out : length out ≡ 5
     pub says : printed reading file ≡ bytes_lines (take l.struck list_after) ++ left_line l.cleaned
 
   -- Clean gives lengths: this is what is written and printed.
-  pub given_way : {l : Lengths} {out_after list_after : List ℕ} → CleanPromise reading file out list (Cleaned.Gives l) out_after list_after → GoesOut l out_after list_after
+  pub given_way : {l : Lengths} {out_after list_after : List ℕ} → CleanPromise reading file out list (gives l) out_after list_after → GoesOut l out_after list_after
   unfolding printed written clean_of cleaned_out struck_out struck_list
   given_way {l} {out_after} {list_after} h =
       let k = given_only (clean_refusal reading file out list) _ l (sym h.said) in

@@ -8,7 +8,7 @@ ghost use Rattle.printing.specs.Reply.{Replied};
 ghost use Rattle.listing.specs.Listed.{written, printed};
 
 use crate::lines::{put_left, put_list};
-use cleaning::{Cleaned, clean};
+use cleaning::clean;
 use policy::limits::{FILE, LOCATIONS, RULES};
 use printing::put_refused;
 
@@ -30,11 +30,11 @@ fn reply(reading: u8, file: &[u8], cleaned: &mut [u8], list: &mut [u8], text: &m
     ensures replied_2 { Replied text.old (printed reading file.now) result.text text.new }
 {
     match clean(reading, file, cleaned, list) {
-        Cleaned::Refused(n) => Outcome {
+        Err(refusal) => Outcome {
             cleaned: 0,
-            text: put_refused(text, 0, n),
+            text: put_refused(text, 0, u8::from(refusal)),
         },
-        Cleaned::Gives(lengths) => {
+        Ok(lengths) => {
             let left = lengths.cleaned;
             let struck = lengths.struck;
             let next = put_list(text, 0, &list[..struck]);

@@ -39,6 +39,7 @@ pub(crate) fn put_list(text: &mut [u8], at: usize, list: &[u8]) -> usize
 {
     let mut next = at;
     let mut i = 0;
+    // A `while`: an entry is three bytes, and a step of three gets no measure in a `for`.
     while i + 2 < list.len() {
         next = put_entry(text, next, list[i], pair_at(list, i + 1));
         i += 3;

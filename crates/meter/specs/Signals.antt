@@ -1,5 +1,5 @@
 -- 26, found by the weights of the two signals in the bytes as they are. In a policy file these are the weights of the policy's own.
-use Rattle.std.specs.Prelude.{◌≡◌, ℕ, zero, suc, false, ◌&&◌, ◌⊎◌, List, ◌≢◌}
+use Rattle.std.specs.Prelude.{◌≡◌, ℕ, zero, suc, false, ◌&&◌, ◌⊎◌, List, ◌≢◌, Option, MatchOption}
 use Rattle.std.proofs.Math.Path.{refl}
 use Rattle.std.proofs.Common.{sym, ◌∙◌}
 use Rattle.std.proofs.Math.Bool.{and-false}
@@ -17,6 +17,10 @@ signals_in f = record { pulse = input_weight f tag_p; dispense = output_weight f
 -- P is no input or D is no output.
 abbrev pub Lacks : List ℕ → Type 0
 Lacks f = (input_weight f tag_p ≡ 0) ⊎ (output_weight f tag_d ≡ 0)
+
+-- What the code finds: both weights, or that one of them is 0.
+abbrev pub Found : List ℕ → Option Signals → Type 0
+Found f o = MatchOption o (Lacks f) (λ s. (s ≡ signals_in f) × (input_weight f tag_p ≢ 0) × (output_weight f tag_d ≢ 0))
 
 module _ (reading : ℕ) (f : List ℕ) where
   -- Without P or D the refusal is that of the file, or else 26.

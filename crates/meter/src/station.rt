@@ -13,7 +13,7 @@ pub(crate) const STATION: usize = STATE_NUMBERS + 1;
 pub(crate) const TOTALS: usize = 2;
 
 // The largest that a total can be.
-const MOST: u32 = 4294967295;
+const MOST: u32 = u32::MAX;
 
 pub(crate) fn station_state(station: &[u16]) -> State
     requires { 6 ≤ length station.now }
@@ -42,14 +42,14 @@ pub(crate) fn clear_totals(totals: &mut [u32])
 pub(crate) fn pulses(register: u16, last: u16) -> u16
     ensures { result ≡ pulses_of register last }
 {
-    std::num::wrapping_sub_u16(register, last)
+    register.wrapping_sub(last)
 }
 
 // A total stays within its limit with the pulses.
 fn fits_in(total: u32, pulses: u16) -> bool
     ensures { result ≡ nat_le (total + pulses) 4294967295 }
 {
-    pulses as u32 <= MOST - total
+    u32::from(pulses) <= MOST - total
 }
 
 // The total that the pulses would go into stays within its limit.
@@ -68,8 +68,8 @@ pub(crate) fn add_pulses(totals: &mut [u32], billed: bool, pulses: u16)
     ensures { totals.new ≡ risen totals.old billed pulses }
 {
     if billed {
-        totals[0] = totals[0] + pulses as u32;
+        totals[0] += u32::from(pulses);
     } else {
-        totals[1] = totals[1] + pulses as u32;
+        totals[1] += u32::from(pulses);
     }
 }

@@ -1,49 +1,21 @@
 -- A rule's end, and its bytes, by what the code has of it.
 -- In order: whether a rule may end; one bound; the bounds from a clock on; their bytes; the whole rule.
-use Rattle.std.specs.Prelude.{◌≡◌, refl, Bool, true, false, ◌&&◌, List, [], ◌∷◌, ◌++◌, ltb, eqb, length, get_or, take, drop}
+use Rattle.std.specs.Prelude.{◌≡◌, refl, Bool, true, false, ◌&&◌, List, [], ◌∷◌, ◌++◌, eqb, length, get_or, take, drop}
 use Rattle.std.proofs.Common.{◌∙◌, mod-lt, div-le_self}
-use Prim.Native.Nat.{ℕ, zero, suc, ◌+◌, ◌-◌, ◌/◌, ◌%◌, ◌^◌, ◌≤◌, ◌<◌}
+use Prim.Native.Nat.{ℕ, suc, ◌+◌, ◌-◌, ◌/◌, ◌%◌, ◌^◌, ◌≤◌, ◌<◌}
 use native.Mathlib.Omega.{arith}
 use Rattle.std.proofs.Math.Seq.{drop-cons}
 use borrow.Author.Tests.{lt-ltb, le-ltb, le-leb, lt-leb}
 use Rattle.policy.specs.Rules.{Bound, Rule}
 use Rattle.policy.specs.Check.{bound_good, bounds_good}
 use Rattle.policy.specs.Bytes.{bounds_bytes, rule_bytes}
-use Rattle.wording.specs.Reader.{Begun, Draft, ends, rule_of}
-use Rattle.conditions.specs.Steps.{bounds_of, begun_of, part_of}
+use Rattle.wording.specs.Reader.{Begun, Draft, rule_of}
+use Rattle.conditions.specs.Steps.{bounds_of, begun_of}
 use Rattle.conditions.specs.declared.steps.Parsed.{Parsed}
 
 -- A bound from its low and its high.
 abbrev pub bound_of : ℕ → ℕ → Bound
 bound_of low high = record { low = low; high = high }
-
--- Whether it may end.
-pub ends_gone : (b : Begun) (p k : ℕ) → p ≡ 7 → true ≡ ends b (part_of p k)
-ends_gone b p k e = rw e
-
--- A rule may not end before its target is said.
-pub ends_not : (b : Begun) (p k : ℕ) → (p ≡ 7 → ⊥) → p < 8 → false ≡ ends b (part_of p k)
-ends_not b zero k e h = refl
-ends_not b (suc zero) k e h = refl
-ends_not b (suc (suc zero)) k e h = refl
-ends_not b (suc (suc (suc zero))) k e h = refl
-ends_not b (suc (suc (suc (suc zero)))) k e h = refl
-ends_not b (suc (suc (suc (suc (suc zero))))) k e h = refl
-ends_not b (suc (suc (suc (suc (suc (suc zero)))))) k e h = refl
-ends_not b (suc (suc (suc (suc (suc (suc (suc zero))))))) k e h = absurd (e refl)
-ends_not b (suc (suc (suc (suc (suc (suc (suc (suc p)))))))) k e h = absurd (omega arith)
-
--- After `reset` a rule may end as soon as a clock is named.
-pub ends_clears : (b : Begun) (p k : ℕ) → 8 ≤ p → ltb 0 b.reset ≡ ends b (part_of p k)
-ends_clears b zero k h = absurd (omega arith)
-ends_clears b (suc zero) k h = absurd (omega arith)
-ends_clears b (suc (suc zero)) k h = absurd (omega arith)
-ends_clears b (suc (suc (suc zero))) k h = absurd (omega arith)
-ends_clears b (suc (suc (suc (suc zero)))) k h = absurd (omega arith)
-ends_clears b (suc (suc (suc (suc (suc zero))))) k h = absurd (omega arith)
-ends_clears b (suc (suc (suc (suc (suc (suc zero)))))) k h = absurd (omega arith)
-ends_clears b (suc (suc (suc (suc (suc (suc (suc zero))))))) k h = absurd (omega arith)
-ends_clears b (suc (suc (suc (suc (suc (suc (suc (suc p)))))))) k h = refl
 
 -- One bound.
 module _ (c low high : ℕ) where

@@ -1,16 +1,16 @@
 -- A rule's words, one after another, by what the code has of it.
-use Rattle.std.specs.Prelude.{◌≡◌, refl, List, [], ◌∷◌, ℕ, zero, suc, ◌-◌, ◌≤◌, ◌<◌, length, take, drop, replicate}
+use Rattle.std.specs.Prelude.{◌≡◌, refl, List, [], ◌∷◌, ℕ, zero, suc, ◌-◌, ◌≤◌, ◌<◌, length, take, drop, replicate, Result, Ok}
 use Rattle.std.proofs.Math.Path.{ap}
-use Rattle.std.proofs.Common.{sym, ◌∙◌, arith, drop_of_length-le}
+use Rattle.std.proofs.Common.{arith, drop_of_length-le}
 use borrow.Author.Tests.{lt-ltb, le-ltb}
-use Rattle.streams.specs.Answer.{Answer, gives, answer}
+use Rattle.streams.specs.Answer.{Answer, gives}
 use Rattle.wording.specs.Words.{words_of}
 use Rattle.wording.specs.Names.{◌and_then◌, through}
 use Rattle.words.specs.Lex.{Next}
 use Rattle.wording.specs.Reader.{Scope, Begun, no_bound, bare, word_at, rule_word}
-use Rattle.conditions.specs.Steps.{bounds_of, begun_of, step_said, part_of}
+use Rattle.conditions.specs.Steps.{bounds_of, begun_of, parse_said, part_of}
 use Rattle.conditions.specs.declared.steps.Parsed.{Parsed}
-use Rattle.conditions.specs.declared.steps.Step.{Step}
+use Rattle.refusals.specs.declared.Refusal.{Refusal}
 
 -- Before the first word.
 pub no_bounds : (n : ℕ) → n ≤ 4 → bounds_of n (0 ∷ 0 ∷ 0 ∷ 0 ∷ []) (65535 ∷ 65535 ∷ 65535 ∷ 65535 ∷ []) ≡ replicate n no_bound
@@ -44,21 +44,14 @@ module _ (s : Scope) (n : ℕ) (l : List ℕ) where
     unfolding from_there through
     from_none h = rw (next.words, le-ltb start end h)
 
-    module _ (step : Step) (h : start < end)
-        (e : step_said n step ≡ word_at s (begun_of n p) (part_of p.part p.clock) (take (end - start) (drop start l))) where
-      here : from_there at p ≡ step_said n step and_then λ t. through (rule_word s) t (words_of (drop end l))
+    module _ (step : Result Parsed Refusal) (h : start < end)
+        (e : parse_said n step ≡ word_at s (begun_of n p) (part_of p.part p.clock) (take (end - start) (drop start l))) where
+      -- The next word's refusal is the answer; else the answer is that to the words after it.
+      pub from_word : from_there at p ≡ parse_said n step and_then λ t. through (rule_word s) t (words_of (drop end l))
       unfolding from_there through
-      here = rw (next.words, lt-ltb start end h, e)
+      from_word = rw (next.words, lt-ltb start end h, e)
 
-      refusing : (r : ℕ) (b : Begun) (go : Begun → Answer Begun) → (r ≡ 0 → ⊥) → answer r b ≡ answer r b and_then go
-      refusing zero b go z = absurd (z refl)
-      refusing (suc r) b go z = refl
-
-      -- The next word is refused, and that is the answer.
-      pub from_refused : (step.refusal ≡ 0 → ⊥) → step_said n step ≡ from_there at p
-      from_refused z = refusing step.refusal (begun_of n step.parsed) (λ t. through (rule_word s) t (words_of (drop end l))) z ∙ sym here
-
-      -- The next word is taken, and the answer is that to the words after it.
-      pub from_on : step.refusal ≡ 0 → from_there at p ≡ from_there end step.parsed
-      unfolding from_there
-      from_on z = here ∙ ap (λ (r : ℕ). answer r (begun_of n step.parsed) and_then λ t. through (rule_word s) t (words_of (drop end l))) z
+    -- The next word is taken, and the answer is that to the words after it.
+    pub from_on : (q : Parsed) → start < end → parse_said n (Ok q) ≡ word_at s (begun_of n p) (part_of p.part p.clock) (take (end - start) (drop start l)) → from_there at p ≡ from_there end q
+    unfolding from_there
+    from_on q h e = from_word (Ok q) h e

@@ -1,104 +1,73 @@
 // What a word does in each part of a rule that asks no name of a signal.
-ghost use Rattle.std.specs.Prelude.{◌≡◌, ℕ, ◌≤◌, ◌<◌};
+ghost use Rattle.std.specs.Prelude.{◌≡◌, ℕ, ◌≤◌, ◌<◌, IfOk};
 ghost use Rattle.wording.specs.Names.{find, known};
 ghost use Rattle.words.specs.Spans.{spans, NamesIn};
 ghost use Rattle.wording.specs.Reader.{Scope, arrow, sign, at_least, at_most, gone, on_reset, word_at};
-ghost use Rattle.conditions.specs.Steps.{begun_of, step_said, Masked};
+ghost use Rattle.conditions.specs.Steps.{begun_of, parse_said, Masked};
 
 use conditions::conditions::turned;
-use conditions::steps::{Parsed, Step, on_at_least, on_at_most, on_reset};
-use words::keywords::keyword;
-use words::names::{CLOCK_NAMES, find_name};
-use words::numbers::number_of;
+use conditions::steps::{Parsed, Part, on_at_least, on_at_most, on_reset};
+use refusals::Refusal;
+use words::names::{CLOCK_NAMES, which_name};
+use words::numbers::read_number;
 
 // The arrow after `any`.
-pub fn on_arrow(word: &[u8], parsed: Parsed) -> Step
+pub fn on_arrow(word: &[u8], parsed: Parsed) -> Result<Parsed, Refusal>
     requires { Masked parsed }
-    ensures { ((n : ℕ) (d : Scope) → step_said n result ≡ word_at d (begun_of n parsed) arrow word.now) × Masked result.parsed }
+    ensures said { (n : ℕ) (d : Scope) → parse_said n result ≡ word_at d (begun_of n parsed) arrow word.now }
+    ensures masked { IfOk result Masked }
 {
-    if keyword(word) == 6 {
-        return Step {
-            refusal: 0,
-            parsed: turned(parsed, 6, 0),
-        };
+    if word == b"->".as_slice() {
+        return Ok(turned(parsed, Part::Goes, 0));
     }
-    Step {
-        refusal: 30,
-        parsed,
-    }
+    Err(Refusal::BadForm)
 }
 
 // The sign after a clock's name.
-pub fn on_sign(word: &[u8], parsed: Parsed, k: usize) -> Step
+pub fn on_sign(word: &[u8], parsed: Parsed, k: usize) -> Result<Parsed, Refusal>
     requires { (k < 4) × Masked parsed }
-    ensures { ((n : ℕ) (d : Scope) → step_said n result ≡ word_at d (begun_of n parsed) (sign k) word.now) × Masked result.parsed }
+    ensures said { (n : ℕ) (d : Scope) → parse_said n result ≡ word_at d (begun_of n parsed) (sign k) word.now }
+    ensures masked { IfOk result Masked }
 {
-    let r = keyword(word);
-    if r == 12 {
-        return Step {
-            refusal: 0,
-            parsed: turned(parsed, 4, k),
-        };
+    if word == b">=".as_slice() {
+        return Ok(turned(parsed, Part::AtLeast, k));
     }
-    if r == 13 {
-        return Step {
-            refusal: 0,
-            parsed: turned(parsed, 5, k),
-        };
+    if word == b"<=".as_slice() {
+        return Ok(turned(parsed, Part::AtMost, k));
     }
-    Step {
-        refusal: 30,
-        parsed,
-    }
+    Err(Refusal::BadForm)
 }
 
 // The number after `>=`.
-pub fn on_low(word: &[u8], parsed: Parsed, k: usize) -> Step
+pub fn on_low(word: &[u8], parsed: Parsed, k: usize) -> Result<Parsed, Refusal>
     requires { (k < 4) × Masked parsed }
-    ensures { ((n : ℕ) (d : Scope) → step_said n result ≡ word_at d (begun_of n parsed) (at_least k) word.now) × Masked result.parsed }
+    ensures said { (n : ℕ) (d : Scope) → parse_said n result ≡ word_at d (begun_of n parsed) (at_least k) word.now }
+    ensures masked { IfOk result Masked }
 {
-    let number = number_of(word);
-    let refusal = number.refusal;
-    if refusal != 0 {
-        return Step { refusal, parsed };
-    }
-    Step {
-        refusal: 0,
-        parsed: on_at_least(parsed, k, number.value),
-    }
+    let number = read_number(word)?;
+    Ok(on_at_least(parsed, k, number))
 }
 
 // The number after `<=`.
-pub fn on_high(word: &[u8], parsed: Parsed, k: usize) -> Step
+pub fn on_high(word: &[u8], parsed: Parsed, k: usize) -> Result<Parsed, Refusal>
     requires { (k < 4) × Masked parsed }
-    ensures { ((n : ℕ) (d : Scope) → step_said n result ≡ word_at d (begun_of n parsed) (at_most k) word.now) × Masked result.parsed }
+    ensures said { (n : ℕ) (d : Scope) → parse_said n result ≡ word_at d (begun_of n parsed) (at_most k) word.now }
+    ensures masked { IfOk result Masked }
 {
-    let number = number_of(word);
-    let refusal = number.refusal;
-    if refusal != 0 {
-        return Step { refusal, parsed };
-    }
-    Step {
-        refusal: 0,
-        parsed: on_at_most(parsed, k, number.value),
-    }
+    let number = read_number(word)?;
+    Ok(on_at_most(parsed, k, number))
 }
 
 // What follows a target: nothing, or `reset`.
-pub fn on_gone(word: &[u8], parsed: Parsed) -> Step
+pub fn on_gone(word: &[u8], parsed: Parsed) -> Result<Parsed, Refusal>
     requires { Masked parsed }
-    ensures { ((n : ℕ) (d : Scope) → step_said n result ≡ word_at d (begun_of n parsed) gone word.now) × Masked result.parsed }
+    ensures said { (n : ℕ) (d : Scope) → parse_said n result ≡ word_at d (begun_of n parsed) gone word.now }
+    ensures masked { IfOk result Masked }
 {
-    if keyword(word) == 8 {
-        return Step {
-            refusal: 0,
-            parsed: turned(parsed, 8, 0),
-        };
+    if word == b"reset".as_slice() {
+        return Ok(turned(parsed, Part::Clears, 0));
     }
-    Step {
-        refusal: 30,
-        parsed,
-    }
+    Err(Refusal::BadForm)
 }
 
 // A clock that is reset.
@@ -109,16 +78,13 @@ pub fn on_clear(
     clocks: usize,
     word: &[u8],
     parsed: Parsed,
-) -> Step
+) -> Result<Parsed, Refusal>
     requires { (clocks ≤ 4) × NamesIn 76 text.now starts.now lengths.now × Masked parsed }
-    ensures { ((n : ℕ) → step_said n result ≡ known (find 0 word.now (spans text.now starts.now lengths.now 8 clocks)) (on_reset (begun_of n parsed))) × Masked result.parsed }
+    ensures said { (n : ℕ) → parse_said n result ≡ known (find 0 word.now (spans text.now starts.now lengths.now 8 clocks)) (on_reset (begun_of n parsed)) }
+    ensures masked { IfOk result Masked }
 {
-    let k = find_name(text, starts, lengths, CLOCK_NAMES, clocks, word);
-    if k < clocks {
-        return on_reset(parsed, k);
-    }
-    Step {
-        refusal: 31,
-        parsed,
+    match which_name(text, starts, lengths, CLOCK_NAMES, clocks, word) {
+        Some(clock) => on_reset(parsed, clock),
+        None => Err(Refusal::BadName),
     }
 }

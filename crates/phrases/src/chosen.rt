@@ -1,13 +1,14 @@
 // One word more of a rule, by the part that it stands in.
-ghost use Rattle.std.specs.Prelude.{◌≡◌, ℕ, ◌≤◌, length};
+ghost use Rattle.std.specs.Prelude.{◌≡◌, ℕ, ◌≤◌, length, IfOk};
 ghost use Rattle.words.specs.Spans.{NamesIn};
 ghost use Rattle.wording.specs.Reader.{word_at};
-ghost use Rattle.conditions.specs.Steps.{part_of, begun_of, step_said, Masked};
+ghost use Rattle.conditions.specs.Steps.{part_of, begun_of, parse_said, Masked};
 ghost use Rattle.conditions.specs.Conditions.{scope_of};
 
 use crate::arms::{on_arrow, on_clear, on_gone, on_high, on_low, on_sign};
 use crate::ways::{on_goes, on_more, on_opening};
-use conditions::steps::{Parsed, Step};
+use conditions::steps::{Parsed, Part};
+use refusals::Refusal;
 
 pub fn on_word(
     text: &[u8],
@@ -18,35 +19,21 @@ pub fn on_word(
     places: usize,
     word: &[u8],
     parsed: Parsed,
-) -> Step
+) -> Result<Parsed, Refusal>
     requires { (length tags.now ≤ 8) × (clocks ≤ 4) × (places ≤ 64) × NamesIn 76 text.now starts.now lengths.now × Masked parsed }
-    ensures { ((n : ℕ) → step_said n result ≡ word_at (scope_of text.now tags.now starts.now lengths.now clocks places) (begun_of n parsed) (part_of parsed.part parsed.clock) word.now) × Masked result.parsed }
+    ensures said { (n : ℕ) → parse_said n result ≡ word_at (scope_of text.now tags.now starts.now lengths.now clocks places) (begun_of n parsed) (part_of parsed.part parsed.clock) word.now }
+    ensures masked { IfOk result Masked }
 {
-    let part = parsed.part;
     let k = parsed.clock;
-    if part == 0 {
-        return on_opening(text, tags, starts, lengths, clocks, word, parsed);
+    match parsed.part {
+        Part::Opening => on_opening(text, tags, starts, lengths, clocks, word, parsed),
+        Part::More => on_more(text, tags, starts, lengths, clocks, word, parsed),
+        Part::Arrow => on_arrow(word, parsed),
+        Part::Sign => on_sign(word, parsed, k),
+        Part::AtLeast => on_low(word, parsed, k),
+        Part::AtMost => on_high(word, parsed, k),
+        Part::Goes => on_goes(text, starts, lengths, places, word, parsed),
+        Part::Gone => on_gone(word, parsed),
+        Part::Clears => on_clear(text, starts, lengths, clocks, word, parsed),
     }
-    if part == 1 {
-        return on_more(text, tags, starts, lengths, clocks, word, parsed);
-    }
-    if part == 2 {
-        return on_arrow(word, parsed);
-    }
-    if part == 3 {
-        return on_sign(word, parsed, k);
-    }
-    if part == 4 {
-        return on_low(word, parsed, k);
-    }
-    if part == 5 {
-        return on_high(word, parsed, k);
-    }
-    if part == 6 {
-        return on_goes(text, starts, lengths, places, word, parsed);
-    }
-    if part == 7 {
-        return on_gone(word, parsed);
-    }
-    on_clear(text, starts, lengths, clocks, word, parsed)
 }

@@ -26,13 +26,11 @@ fn store_bounds(out: &mut [u8], at: usize, low: [u16; 4], high: [u16; 4], clocks
     ensures { Wrote out.old at (bounds_bytes (bounds_of clocks low high)) result out.new × (result ≡ at + 4 * clocks) }
 {
     let mut next = at;
-    let mut i = 0;
-    while i < clocks {
+    for i in 0..clocks {
         let a = low[i];
         let b = high[i];
         let four = [high_byte(a), low_byte(a), high_byte(b), low_byte(b)];
         next = put_bytes(out, next, &four);
-        i += 1;
     }
     next
 }
@@ -59,7 +57,5 @@ pub fn store_rule(
         parsed.target as u8,
     ];
     let next = put_bytes(out, at, &head);
-    let low = parsed.low;
-    let high = parsed.high;
-    store_bounds(out, next, low, high, clocks)
+    store_bounds(out, next, parsed.low, parsed.high, clocks)
 }

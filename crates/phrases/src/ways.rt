@@ -1,30 +1,23 @@
 // The words of a rule that ask a location, and those that may be conditions.
-ghost use Rattle.std.specs.Prelude.{◌≡◌, ℕ, ◌≤◌, ◌<◌, length};
+ghost use Rattle.std.specs.Prelude.{◌≡◌, ℕ, ◌≤◌, ◌<◌, length, IfOk};
 ghost use Rattle.words.specs.Spans.{spans, NamesIn};
 ghost use Rattle.wording.specs.Reader.{Scope, opening, more, goes, on_target, word_at};
-ghost use Rattle.conditions.specs.Steps.{begun_of, step_said, Masked};
+ghost use Rattle.conditions.specs.Steps.{begun_of, parse_said, Masked};
 ghost use Rattle.conditions.specs.Conditions.{scope_of};
 
 use conditions::conditions::{on_condition, turned};
-use conditions::steps::{Parsed, Step};
-use words::keywords::keyword;
-use words::names::{LOCATION_NAMES, find_name};
+use conditions::steps::{Parsed, Part};
+use refusals::Refusal;
+use words::names::{LOCATION_NAMES, which_name};
 
 fn on_target(parsed: Parsed, target: usize) -> Parsed
     requires { (target < 256) × Masked parsed }
     ensures { ((n : ℕ) → begun_of n result ≡ on_target (begun_of n parsed) target) × Masked result }
 {
-    let low = parsed.low;
-    let high = parsed.high;
     Parsed {
-        part: 7,
-        clock: parsed.clock,
-        care: parsed.care,
-        value: parsed.value,
+        part: Part::Gone,
         target,
-        reset: parsed.reset,
-        low,
-        high,
+        ..parsed
     }
 }
 
@@ -36,26 +29,17 @@ pub fn on_goes(
     places: usize,
     word: &[u8],
     parsed: Parsed,
-) -> Step
+) -> Result<Parsed, Refusal>
     requires { (places ≤ 64) × NamesIn 76 text.now starts.now lengths.now × Masked parsed }
-    ensures { ((n : ℕ) (d : Scope) → d.places ≡ spans text.now starts.now lengths.now 12 places → step_said n result ≡ word_at d (begun_of n parsed) goes word.now) × Masked result.parsed }
+    ensures said { (n : ℕ) (d : Scope) → d.places ≡ spans text.now starts.now lengths.now 12 places → parse_said n result ≡ word_at d (begun_of n parsed) goes word.now }
+    ensures masked { IfOk result Masked }
 {
-    if keyword(word) == 7 {
-        return Step {
-            refusal: 0,
-            parsed: on_target(parsed, 255),
-        };
+    if word == b"violation".as_slice() {
+        return Ok(on_target(parsed, 255));
     }
-    let k = find_name(text, starts, lengths, LOCATION_NAMES, places, word);
-    if k < places {
-        return Step {
-            refusal: 0,
-            parsed: on_target(parsed, k),
-        };
-    }
-    Step {
-        refusal: 31,
-        parsed,
+    match which_name(text, starts, lengths, LOCATION_NAMES, places, word) {
+        Some(location) => Ok(on_target(parsed, location)),
+        None => Err(Refusal::BadName),
     }
 }
 
@@ -68,15 +52,13 @@ pub fn on_opening(
     clocks: usize,
     word: &[u8],
     parsed: Parsed,
-) -> Step
+) -> Result<Parsed, Refusal>
     requires { (length tags.now ≤ 8) × (clocks ≤ 4) × NamesIn 76 text.now starts.now lengths.now × Masked parsed }
-    ensures { ((n places : ℕ) → step_said n result ≡ word_at (scope_of text.now tags.now starts.now lengths.now clocks places) (begun_of n parsed) opening word.now) × Masked result.parsed }
+    ensures said { (n places : ℕ) → parse_said n result ≡ word_at (scope_of text.now tags.now starts.now lengths.now clocks places) (begun_of n parsed) opening word.now }
+    ensures masked { IfOk result Masked }
 {
-    if keyword(word) == 5 {
-        return Step {
-            refusal: 0,
-            parsed: turned(parsed, 2, 0),
-        };
+    if word == b"any".as_slice() {
+        return Ok(turned(parsed, Part::Arrow, 0));
     }
     on_condition(text, tags, starts, lengths, clocks, word, parsed)
 }
@@ -90,15 +72,13 @@ pub fn on_more(
     clocks: usize,
     word: &[u8],
     parsed: Parsed,
-) -> Step
+) -> Result<Parsed, Refusal>
     requires { (length tags.now ≤ 8) × (clocks ≤ 4) × NamesIn 76 text.now starts.now lengths.now × Masked parsed }
-    ensures { ((n places : ℕ) → step_said n result ≡ word_at (scope_of text.now tags.now starts.now lengths.now clocks places) (begun_of n parsed) more word.now) × Masked result.parsed }
+    ensures said { (n places : ℕ) → parse_said n result ≡ word_at (scope_of text.now tags.now starts.now lengths.now clocks places) (begun_of n parsed) more word.now }
+    ensures masked { IfOk result Masked }
 {
-    if keyword(word) == 6 {
-        return Step {
-            refusal: 0,
-            parsed: turned(parsed, 6, 0),
-        };
+    if word == b"->".as_slice() {
+        return Ok(turned(parsed, Part::Goes, 0));
     }
     on_condition(text, tags, starts, lengths, clocks, word, parsed)
 }

@@ -1,3 +1,4 @@
 pub mod RuleAt
 pub mod NameAt
 pub mod Short
+pub mod Said

@@ -17,7 +17,13 @@ use Rattle.words.specs.Spans.{place_below}
 use Rattle.words.specs.Keywords.{keywords, keyword_is}
 use Rattle.words.specs.Lex.{blanks, NextLine}
 use Rattle.words.specs.Firsts.{drop_take, NextIn, in_none, in_word}
-use Rattle.pointing.specs.declared.nameat.NameAt.{NameAt}
+
+-- A refusal and its line, 0 for the file's own and for 35; or 0 and where the name stands: no byte for none.
+pub record NameAt : Type 0 where
+  pub refusal : ℕ
+  pub line : ℕ
+  pub place : ℕ
+  pub length : ℕ
 
 -- The lines that declare a signal (0), a clock (1) or a location (2).
 abbrev pub declares : ℕ → Line → Bool

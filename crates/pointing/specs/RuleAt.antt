@@ -14,7 +14,11 @@ use Rattle.words.specs.Spans.{place_below}
 use Rattle.words.specs.Keywords.{keywords, keyword_is}
 use Rattle.words.specs.Firsts.{NextIn, in_none, in_word}
 use Rattle.words.specs.Lex.{NextLine}
-use Rattle.pointing.specs.declared.ruleat.RuleAt.{RuleAt}
+
+-- A refusal and its line, 0 for the file's own and for 35; or 0 and the line of the rule.
+pub record RuleAt : Type 0 where
+  pub refusal : ℕ
+  pub line : ℕ
 
 -- The line of the rule i of a text that is read. 35: it has no such rule.
 abbrev pub line_of_rule : List ℕ → ℕ → FromText (List ℕ) → FromText ℕ

@@ -18,8 +18,7 @@ use Rattle.wording.specs.Reader.{FromText, stops, reads, proceed, read_lines, fi
 use Rattle.wording.specs.Kept.{Keeps, stops_here, goes_on, kept, keeps_must, keeps_if, keeps_free, keeps_numbered}
 use Rattle.wording.specs.Good.{Signalled, unnamed, named, keeps_name, keeps_signals}
 use Rattle.wording.specs.Given.{stopped_by, read_said}
-use Rattle.pointing.specs.NameAt.{declares, name_word, word_place, standing, name_in, pick, names_from, name_given}
-use Rattle.pointing.specs.declared.nameat.NameAt.{NameAt}
+use Rattle.pointing.specs.NameAt.{NameAt, declares, name_word, word_place, standing, name_in, pick, names_from, name_given}
 
 -- A line that is read and declares has a short name, or none.
 module _ (d : Draft) where

@@ -4,5 +4,5 @@
 mod nameat;
 mod ruleat;
 
-pub use nameat::{NameAt, name_of_clock, name_of_location, name_of_signal};
-pub use ruleat::{RuleAt, line_of_rule};
+pub use nameat::{Name, name_of_clock, name_of_location, name_of_signal};
+pub use ruleat::line_of_rule;

@@ -5,20 +5,23 @@ use mathlib.Core.List.{List}
 use Prim.Native.Nat.{ℕ, ◌+◌, ◌*◌, ◌≤◌, ◌<◌}
 use native.Mathlib.Omega.{arith}
 use lib.Dec.{leb, eqb}
-use lib.ListN.{length, get_or}
-use lib.Seq.{get_or-take}
+use lib.ListN.{length, get_or, take}
 use borrow.Author.Tests.{le-leb, lt-leb}
 use Rattle.streams.specs.Answer.{◌or_else◌, unless}
-use Rattle.streams.specs.AnswerLaws.{first_refused, next_refused}
-use Rattle.policy.specs.File.{byte_at, pair_at, pairs_from, rule_size, outputs_at, output_count, clocks_at, clock_count, locations_at, location_count}
-use Rattle.policy.specs.File.{rules_at, rules_start, rules_end, ceilings_of}
+use Rattle.streams.specs.AnswerLaws.{next_refused}
+use Rattle.std.specs.Prelude.{Result, Ok, Err}
+use Rattle.std.specs.Result.{IsErrAnd}
+use Rattle.refusals.specs.Refused.{number_of}
+use Rattle.refusals.specs.Laws.{number_above, refused_first, handed_on}
+use Rattle.refusals.specs.declared.Refusal.{Refusal}
+use Rattle.policy.specs.File.{pairs_from, rule_size, input_count, outputs_at, output_count, clocks_at, clock_count, locations_at, location_count}
+use Rattle.policy.specs.File.{rules_at, rule_count, rules_start, rules_end, ceilings_of}
 use Rattle.policy.specs.Check.{inputs_refusal, outputs_refusal, clocks_refusal, locations_refusal, rules_section_refusal, refusal_of, reading_refusal, refusal_under}
 use Rattle.policy.specs.Number.{four, states_of}
-use Rattle.policy.specs.Numbered.{states_take}
-use Rattle.policy.specs.Layout.{checked_under, layout_of, no_layout}
+use Rattle.policy.specs.Frame.{pairs_length}
+use Rattle.policy.specs.Layout.{checked_said, checked_under, layout_of}
 use Rattle.policy.specs.LayoutLaws.{ShapeOf, under_passed, under_refused}
 use Rattle.policy.specs.declared.Layout.{Layout}
-use Rattle.policy.specs.declared.Checked.{Checked}
 use Rattle.policy.specs.declared.rules.Shape.{Shape}
 use Rattle.policy.proofs.Laws.{inputs_fit, outputs_fit, clocks_fit}
 use Rattle.policy.proofs.RuleLaws.{ceilings_read}
@@ -62,78 +65,84 @@ module _ (f : List ℕ) where
   pub not_too_many : {n : ℕ} → n ≤ 65536 → n ≡ states_in → after_end ≡ 0
   not_too_many h e = rw (le-leb states_in 65536 (omega arith))
 
-  -- The code has found the refusal r, the first that is left. It is none, so the rest is left.
-  pub record Past (a b : ℕ) : Type 0 where
-    pub none : a ≡ 0
-    pub left : refusal_of f ≡ b
+  -- What is left of the refusal once a section passes.
+  pub past_inputs : 0 ≡ inputs_refusal f → refusal_of f ≡ after_inputs
+  past_inputs inputs = from_inputs ∙ next_refused _ _ (sym inputs)
 
-  pub past_here : {r : ℕ} (a b : ℕ) → refusal_of f ≡ (a or_else b) → r ≡ a → r ≡ 0 → Past a b
-  past_here a b e h z = record { none = sym h ∙ z; left = e ∙ next_refused a b (sym h ∙ z) }
+  pub past_outputs : 0 ≡ inputs_refusal f → 0 ≡ outputs_refusal f → refusal_of f ≡ after_outputs
+  past_outputs inputs outputs = past_inputs inputs ∙ next_refused _ _ (sym outputs)
+
+  pub past_clocks : 0 ≡ inputs_refusal f → 0 ≡ outputs_refusal f → 0 ≡ clocks_refusal f → refusal_of f ≡ after_clocks
+  past_clocks inputs outputs clocks = past_outputs inputs outputs ∙ next_refused _ _ (sym clocks)
+
+  pub past_locations : 0 ≡ inputs_refusal f → 0 ≡ outputs_refusal f → 0 ≡ clocks_refusal f → 0 ≡ locations_refusal f → refusal_of f ≡ after_locations
+  past_locations inputs outputs clocks locations = past_clocks inputs outputs clocks ∙ next_refused _ _ (sym locations)
+
+  pub past_rules : 0 ≡ inputs_refusal f → 0 ≡ outputs_refusal f → 0 ≡ clocks_refusal f → 0 ≡ locations_refusal f → 0 ≡ rules_section_refusal f →
+      refusal_of f ≡ after_rules
+  past_rules inputs outputs clocks locations rules = past_locations inputs outputs clocks locations ∙ next_refused _ _ (sym rules)
 
 -- With one of the two readings the refusal is the file's; with any other number it is 22.
 module _ (reading : ℕ) (f : List ℕ) where
-  pub named : (eqb reading 1 || eqb reading 2) ≡ true → refusal_under reading f ≡ refusal_of f
-  unfolding refusal_under reading_refusal
-  named e = rw e
-
-  pub not_named : {s : Checked} → (eqb reading 1 || eqb reading 2) ≡ false → s ≡ record { refusal = 22; layout = no_layout } → s ≡ checked_under reading f
+  pub not_named : false ≡ (eqb reading 1 || eqb reading 2) → checked_said (Err Refusal.BadReading) ≡ checked_under reading f
   unfolding checked_under refusal_under reading_refusal
-  not_named e g = g ∙ sym (rw e)
+  not_named e = rw (← e)
 
-module _ (reading : ℕ) (f : List ℕ) (read : refusal_under reading f ≡ refusal_of f) where
-  -- The file's refusal is some.
-  pub refused_by : {r : ℕ} {s : Checked} → refusal_of f ≡ r → (r ≡ 0 → ⊥) → s ≡ record { refusal = r; layout = no_layout } → s ≡ checked_under reading f
-  refused_by e n g = g ∙ sym (rw (read ∙ e) at (under_refused reading f (λ z. n (sym (read ∙ e) ∙ z))))
+  module _ (named : true ≡ (eqb reading 1 || eqb reading 2)) where
+    read : refusal_under reading f ≡ refusal_of f
+    unfolding refusal_under reading_refusal
+    read = rw (← named)
 
-  pub refused_here : {r : ℕ} {s : Checked} (a b : ℕ) → refusal_of f ≡ (a or_else b) → r ≡ a → (r ≡ 0 → ⊥) →
-      s ≡ record { refusal = r; layout = no_layout } → s ≡ checked_under reading f
-  refused_here a b e h n = refused_by (e ∙ first_refused a b (λ z. n (h ∙ z)) ∙ sym h) n
+    -- The file has this refusal.
+    pub refused_by : (e : Refusal) → refusal_of f ≡ number_of e → checked_said (Err e) ≡ checked_under reading f
+    refused_by e g =
+        let h : 0 < number_of e = number_above e in
+        let n : refusal_under reading f ≡ number_of e = read ∙ g in
+        sym (rw n at (under_refused reading f (omega arith)))
 
-  -- All are none.
-  pub passed_by : {l : Layout} → refusal_of f ≡ 0 → l ≡ layout_of reading f → ◌≡◌ {A = Checked} (record { refusal = 0; layout = l }) (checked_under reading f)
-  passed_by e g = rw g (sym (under_passed reading f (read ∙ e)))
+    -- A section has it, the first of those that are left.
+    pub handed_here : (r : Result Layout Refusal) (e : Refusal) (a b : ℕ) → refusal_of f ≡ (a or_else b) → IsErrAnd r (λ d. d ≡ e) → number_of e ≡ a →
+        checked_said r ≡ checked_under reading f
+    handed_here r e a b left h g =
+        let first : refusal_of f ≡ number_of e = left ∙ rw (← g) (refused_first e b) in
+        rw (handed_on r e h) (refused_by e first)
 
--- What the code has read, count by count.
-module _ (f : List ℕ) {i : ℕ} (inputs : i ≡ byte_at f 0) where
+    -- There is none.
+    pub passed_by : {l : Layout} → refusal_of f ≡ 0 → l ≡ layout_of reading f → checked_said (Ok l) ≡ checked_under reading f
+    passed_by e g = rw g (sym (under_passed reading f (read ∙ e)))
+
+-- Where the sections stand, by the counts that the code has.
+module _ (f : List ℕ) {i : ℕ} (inputs : i ≡ input_count f) where
   pub outputs-at : 1 + i ≡ outputs_at f
   unfolding outputs_at
   outputs-at = rw inputs
 
-  module _ {o : ℕ} (outputs : o ≡ byte_at f (1 + i)) where
-    outputs_read : o ≡ output_count f
-    outputs_read = rw (← outputs-at) outputs
-
+  module _ {o : ℕ} (outputs : o ≡ output_count f) where
     pub clocks-at : 1 + i + 1 + o ≡ clocks_at f
     unfolding clocks_at
-    clocks-at = rw (← outputs-at, ← outputs)
+    clocks-at = rw (outputs, ← outputs-at)
 
-    module _ {k : ℕ} (clocks : k ≡ byte_at f (1 + i + 1 + o)) where
-      clocks_read : k ≡ clock_count f
-      clocks_read = rw (← clocks-at) clocks
-
-      pub clocks_few : clocks_refusal f ≡ 0 → k ≤ 4
-      clocks_few e = rw clocks_read (clocks_fit f e).0
-
+    module _ {k : ℕ} (clocks : k ≡ clock_count f) where
       pub locations-at : 1 + i + 1 + o + 1 + k * 2 ≡ locations_at f
       unfolding locations_at
-      locations-at = rw (← clocks-at, ← clocks)
+      locations-at = rw (clocks, ← clocks-at)
 
-      pub shape_read : {l : ℕ} {cs : List ℕ} → l ≡ byte_at f (1 + i + 1 + o + 1 + k * 2) → cs ≡ four (pairs_from f (1 + i + 1 + o + 1) k) →
-          inputs_refusal f ≡ 0 → outputs_refusal f ≡ 0 → clocks_refusal f ≡ 0 →
+      pub shape_read : {l : ℕ} {cs : List ℕ} → l ≡ location_count f → cs ≡ four (pairs_from f (1 + i + 1 + o + 1) k) →
+          0 ≡ inputs_refusal f → 0 ≡ outputs_refusal f → 0 ≡ clocks_refusal f →
           ShapeOf f (record { inputs = i; outputs = o; clocks = k; locations = l; ceilings = cs })
       shape_read locations ceilings a b c =
           record {
             shaped =
                 record {
-                  inputs = rw inputs (inputs_fit f a).0;
-                  outputs = rw outputs_read (outputs_fit f b);
-                  clocks = clocks_few c;
+                  inputs = rw inputs (inputs_fit f (sym a)).0;
+                  outputs = rw outputs (outputs_fit f (sym b));
+                  clocks = rw clocks (clocks_fit f (sym c)).0;
                 };
             inputs = inputs;
-            outputs = outputs_read;
-            clocks = clocks_read;
-            locations = rw (← locations-at) locations;
-            ceilings = cc (clocks-at, clocks_read);
+            outputs = outputs;
+            clocks = clocks;
+            locations = locations;
+            ceilings = cc (clocks-at);
           }
 
 -- What follows once the sections before the rules are read. The count of the rules stands after them.
@@ -141,23 +150,23 @@ abbrev pub count_at : Shape → ℕ
 count_at s = 1 + s.inputs + 1 + s.outputs + 1 + s.clocks * 2 + 1 + s.locations
 
 module _ (f : List ℕ) (s : Shape) (h : ShapeOf f s) where
-  pub ceilings_small : clocks_refusal f ≡ 0 → (i : ℕ) → i < s.clocks → get_or s.ceilings i 0 ≤ 1001
-  ceilings_small e i l =
-      let read = get_or-take s.clocks s.ceilings i 0 l in
-      rw (← read, ceilings_read f s h) ((clocks_fit f e).1 i (omega arith))
+  pub ceilings_small : 0 ≡ clocks_refusal f →
+      let cs = take s.clocks s.ceilings in
+      (length cs ≤ 4) × ((i : ℕ) → i < length cs → get_or cs i 0 ≤ 1001)
+  ceilings_small e = rw (ceilings_read f s h, pairs_length f (clocks_at f + 1) (clock_count f)) (clocks_fit f (sym e))
 
-  pub states_read : states_of s.ceilings s.clocks s.locations ≡ states_in f
-  states_read = states_take s.ceilings s.clocks s.locations ∙ cc (ceilings_read f s h)
+  pub states_read : states_of (take s.clocks s.ceilings) (length (take s.clocks s.ceilings)) s.locations ≡ states_in f
+  states_read = rw (ceilings_read f s h, pairs_length f (clocks_at f + 1) (clock_count f), h.locations)
 
   pub count-at : count_at s ≡ rules_at f
   unfolding outputs_at clocks_at locations_at rules_at
   count-at = omega arith
 
-  pub rules-end : {n : ℕ} → n ≡ pair_at f (count_at s) → count_at s + 2 + n * rule_size s.clocks ≡ rules_end f
+  pub rules-end : {n : ℕ} → n ≡ rule_count f → count_at s + 2 + n * rule_size s.clocks ≡ rules_end f
   unfolding rules_start rules_end
   rules-end e = cc (count-at)
 
-  pub layout_read : (reading : ℕ) {n states : ℕ} → n ≡ pair_at f (count_at s) → states ≡ states_of s.ceilings s.clocks s.locations →
+  pub layout_read : (reading : ℕ) {n states : ℕ} → n ≡ rule_count f → states ≡ states_in f →
       record {
         reading = reading;
         inputs = s.inputs;
@@ -172,4 +181,4 @@ module _ (f : List ℕ) (s : Shape) (h : ShapeOf f s) where
       }
       ≡ layout_of reading f
   unfolding rules_start
-  layout_read reading e g = cc (count-at, rules-end e, states_read)
+  layout_read reading e g = cc (count-at, rules-end e)

@@ -1,13 +1,20 @@
 -- What the functions' proofs cite: a turn of each loop over a list or a part of the file, and what a section that is not refused holds.
-use mathlib.Core.Path.{◌≡◌, refl, sym, ap}
+use mathlib.Core.Path.{◌≡◌, refl, sym, ap, ◌∙◌}
 use mathlib.Core.Bool.{Bool, true, false, not, ◌&&◌, ◌||◌, or_assoc}
 use mathlib.Core.List.{List, [], ◌∷◌, ◌++◌, append_assoc}
 use Prim.Native.Nat.{ℕ, zero, suc, ◌+◌, ◌-◌, ◌*◌, ◌≤◌, ◌<◌}
 use native.Mathlib.Numerals.{add-one}
 use native.Mathlib.Omega.{arith}
-use lib.Dec.{eqb}
+use lib.Dec.{eqb, leb}
 use lib.ListN.{length, get_or, take, drop, set, replicate, length-append, drop_of_length-le}
 use lib.Seq.{take-suc, drop-cons, set_at}
+use Rattle.std.specs.List.{list_all, list_any}
+use Rattle.std.specs.Cmp.{ranks}
+use Rattle.std.specs.Ordering.{MatchOrdering, is_le, nat_cmp}
+use Rattle.std.proofs.Common.{Ordering, Less, Equal, Greater, Some}
+use Rattle.std.specs.declared.ops.RangeInclusive.{RangeInclusive}
+use Rattle.std.specs.Range.{range_inclusive_start, range_inclusive_end, range_inclusive_exhausted, range_inclusive_contains}
+use borrow.Author.Tests.{le-leb, lt-leb}
 use Rattle.streams.specs.AnswerLaws.{none_unless}
 use Rattle.policy.specs.File.{pair_at, pairs_from, input_count, outputs_at, output_count, clocks_at, clock_count, locations_at, location_count}
 use Rattle.policy.specs.File.{ceilings_of}
@@ -15,6 +22,30 @@ use Rattle.policy.specs.Check.{all_pass, among, tags_good, is_capital, inputs_re
 use Rattle.policy.specs.Number.{four, states_of}
 use Rattle.policy.specs.Frame.{section, pairs_length}
 use Rattle.policy.specs.Checked.{ceiling_at}
+
+-- The tests of the check, as std's functions on lists.
+pub all_pass-list_all : (test : ℕ → Bool) (xs : List ℕ) → all_pass test xs ≡ list_all test xs
+unfolding all_pass
+all_pass-list_all test [] = refl
+all_pass-list_all test (x ∷ xs) = rw (all_pass-list_all test xs)
+
+pub among-list_any : (t : ℕ) (xs : List ℕ) → among t xs ≡ list_any (λ x. eqb x t) xs
+unfolding among
+among-list_any t [] = refl
+among-list_any t (x ∷ xs) = rw (among-list_any t xs)
+
+is_le-leb : (a b : ℕ) → is_le (nat_cmp a b) ≡ leb a b
+is_le-leb a b = by (nat_cmp a b) (ranks a b)
+  where
+    by : (r : Ordering) → MatchOrdering r (a < b) (a ≡ b) (b < a) → is_le r ≡ leb a b
+    by Less h = sym (le-leb a b (omega arith))
+    by Equal h = sym (le-leb a b (omega arith))
+    by Greater h = sym (lt-leb a b h)
+
+-- What `contains` of a whole range `a..=b` answers.
+pub ranged : (s : RangeInclusive ℕ) (x a b : ℕ) {t : Bool} → range_inclusive_start s ≡ a → range_inclusive_end s ≡ b → range_inclusive_exhausted s ≡ false →
+    t ≡ range_inclusive_contains (λ y z. Some (nat_cmp y z)) s x → t ≡ (leb a x && leb x b)
+ranged s x a b start end whole h = h ∙ rw (start, end, whole, is_le-leb a x, is_le-leb x b)
 
 -- The list from i on: its first element, and the rest.
 pub all_turn : (test : ℕ → Bool) (xs : List ℕ) (i : ℕ) → i < length xs →
@@ -25,14 +56,6 @@ all_turn test xs i h = rw (add-one, drop-cons xs i 0)
 pub all_end : (test : ℕ → Bool) (xs : List ℕ) (i : ℕ) → length xs ≤ i → all_pass test (drop i xs) ≡ true
 unfolding all_pass
 all_end test xs i h = rw drop_of_length-le
-
-pub among_turn : (t : ℕ) (xs : List ℕ) (i : ℕ) → i < length xs → among t (drop i xs) ≡ (eqb (get_or xs i 0) t || among t (drop (i + 1) xs))
-unfolding among
-among_turn t xs i h = rw (add-one, drop-cons xs i 0)
-
-pub among_end : (t : ℕ) (xs : List ℕ) (i : ℕ) → length xs ≤ i → among t (drop i xs) ≡ false
-unfolding among
-among_end t xs i h = rw drop_of_length-le
 
 pub among_append : (t : ℕ) (xs ys : List ℕ) → among t (xs ++ ys) ≡ (among t xs || among t ys)
 unfolding among

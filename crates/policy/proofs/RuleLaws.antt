@@ -7,9 +7,9 @@ use native.Mathlib.Nat.{one-mul, add-sub_cancel_left}
 use native.Mathlib.Numerals.{add-one}
 use native.Mathlib.Omega.{arith}
 use lib.Dec.{lit<}
-use lib.ListN.{length, get_or, take, drop, length-take, drop_of_length-le}
+use lib.ListN.{length, get_or, take, drop, drop_of_length-le}
 use lib.Pow.{shl_exact}
-use lib.Seq.{take_at, length-take-le, drop-cons, get_or-take}
+use lib.Seq.{take_at, drop-cons}
 use Rattle.streams.specs.Answer.{◌or_else◌}
 use Rattle.policy.specs.Rules.{Bound}
 use Rattle.policy.specs.File.{byte_at, pair_at, bounds_from, rule_size, rule_from, rules_from}
@@ -24,33 +24,32 @@ pub one_shl : (k : ℕ) → k ≤ 4 → (1 * 2 ^ k) % 2 ^ 64 ≡ 2 ^ k
 one_shl k l = shl_exact {a = 1} 1 k 64 (lit< tt) (omega arith) ∙ one-mul (2 ^ k)
 
 -- ---- the bounds of a rule: those from clock i on, and the one at clock i
-abbrev pub bounds_left : List ℕ → ℕ → List ℕ → ℕ → ℕ → Bool
-bounds_left f at cs k i = bounds_good (drop i (take k cs)) (bounds_from f (at + 4 * i) (k - i))
+abbrev pub bounds_left : List ℕ → List ℕ → ℕ → Bool
+bounds_left f cs i = bounds_good (drop i cs) (bounds_from f (4 * i) (length cs - i))
 
-abbrev pub bound_at : List ℕ → ℕ → ℕ → Bound
-bound_at f at i = record { low = pair_at f (at + 4 * i); high = pair_at f (at + 4 * i + 2) }
+abbrev pub bound_at : List ℕ → ℕ → Bound
+bound_at f i = record { low = pair_at f (4 * i); high = pair_at f (4 * i + 2) }
 
-pub bounds_turn : (f : List ℕ) (at : ℕ) (cs : List ℕ) (k i : ℕ) → k ≤ length cs → i < k
-    → bounds_left f at cs k i ≡ bound_good (get_or cs i 0) (bound_at f at i) && bounds_left f at cs k (i + 1)
+pub bounds_turn : (f cs : List ℕ) (i : ℕ) → i < length cs → bounds_left f cs i ≡ bound_good (get_or cs i 0) (bound_at f i) && bounds_left f cs (i + 1)
 unfolding bounds_good bounds_from
-bounds_turn f at cs k i l h =
-    let p : i < length (take k cs) = rw (length-take-le k cs l) h in
-    let q : k - i ≡ suc (k - suc i) = omega arith in
-    let s : at + 4 * i + 4 ≡ at + 4 * suc i = omega arith in rw (add-one i, drop-cons (take k cs) i 0 p, q, s, get_or-take k cs i 0 h)
+bounds_turn f cs i h =
+    let q : length cs - i ≡ suc (length cs - suc i) = omega arith in
+    let s : 4 * i + 4 ≡ 4 * suc i = omega arith in rw (add-one i, drop-cons cs i 0 h, q, s)
 
-pub bounds_end : (f : List ℕ) (at : ℕ) (cs : List ℕ) (k i : ℕ) → k ≤ i → bounds_left f at cs k i ≡ true
+pub bounds_end : (f cs : List ℕ) (i : ℕ) → length cs ≤ i → bounds_left f cs i ≡ true
 unfolding bounds_good bounds_from
-bounds_end f at cs k i h =
-    let q : k - i ≡ 0 = omega arith in
-    let p : length (take k cs) ≤ i = simp length-take (omega arith) in rw (drop_of_length-le (take k cs) p, q)
+bounds_end f cs i h =
+    let q : length cs - i ≡ 0 = omega arith in rw (drop_of_length-le cs h, q)
 
 -- ---- the rules of a section
-pub rules_turn : (ins outs : ℕ) (cs : List ℕ) (locs before k : ℕ) (f : List ℕ) (at n i : ℕ) → i < n
-    → rules_refusal ins outs cs locs before (rules_from k f at (n - i))
-    ≡ (rule_refusal ins outs cs locs before (rule_from k f at) or_else rules_refusal ins outs cs locs (byte_at f at) (rules_from k f (at + rule_size k) (n - (i + 1))))
+pub rules_turn : (ins outs : ℕ) (cs : List ℕ) (locs before k : ℕ) (f : List ℕ) (n i : ℕ) → i < n
+    → rules_refusal ins outs cs locs before (rules_from k f (i * rule_size k) (n - i))
+    ≡ (rule_refusal ins outs cs locs before (rule_from k f (i * rule_size k))
+    or_else rules_refusal ins outs cs locs (byte_at f (i * rule_size k)) (rules_from k f ((i + 1) * rule_size k) (n - (i + 1))))
 unfolding rules_refusal rules_from rule_from
-rules_turn ins outs cs locs before k f at n i h =
-    let q : n - i ≡ suc (n - (i + 1)) = omega arith in rw q
+rules_turn ins outs cs locs before k f n i h =
+    let q : n - i ≡ suc (n - (i + 1)) = omega arith in
+    let s : (i + 1) * rule_size k ≡ i * rule_size k + rule_size k = omega arith in rw (q, s)
 
 -- ---- what the code hands on, by what the sections before the rules hold
 pub ceilings_read : (f : List ℕ) (s : Shape) → ShapeOf f s → take s.clocks s.ceilings ≡ ceilings_of f

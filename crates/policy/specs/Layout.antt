@@ -1,11 +1,17 @@
 -- What the check's code answers: the layout of a file, or its refusal.
-use Rattle.std.specs.Prelude.{List, [], ◌∷◌, ◌≡◌, ℕ, zero, suc}
+use Rattle.std.specs.Prelude.{List, [], ◌∷◌, ◌≡◌, ℕ, zero, suc, Result, Ok, Err}
 use Rattle.std.proofs.Common.{sym, ◌∙◌}
+use Rattle.refusals.specs.Refused.{number_of}
+use Rattle.refusals.specs.declared.Refusal.{Refusal}
 use Rattle.policy.specs.File
 use Rattle.policy.specs.Number.{four, states_of}
 use Rattle.policy.specs.Check.{refusal_of, refusal_under}
 use Rattle.policy.specs.declared.Layout.{Layout}
-use Rattle.policy.specs.declared.Checked.{Checked}
+
+-- What the check says: the number of its refusal, or 0 and the layout.
+pub record Checked : Type 0 where
+  pub refusal : ℕ
+  pub layout : Layout
 
 -- The layout of a file that passes: its counts, where its rules stand, its ceilings, and how many states it has.
 abbrev pub layout_of : ℕ → List ℕ → Layout
@@ -51,6 +57,11 @@ checked_of f = checked_from (refusal_of f) (layout_of 1 f)
 -- What the check answers for a file under a reading.
 unfoldable pub checked_under : ℕ → List ℕ → Checked
 checked_under reading f = checked_from (refusal_under reading f) (layout_of reading f)
+
+-- What a layout or a refusal says, as an answer of the check.
+abbrev pub checked_said : Result Layout Refusal → Checked
+checked_said (Ok l) = record { refusal = 0; layout = l }
+checked_said (Err r) = record { refusal = number_of r; layout = no_layout }
 
 -- All that is promised of what the check of the file f gives, and that no other result is allowed.
 pub record CheckPromise (f : List ℕ) (r : Checked) : Type 0 where

@@ -1,14 +1,18 @@
 -- What the answer of the check says, by its refusal; and the shape of a file.
-use Rattle.std.specs.Prelude.{List, ◌≡◌, refl, ℕ, zero, suc, ◌≤◌}
+use Rattle.std.specs.Prelude.{List, ◌≡◌, refl, ℕ, zero, suc, ◌<◌, ◌≤◌, Result, Ok, Err}
 use Rattle.std.proofs.Math.Path.{ap}
-use Rattle.std.proofs.Common.{◌∙◌, arith}
+use Rattle.std.proofs.Common.{sym, ◌∙◌, arith}
+use Rattle.streams.specs.Answer.{answer, gives}
+use Rattle.refusals.specs.Refused.{number_of, told}
+use Rattle.refusals.specs.Laws.{number_above, number_one, refused_answer}
+use Rattle.refusals.specs.declared.Refusal.{Refusal}
 use Rattle.policy.specs.File
 use Rattle.policy.specs.Number.{four}
 use Rattle.policy.specs.Check.{refusal_of, refusal_under}
 use Rattle.policy.specs.declared.Layout.{Layout}
-use Rattle.policy.specs.declared.Checked.{Checked}
+use Rattle.policy.specs.Layout.{Checked}
 use Rattle.policy.specs.declared.rules.Shape.{Shape}
-use Rattle.policy.specs.Layout.{checked_from, checked_of, checked_under, layout_of, no_layout}
+use Rattle.policy.specs.Layout.{checked_from, checked_of, checked_said, checked_under, layout_of, no_layout}
 
 from_none : (n : ℕ) (l : Layout) → n ≡ 0 → checked_from n l ≡ record { refusal = n; layout = l }
 from_none zero l e = refl
@@ -55,6 +59,48 @@ module _ (reading : ℕ) (f : List ℕ) where
   pub under_says : ((checked_under reading f).refusal ≡ refusal_under reading f) × (refusal_under reading f ≡ 0 → (checked_under reading f).layout ≡ layout_of reading f)
   unfolding checked_under
   under_says = (from_number _ _, λ e. ap (λ (c : Checked). c.layout) (under_passed e))
+
+-- What a layout or a refusal that says the check's answer tells of the file, under a reading.
+module _ (reading : ℕ) (f : List ℕ) where
+  -- A layout is the file's, and there is no refusal.
+  pub said_layout : (l : Layout) → checked_said (Ok l) ≡ checked_under reading f → (refusal_under reading f ≡ 0) × (l ≡ layout_of reading f)
+  said_layout l e =
+      let says = under_says reading f in
+      let none = sym says.0 ∙ sym (ap (λ (c : Checked). c.refusal) e) in
+      (none, ap (λ (c : Checked). c.layout) e ∙ says.1 none)
+
+  -- A refusal is the file's.
+  pub said_refusal : (r : Refusal) → checked_said (Err r) ≡ checked_under reading f → refusal_under reading f ≡ number_of r
+  said_refusal r e = sym (under_says reading f).0 ∙ sym (ap (λ (c : Checked). c.refusal) e)
+
+  module _ {r : Result Layout Refusal} (said : checked_said r ≡ checked_under reading f) where
+    -- Where a layout is given, the check has no refusal, and that layout.
+    pub said_ok : (l : Layout) → r ≡ Ok l → ((checked_under reading f).refusal ≡ 0) × ((checked_under reading f).layout ≡ l)
+    said_ok l e =
+        let k = sym (sym (ap checked_said e) ∙ said) in
+        (ap (λ (c : Checked). c.refusal) k, ap (λ (c : Checked). c.layout) k)
+
+    -- Where a refusal is given, it is the check's, and its number is above 0.
+    pub said_err : (d : Refusal) → r ≡ Err d → ((checked_under reading f).refusal ≡ number_of d) × (0 < number_of d)
+    said_err d e = (ap (λ (c : Checked). c.refusal) (sym (sym (ap checked_said e) ∙ said)), number_above d)
+
+  -- Either is the answer of an entry that gives the layout.
+  pub said_told : (r : Result Layout Refusal) → checked_said r ≡ checked_under reading f → told r ≡ answer (refusal_under reading f) (layout_of reading f)
+  said_told (Ok l) said = let k = said_layout l said in rw k.0 (ap gives k.1)
+  said_told (Err d) said = rw (said_refusal d said) (sym (refused_answer d (layout_of reading f)))
+
+-- One result alone says what the check says.
+pub said_one : (r s : Result Layout Refusal) → checked_said r ≡ checked_said s → r ≡ s
+said_one (Ok l) (Ok m) e = ap Ok (ap (λ (c : Checked). c.layout) e)
+said_one (Err r) (Err s) e = ap Err (number_one r s (ap (λ (c : Checked). c.refusal) e))
+said_one (Ok l) (Err s) e =
+    let none : 0 ≡ number_of s = ap (λ (c : Checked). c.refusal) e in
+    let above = number_above s in
+    absurd (omega arith)
+said_one (Err r) (Ok m) e =
+    let none : number_of r ≡ 0 = ap (λ (c : Checked). c.refusal) e in
+    let above = number_above r in
+    absurd (omega arith)
 
 -- How much the sections before the rules may hold.
 pub record Shaped (s : Shape) : Type 0 where

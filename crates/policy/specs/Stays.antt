@@ -14,7 +14,7 @@ use Rattle.std.proofs.lemmas.Bool.{eqb-false}
 use Rattle.streams.specs.Stream.{Event, Stream, ◌after◌, GoesOn, Ends}
 use Rattle.streams.specs.Laws.{goes_on, ends}
 use Rattle.streams.specs.Languages.{◌narrows◌, Closed}
-use Rattle.policy.specs.Rules.{Rule, Policy, Place, start, fires, decides, unlimited, stopped, advance, looked, taken, step, steps, Fits, fits_none, fits_more, rests, Runs, Rests, from, Live, Dead}
+use Rattle.policy.specs.Rules.{Rule, Policy, Place, start, fires, decides, unlimited, stopped, advance, looked, taken, step, steps, Fits, fits_none, fits_more, Runs, Rests, from, Live, Dead}
 use Rattle.policy.specs.Stopped.{LawfulRules, steps_same, start_stops}
 use Rattle.policy.specs.Stop.{mins, stop, shown}
 use Rattle.policy.specs.Sound.{Each, each_none, each_more, Formed, Sound, In, Inside}

@@ -6,7 +6,6 @@ use Rattle.std.proofs.Math.Nat.{pow-le-pow_right}
 use native.Mathlib.Omega.{arith}
 use Rattle.std.specs.Int.Bits.{and_le_r}
 use Rattle.policy.specs.Rules.{Bound, Rule, Policy}
-use Rattle.policy.specs.File.{input_tags, output_tags}
 use Rattle.policy.specs.Check.{all_pass, tags_good, ceiling_good, location_good}
 use Rattle.policy.specs.Bytes.{pairs_bytes, bounds_bytes, rule_bytes, rules_bytes, bytes_of}
 use Rattle.policy.specs.Stopped.{AllLawful, lawful_none, lawful_more}

@@ -7,7 +7,7 @@ use Rattle.policy.specs.Rules.{Policy}
 use Rattle.policy.specs.Number.{states}
 use Rattle.policy.specs.File.{rule_size}
 use Rattle.policy.specs.File.{input_count, outputs_at, output_count, clocks_at, clock_count, locations_at, location_count, rules_at, rule_count}
-use Rattle.policy.specs.File.{rules_start, rules_end, input_tags, output_tags}
+use Rattle.policy.specs.File.{rules_start, rules_end}
 use Rattle.policy.specs.Check.{section_refusal, inputs_refusal, outputs_refusal, clocks_refusal, locations_refusal, rules_section_refusal}
 use Rattle.policy.specs.Check.{refusal_of}
 use Rattle.policy.specs.Bytes.{bytes_of}

@@ -5,14 +5,10 @@ ghost use Rattle.policy.specs.File.{byte_at, pair_at};
 pub fn byte_at(file: &[u8], at: usize) -> usize
     ensures { (result ≡ byte_at file.now at) × (result < 256) }
 {
-    if at < file.len() {
-        file[at] as usize
-    } else {
-        0
-    }
+    file.get(at).map_or(0, |&byte| usize::from(byte))
 }
 
-// The number in two bytes, the high byte first.
+// The number in two bytes, the high byte first. At the end of memory `at + 1` would not fit, so a test comes first.
 pub fn pair_at(file: &[u8], at: usize) -> usize
     ensures { (result ≡ pair_at file.now at) × (result < 65536) }
 {
@@ -28,12 +24,12 @@ pub fn byte_within(file: &[u8], at: usize) -> usize
     requires { at < length file.now }
     ensures { (result ≡ byte_at file.now at) × (result < 256) }
 {
-    file[at] as usize
+    usize::from(file[at])
 }
 
 pub fn pair_within(file: &[u8], at: usize) -> usize
     requires { at + 1 < length file.now }
     ensures { (result ≡ pair_at file.now at) × (result < 65536) }
 {
-    byte_within(file, at) * 256 + byte_within(file, at + 1)
+    usize::from(u16::from_be_bytes([file[at], file[at + 1]]))
 }

@@ -19,16 +19,12 @@ pub fn rules_below(rules: &[u8], at: usize, count: usize, clocks: usize, locatio
     ensures { result ≡ below location (rules_from clocks rules.now at count) }
 {
     let size = RULE_HEAD + BOUND_SIZE * clocks;
-    let mut next = at;
-    let mut i = 0;
-    while i < count {
-        if location <= byte_within(rules, next) {
+    for i in 0..count {
+        if location <= byte_within(rules, at + i * size) {
             return i;
         }
-        next += size;
-        i += 1;
     }
-    i
+    count
 }
 
 pub fn own_rules(rules: &[u8], count: usize, clocks: usize, location: usize) -> Own

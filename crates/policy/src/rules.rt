@@ -1,12 +1,14 @@
 // The rules of a file, over the part of the file that they are.
-ghost use Rattle.std.specs.Prelude.{◌≡◌, ◌+◌, ◌*◌, ◌≤◌, ◌<◌, ◌^◌, length, take};
-ghost use Rattle.policy.specs.File.{rule_size, rule_from, rules_from, bounds_from, rules_at};
-ghost use Rattle.policy.specs.Check.{mask_good, head_good, bounds_good, rule_refusal, rules_refusal, rules_section_refusal};
+ghost use Rattle.std.specs.Prelude.{◌≡◌, ◌+◌, ◌*◌, ◌≤◌, ◌<◌, ◌^◌, length, take, IfOk};
+ghost use Rattle.policy.specs.File.{rule_size, rule_from, rules_from, bounds_from, rules_at, rule_count};
+ghost use Rattle.policy.specs.Check.{mask_good, head_good, bound_good, bounds_good, rule_refusal, rules_refusal, rules_section_refusal};
 ghost use Rattle.policy.specs.LayoutLaws.{Shaped, ShapeOf};
+ghost use Rattle.refusals.specs.Refused.{refusal_in};
 
-use crate::bytes::{byte_within, pair_at, pair_within};
+use crate::bytes::{pair_at, pair_within};
 use crate::limits::{BOUND_SIZE, CLOCKS, NO_UPPER_BOUND, RULE_HEAD, RULES, VIOLATION};
-use crate::sections::section_refusal;
+use crate::sections::check_section;
+use refusals::Refusal;
 
 // How much the sections before the rules hold.
 #[derive(Clone, Copy)]
@@ -19,129 +21,90 @@ pub struct Shape {
 }
 
 // No care bit is beyond the signals, and no value bit outside the care bits.
-fn mask_good(signals: usize, care: usize, value: usize) -> bool
+fn mask_good(signals: usize, care: u8, value: u8) -> bool
     requires { signals ≤ 4 }
     ensures { result ≡ mask_good signals care value }
 {
-    if care < 1 << signals {
-        value & care == value
-    } else {
-        false
-    }
+    usize::from(care) < 1 << signals && value & care == value
 }
 
-// The first seven bytes of the rule at `at` keep the rules; `before` is the source of the rule before it.
-fn head_good(section: &[u8], at: usize, shape: Shape, before: usize) -> bool
-    requires at_bound { (at < 2 ^ 16) × Shaped shape }
-    requires at_in_bounds { at + 7 ≤ length section.now }
-    ensures { result ≡ head_good shape.inputs shape.outputs shape.clocks shape.locations before (rule_from shape.clocks section.now at) }
+// The first seven bytes of a rule keep the rules; `before` is the source of the rule before it.
+fn head_good(rule: &[u8], shape: Shape, before: usize) -> bool
+    requires { Shaped shape × (7 ≤ length rule.now) }
+    ensures { result ≡ head_good shape.inputs shape.outputs shape.clocks shape.locations before (rule_from shape.clocks rule.now 0) }
 {
-    let source = byte_within(section, at);
-    if source < before {
-        return false;
-    }
-    if shape.locations <= source {
-        return false;
-    }
-    if !mask_good(
-        shape.inputs,
-        byte_within(section, at + 1),
-        byte_within(section, at + 2),
-    ) {
-        return false;
-    }
-    if !mask_good(
-        shape.outputs,
-        byte_within(section, at + 3),
-        byte_within(section, at + 4),
-    ) {
-        return false;
-    }
-    if 1 << shape.clocks <= byte_within(section, at + 5) {
-        return false;
-    }
-    let target = byte_within(section, at + 6);
-    if target < shape.locations {
-        return true;
-    }
-    target == VIOLATION
+    let source = usize::from(rule[0]);
+    let target = usize::from(rule[6]);
+    before <= source
+        && source < shape.locations
+        && mask_good(shape.inputs, rule[1], rule[2])
+        && mask_good(shape.outputs, rule[3], rule[4])
+        && usize::from(rule[5]) < 1 << shape.clocks
+        && (target < shape.locations || target == VIOLATION)
 }
 
-// The bounds from `at` on keep the rules, one for each clock.
-fn bounds_good(section: &[u8], at: usize, ceilings: [u16; CLOCKS], clocks: usize) -> bool
-    requires at_bound { (at < 2 ^ 16) × (clocks ≤ 4) }
-    requires clocks_in_bounds { at + 4 * clocks ≤ length section.now }
-    ensures { result ≡ bounds_good (take clocks ceilings) (bounds_from section.now at clocks) }
+// Low is at most high and at most the ceiling, and high is below the ceiling or no bound.
+fn bound_good(ceiling: u16, low: u16, high: u16) -> bool
+    ensures { result ≡ bound_good ceiling (record { low = low; high = high }) }
 {
-    let mut i = 0;
-    while i < clocks {
-        let low = pair_within(section, at + BOUND_SIZE * i) as u16;
-        let high = pair_within(section, at + BOUND_SIZE * i + 2) as u16;
-        let ceiling = ceilings[i];
-        if high < low {
+    low <= high && low <= ceiling && (high < ceiling || high == NO_UPPER_BOUND)
+}
+
+// The bounds keep the rules, one for each ceiling.
+fn bounds_good(bounds: &[u8], ceilings: &[u16]) -> bool
+    requires { (length ceilings.now ≤ 4) × (length bounds.now ≡ 4 * length ceilings.now) }
+    ensures { result ≡ bounds_good ceilings.now (bounds_from bounds.now 0 (length ceilings.now)) }
+{
+    for (i, &ceiling) in ceilings.iter().enumerate() {
+        let low = pair_within(bounds, BOUND_SIZE * i) as u16;
+        let high = pair_within(bounds, BOUND_SIZE * i + 2) as u16;
+        if !bound_good(ceiling, low, high) {
             return false;
         }
-        if ceiling < low {
-            return false;
-        }
-        if ceiling <= high {
-            if high != NO_UPPER_BOUND {
-                return false;
-            }
-        }
-        i += 1;
     }
     true
 }
 
-// 6 or 7 where the rule at `at` breaks the rules, else 0.
-fn rule_refusal(section: &[u8], at: usize, shape: Shape, before: usize) -> u8
-    requires at_bound { (at < 2 ^ 15) × Shaped shape }
-    requires clocks_in_bounds { at + rule_size shape.clocks ≤ length section.now }
-    ensures { result ≡ rule_refusal shape.inputs shape.outputs (take shape.clocks shape.ceilings) shape.locations before (rule_from shape.clocks section.now at) }
+// Refused where the rule breaks the rules: its head comes before its bounds.
+fn check_rule(rule: &[u8], shape: Shape, before: usize) -> Result<(), Refusal>
+    requires shaped { Shaped shape }
+    requires whole { length rule.now ≡ rule_size shape.clocks }
+    ensures { refusal_in result ≡ rule_refusal shape.inputs shape.outputs (take shape.clocks shape.ceilings) shape.locations before (rule_from shape.clocks rule.now 0) }
 {
-    if !head_good(section, at, shape, before) {
-        return 6;
+    if !head_good(rule, shape, before) {
+        return Err(Refusal::BadHead);
     }
-    let ceilings = shape.ceilings;
-    if bounds_good(section, at + RULE_HEAD, ceilings, shape.clocks) {
-        0
-    } else {
-        7
+    if !bounds_good(&rule[RULE_HEAD..], &shape.ceilings[..shape.clocks]) {
+        return Err(Refusal::BadBounds);
     }
+    Ok(())
 }
 
-// The refusal of the first of the n rules that breaks the rules, else 0.
-fn rules_refusal(section: &[u8], n: usize, shape: Shape) -> u8
+// The refusal of the first of the n rules that breaks the rules.
+fn check_each_rule(section: &[u8], n: usize, shape: Shape) -> Result<(), Refusal>
     requires n_bound { (n ≤ 256) × Shaped shape }
     requires clocks_in_bounds { n * rule_size shape.clocks ≤ length section.now }
-    ensures { result ≡ rules_refusal shape.inputs shape.outputs (take shape.clocks shape.ceilings) shape.locations 0 (rules_from shape.clocks section.now 0 n) }
+    ensures { refusal_in result ≡ rules_refusal shape.inputs shape.outputs (take shape.clocks shape.ceilings) shape.locations 0 (rules_from shape.clocks section.now 0 n) }
 {
     let size = RULE_HEAD + BOUND_SIZE * shape.clocks;
-    let mut at = 0;
     let mut before = 0;
-    let mut i = 0;
-    while i < n {
-        let r = rule_refusal(section, at, shape, before);
-        if r != 0 {
-            return r;
-        }
-        before = byte_within(section, at);
-        at += size;
-        i += 1;
+    for i in 0..n {
+        let rule = &section[i * size..(i + 1) * size];
+        check_rule(rule, shape, before)?;
+        before = usize::from(rule[0]);
     }
-    0
+    Ok(())
 }
 
-pub(crate) fn rules_section_refusal(file: &[u8], at: usize, shape: Shape) -> u8
+// How many rules there are, if their section is good.
+pub(crate) fn check_rules(file: &[u8], at: usize, shape: Shape) -> Result<usize, Refusal>
     requires { (at < 2 ^ 10) × (at ≡ rules_at file.now) × ShapeOf file.now shape }
-    ensures { result ≡ rules_section_refusal file.now }
+    ensures refuses { refusal_in result ≡ rules_section_refusal file.now }
+    ensures counts { IfOk result (λ n. n ≡ rule_count file.now) }
 {
     let n = pair_at(file, at);
     let size = RULE_HEAD + BOUND_SIZE * shape.clocks;
-    let r = section_refusal(file, at, 2, n, 0, RULES, size);
-    if r != 0 {
-        return r;
-    }
-    rules_refusal(&file[at + 2..at + 2 + n * size], n, shape)
+    check_section(file, at, 2, n, 0, RULES, size)?;
+    check_each_rule(&file[at + 2..at + 2 + n * size], n, shape)?;
+    Ok(n)
 }

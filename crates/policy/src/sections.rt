@@ -1,14 +1,16 @@
 // The sections before the rules: counts, limits, lengths and contents.
-ghost use Rattle.std.specs.Prelude.{◌≡◌, ℕ, ◌+◌, ◌*◌, ◌≤◌, ◌<◌, ◌^◌, get_or};
-ghost use Rattle.policy.specs.File.{pairs_from, input_count, outputs_at, clocks_at, locations_at};
-ghost use Rattle.policy.specs.Check.{section_refusal, among, tags_good, ceiling_good, location_good, all_pass, inputs_refusal, outputs_refusal, clocks_refusal, locations_refusal};
+ghost use Rattle.std.specs.Prelude.{◌≡◌, ℕ, ◌+◌, ◌*◌, ◌≤◌, ◌<◌, ◌^◌, get_or, length, IfOk};
+ghost use Rattle.policy.specs.File.{pairs_from, input_count, outputs_at, output_count, clocks_at, clock_count, locations_at, location_count};
+ghost use Rattle.policy.specs.Check.{section_refusal, tags_good, ceiling_good, location_good, all_pass, inputs_refusal, outputs_refusal, clocks_refusal, locations_refusal};
 ghost use Rattle.policy.specs.Number.{four, states_of};
+ghost use Rattle.refusals.specs.Refused.{refusal_in};
 
 use crate::bytes::{byte_at, pair_at};
 use crate::limits::{CEILING, CLOCKS, LOCATIONS, SIGNALS};
+use refusals::Refusal;
 
-// 1 where the count at `at` or its section is cut short, 2 where the count n is outside its limits, else 0.
-pub(crate) fn section_refusal(
+// Refused where the count at `at` or its section is cut short, and where the count n is outside its limits.
+pub(crate) fn check_section(
     file: &[u8],
     at: usize,
     width: usize,
@@ -16,59 +18,30 @@ pub(crate) fn section_refusal(
     low: usize,
     high: usize,
     size: usize,
-) -> u8
+) -> Result<(), Refusal>
     requires { (at < 2 ^ 16) × (width < 2 ^ 16) × (high < 2 ^ 16) × (size < 2 ^ 16) }
-    ensures { result ≡ section_refusal file.now at width n low high size }
+    ensures { refusal_in result ≡ section_refusal file.now at width n low high size }
 {
     if file.len() < at + width {
-        return 1;
+        return Err(Refusal::CutShort);
     }
-    if n < low {
-        return 2;
-    }
-    if high < n {
-        return 2;
+    if n < low || high < n {
+        return Err(Refusal::BadCount);
     }
     if file.len() < at + width + n * size {
-        return 1;
+        return Err(Refusal::CutShort);
     }
-    0
-}
-
-// The tag t is one of the tags.
-fn is_among(t: u8, tags: &[u8]) -> bool
-    ensures { result ≡ among t tags.now }
-{
-    let mut i = 0;
-    while i < tags.len() {
-        if tags[i] == t {
-            return true;
-        }
-        i += 1;
-    }
-    false
+    Ok(())
 }
 
 // Each tag is a capital letter, and new after those before it in the file.
 pub(crate) fn tags_good(before: &[u8], tags: &[u8]) -> bool
     ensures { result ≡ tags_good before.now tags.now }
 {
-    let mut i = 0;
-    while i < tags.len() {
-        let t = tags[i];
-        if t < 65 {
+    for (i, tag) in tags.iter().enumerate() {
+        if !tag.is_ascii_uppercase() || before.contains(tag) || tags[..i].contains(tag) {
             return false;
         }
-        if 90 < t {
-            return false;
-        }
-        if is_among(t, before) {
-            return false;
-        }
-        if is_among(t, &tags[..i]) {
-            return false;
-        }
-        i += 1;
     }
     true
 }
@@ -77,14 +50,7 @@ pub(crate) fn tags_good(before: &[u8], tags: &[u8]) -> bool
 pub(crate) fn locations_good(bytes: &[u8]) -> bool
     ensures { result ≡ all_pass location_good bytes.now }
 {
-    let mut i = 0;
-    while i < bytes.len() {
-        if 1 < bytes[i] {
-            return false;
-        }
-        i += 1;
-    }
-    true
+    bytes.iter().all(|&byte| byte <= 1)
 }
 
 // Each of the n ceilings from `at` on is 1 to 1,001.
@@ -92,16 +58,11 @@ pub(crate) fn ceilings_good(file: &[u8], at: usize, n: usize) -> bool
     requires { (at < 2 ^ 16) × (n ≤ 4) }
     ensures { result ≡ all_pass ceiling_good (pairs_from file.now at n) }
 {
-    let mut i = 0;
-    while i < n {
-        let c = pair_at(file, at + 2 * i);
-        if c < 1 {
+    for i in 0..n {
+        let ceiling = pair_at(file, at + 2 * i);
+        if !(1..=CEILING).contains(&ceiling) {
             return false;
         }
-        if CEILING < c {
-            return false;
-        }
-        i += 1;
     }
     true
 }
@@ -111,84 +72,88 @@ pub(crate) fn ceilings_of(file: &[u8], at: usize, n: usize) -> [u16; CLOCKS]
     requires { (at < 2 ^ 16) × (n ≤ 4) }
     ensures { result ≡ four (pairs_from file.now at n) }
 {
-    let mut ceilings = [0u16; CLOCKS];
-    let mut i = 0;
-    while i < n {
+    let mut ceilings = [0; CLOCKS];
+    for i in 0..n {
         ceilings[i] = pair_at(file, at + 2 * i) as u16;
-        i += 1;
     }
     ceilings
 }
 
 // How many states there are: locations × the product of (ceiling + 1).
-pub fn states_of(ceilings: [u16; CLOCKS], clocks: usize, locations: usize) -> usize
-    requires { (clocks ≤ 4) × (locations ≤ 64) × ((i : ℕ) → i < clocks → get_or ceilings i 0 ≤ 1001) }
-    ensures { result ≡ states_of ceilings clocks locations }
+pub fn state_count(ceilings: &[u16], locations: usize) -> usize
+    requires { (length ceilings.now ≤ 4) × (locations ≤ 64) × ((i : ℕ) → i < length ceilings.now → get_or ceilings.now i 0 ≤ 1001) }
+    ensures { result ≡ states_of ceilings.now (length ceilings.now) locations }
 {
     let mut states = locations;
-    let mut i = 0;
-    while i < clocks {
-        states = states * (ceilings[i] as usize + 1);
-        i += 1;
+    for &ceiling in ceilings {
+        states *= usize::from(ceiling) + 1;
     }
     states
 }
 
-pub(crate) fn inputs_refusal(file: &[u8]) -> u8
-    ensures { result ≡ inputs_refusal file.now }
+// The same of the first ceilings of four.
+pub fn states_of(ceilings: [u16; CLOCKS], clocks: usize, locations: usize) -> usize
+    requires { (clocks ≤ 4) × (locations ≤ 64) × ((i : ℕ) → i < clocks → get_or ceilings i 0 ≤ 1001) }
+    ensures { result ≡ states_of ceilings clocks locations }
+{
+    state_count(&ceilings[..clocks], locations)
+}
+
+// How many inputs there are, if their section is good.
+pub(crate) fn check_inputs(file: &[u8]) -> Result<usize, Refusal>
+    ensures refuses { refusal_in result ≡ inputs_refusal file.now }
+    ensures counts { IfOk result (λ n. n ≡ input_count file.now) }
 {
     let n = byte_at(file, 0);
-    let r = section_refusal(file, 0, 1, n, 0, SIGNALS, 1);
-    if r != 0 {
-        return r;
-    }
-    if tags_good(&file[..0], &file[1..1 + n]) {
-        0
+    check_section(file, 0, 1, n, 0, SIGNALS, 1)?;
+    if tags_good(&[], &file[1..1 + n]) {
+        Ok(n)
     } else {
-        3
+        Err(Refusal::BadTag)
     }
 }
 
-pub(crate) fn outputs_refusal(file: &[u8], at: usize, inputs: usize) -> u8
+// How many outputs there are, if their section is good.
+pub(crate) fn check_outputs(file: &[u8], at: usize, inputs: usize) -> Result<usize, Refusal>
     requires { (inputs_refusal file.now ≡ 0) × (inputs ≡ input_count file.now) × (at ≡ outputs_at file.now) }
-    ensures { result ≡ outputs_refusal file.now }
+    ensures refuses { refusal_in result ≡ outputs_refusal file.now }
+    ensures counts { IfOk result (λ n. n ≡ output_count file.now) }
 {
     let n = byte_at(file, at);
-    let r = section_refusal(file, at, 1, n, 0, SIGNALS, 1);
-    if r != 0 {
-        return r;
-    }
+    check_section(file, at, 1, n, 0, SIGNALS, 1)?;
     if tags_good(&file[1..1 + inputs], &file[at + 1..at + 1 + n]) {
-        0
+        Ok(n)
     } else {
-        3
+        Err(Refusal::BadTag)
     }
 }
 
-pub(crate) fn clocks_refusal(file: &[u8], at: usize) -> u8
+// How many clocks there are, if their section is good.
+pub(crate) fn check_clocks(file: &[u8], at: usize) -> Result<usize, Refusal>
     requires { (at < 2 ^ 10) × (at ≡ clocks_at file.now) }
-    ensures { result ≡ clocks_refusal file.now }
+    ensures refuses { refusal_in result ≡ clocks_refusal file.now }
+    ensures counts { IfOk result (λ n. n ≡ clock_count file.now) }
 {
     let n = byte_at(file, at);
-    let r = section_refusal(file, at, 1, n, 0, CLOCKS, 2);
-    if r != 0 {
-        return r;
+    check_section(file, at, 1, n, 0, CLOCKS, 2)?;
+    if ceilings_good(file, at + 1, n) {
+        Ok(n)
+    } else {
+        Err(Refusal::BadCeiling)
     }
-    if ceilings_good(file, at + 1, n) { 0 } else { 4 }
 }
 
-pub(crate) fn locations_refusal(file: &[u8], at: usize) -> u8
+// How many locations there are, if their section is good.
+pub(crate) fn check_locations(file: &[u8], at: usize) -> Result<usize, Refusal>
     requires { (at < 2 ^ 10) × (at ≡ locations_at file.now) }
-    ensures { result ≡ locations_refusal file.now }
+    ensures refuses { refusal_in result ≡ locations_refusal file.now }
+    ensures counts { IfOk result (λ n. n ≡ location_count file.now) }
 {
     let n = byte_at(file, at);
-    let r = section_refusal(file, at, 1, n, 1, LOCATIONS, 1);
-    if r != 0 {
-        return r;
-    }
+    check_section(file, at, 1, n, 1, LOCATIONS, 1)?;
     if locations_good(&file[at + 1..at + 1 + n]) {
-        0
+        Ok(n)
     } else {
-        5
+        Err(Refusal::BadLocation)
     }
 }

@@ -10,22 +10,11 @@ fn weight_at(file: &[u8], at: usize, tag: u8) -> u8
     requires { at ≤ 256 }
     ensures { result ≡ weight_at file.now at tag }
 {
-    let count = byte_at(file, at);
-    let start = at + 1;
-    let mut weight = 1u8;
-    let mut i = 0;
-    while i < SIGNALS {
-        if count <= i {
-            return 0;
+    let count = byte_at(file, at).min(SIGNALS);
+    for i in 0..count {
+        if file.get(at + 1 + i) == Some(&tag) {
+            return 1 << i;
         }
-        if file.len() <= start + i {
-            return 0;
-        }
-        if file[start + i] == tag {
-            return weight;
-        }
-        weight = weight * 2;
-        i += 1;
     }
     0
 }

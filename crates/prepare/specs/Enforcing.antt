@@ -4,7 +4,6 @@ use Rattle.std.proofs.Math.Option.{some}
 use Rattle.streams.specs.Stream.{Event, Stream}
 use Rattle.streams.specs.Corrections.{corrections}
 use Rattle.streams.specs.Enforced.{Enforced}
-use Rattle.streams.specs.Enforced
 use Rattle.policy.specs.Rules.{Policy, Place, start, unlimited, steps, Fits, Permits}
 use Rattle.policy.specs.Stop.{stop}
 use Rattle.policy.specs.Number.{states, number_of}

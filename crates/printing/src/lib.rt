@@ -85,10 +85,8 @@ pub fn put_ticks(text: &mut [u8], at: usize, events: &[u8], released: &[u8]) -> 
     ensures { Wrote text.old at (tick_lines 1 events.now released.now) result text.new }
 {
     let mut next = at;
-    let mut i = 0;
-    while i < events.len() {
-        next = put_tick(text, next, i + 1, events[i], released[i]);
-        i += 1;
+    for (i, (event, now)) in events.iter().zip(released).enumerate() {
+        next = put_tick(text, next, i + 1, *event, *now);
     }
     next
 }

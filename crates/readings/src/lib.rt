@@ -4,7 +4,7 @@
 ghost use Rattle.std.specs.Prelude.{◌≡◌, ◌||◌, eqb};
 ghost use Rattle.readings.specs.Reading.{reading_of, reading_told};
 
-// There are two readings.
+// There are two readings. A reading stays a number, since a caller may name any, and 22 refuses it.
 pub fn is_reading(reading: u8) -> bool
     ensures { result ≡ (eqb reading 1 || eqb reading 2) }
 {
@@ -15,25 +15,19 @@ pub fn is_reading(reading: u8) -> bool
 pub fn reading_of(word: &[u8]) -> u8
     ensures { result ≡ reading_of word.now }
 {
-    if word.len() != 1 {
-        return 0;
+    match word {
+        [digit] => digit.saturating_sub(b'0'),
+        _ => 0,
     }
-    let digit = word[0];
-    if digit < b'0' {
-        return 0;
-    }
-    digit - b'0'
 }
 
 // The reading of a program that may be told it by one word: 1 where it is not, and 0 for more words than one. Its own name is counted with the words.
 pub fn reading_told(words: usize, word: &[u8]) -> u8
     ensures { result ≡ reading_told words word.now }
 {
-    if words < 2 {
-        return 1;
+    match words {
+        0 | 1 => 1,
+        2 => reading_of(word),
+        _ => 0,
     }
-    if 2 < words {
-        return 0;
-    }
-    reading_of(word)
 }

@@ -1,13 +1,16 @@
 -- What `why_run` answers, for any bytes, marks, state, events and slices to work in; its whole promise under one name, and that one answer alone meets it.
-use Rattle.std.specs.Prelude.{◌≡◌, not, List, ◌++◌, ℕ, suc, ◌/◌, ◌%◌, ◌<◌, min, leb, length, get_or, take, drop}
+use Rattle.std.specs.Prelude.{◌≡◌, not, List, ◌++◌, ℕ, suc, ◌/◌, ◌%◌, ◌<◌, min, leb, length, get_or, take, drop, Result, Ok, Err}
 use Rattle.std.proofs.Common.{sym, ap, ◌∙◌, arith, ext_get_or}
-use Rattle.streams.specs.Answer.{Answer, ◌or_else◌, unless}
+use Rattle.streams.specs.Answer.{Answer, answer, ◌or_else◌, unless}
+use Rattle.refusals.specs.Refused.{number_of}
+use Rattle.refusals.specs.declared.Refusal.{Refusal}
+use Rattle.policy.specs.Layout.{layout_of}
+use Rattle.policy.specs.declared.Layout.{Layout}
 use Rattle.policy.specs.File.{policy_of}
 use Rattle.policy.specs.Check.{all_pass}
 use Rattle.enforcer.specs.Entries.{RunAnswer, event_good, state_refusal, run_of}
-use Rattle.enforcer.specs.Promises.{ran_said}
+use Rattle.enforcer.specs.Promises.{Ran, ran_said}
 use Rattle.stepping.specs.declared.state.State.{State}
-use Rattle.enforcer.specs.declared.runs.Ran.{Ran}
 use Rattle.fast.specs.Entry.{Work, shortest, lent_refusal}
 use Rattle.counting.specs.OtherMarks.{other_marks}
 use Rattle.explaining.specs.EachHalf.{Reasons}
@@ -29,6 +32,15 @@ shortest_of m = min (length m.ticks) (min (length m.rests) (min (length m.prepar
 -- Refusals 22 and 1 to 10; 23, "if a work slice has fewer entries than there are states"; and 14, "when the slice is shorter than the events".
 unfoldable pub room_refusal : (reading : ℕ) → (file marks : List ℕ) → (work events words : ℕ) → ℕ
 room_refusal reading file marks work events words = lent_refusal reading file marks work or_else unless (leb events words) 14
+
+-- The layout of a file that passes, where nothing of this is refused.
+unfoldable pub room_for : (reading : ℕ) → (file marks : List ℕ) → (work events words : ℕ) → Answer Layout
+room_for reading file marks work events words = answer (room_refusal reading file marks work events words) (layout_of reading file)
+
+-- What the code hands back, by the state after so many events or the refusal: then none is explained, and the state stays.
+abbrev pub walked : State → ℕ → Result State Refusal → Ran
+walked s n (Ok t) = record { refusal = 0; count = n; state = t }
+walked s n (Err r) = record { refusal = number_of r; count = 0; state = s }
 
 module _ (reading : ℕ) (file marks : List ℕ) (s : State) (events : List ℕ) where
   -- The state that the run has before the event i: the one that `run` hands back for the events before it.

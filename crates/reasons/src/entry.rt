@@ -2,15 +2,10 @@
 ghost use Rattle.std.specs.Prelude.{◌≡◌, length};
 ghost use Rattle.reasons.specs.Promise.{WhyPromise, SmallReasons, answer_said};
 
-use crate::refusals::refusal;
+use crate::tables::counted;
 use explaining::{Reasons, reasons};
+use refusals::Refusal;
 use stepping::State;
-
-#[derive(Clone, Copy)]
-pub enum WhyAnswer {
-    Gives(Reasons),
-    Refused(u8),
-}
 
 // In tables that are lent, with an entry for each state that a policy can have.
 fn explain(
@@ -22,18 +17,13 @@ fn explain(
     y: u8,
     ticks: &mut [u32],
     rests: &mut [u32],
-) -> WhyAnswer
+) -> Result<Reasons, Refusal>
     requires { (length ticks.old ≡ 65536) × (length rests.old ≡ 65536) }
-    ensures { WhyPromise reading file.now marks.now state x y result × SmallReasons (answer_said result) }
+    ensures { WhyPromise reading file.now marks.now state x y (answer_said result) × SmallReasons (answer_said result) }
 {
-    let checked = policy::check_under(reading, file);
-    let r = refusal(reading, file, checked, marks, state, x, y, ticks, rests);
-    if r != 0 {
-        return WhyAnswer::Refused(r);
-    }
-    let layout = checked.layout;
+    let layout = counted(reading, file, marks, state, x, y, ticks, rests)?;
     let states = layout.states;
-    WhyAnswer::Gives(reasons(
+    Ok(reasons(
         file,
         layout,
         marks,
@@ -54,15 +44,22 @@ fn explain_in(
     y: u8,
     ticks: &mut [u32; State::STATES],
     rests: &mut [u32; State::STATES],
-) -> WhyAnswer
-    ensures { WhyPromise reading file.now marks.now state x y result × SmallReasons (answer_said result) }
+) -> Result<Reasons, Refusal>
+    ensures { WhyPromise reading file.now marks.now state x y (answer_said result) × SmallReasons (answer_said result) }
 {
     explain(reading, file, marks, state, x, y, ticks, rests)
 }
 
 // The reasons for x and y as read. The counts of all states stand in tables of its own, 512 KB on the stack, beside the room of `count`.
-pub fn why(reading: u8, file: &[u8], marks: &[u8], state: State, x: u8, y: u8) -> WhyAnswer
-    ensures { WhyPromise reading file.now marks.now state x y result × SmallReasons (answer_said result) }
+pub fn why(
+    reading: u8,
+    file: &[u8],
+    marks: &[u8],
+    state: State,
+    x: u8,
+    y: u8,
+) -> Result<Reasons, Refusal>
+    ensures { WhyPromise reading file.now marks.now state x y (answer_said result) × SmallReasons (answer_said result) }
 {
     let mut ticks = [0u32; State::STATES];
     let mut rests = [0u32; State::STATES];

@@ -2,10 +2,10 @@
 #![tactic(auto)]
 
 mod entry;
-mod refusals;
 mod runs;
+mod tables;
 mod words;
 
-pub use entry::{WhyAnswer, why};
-pub use runs::{room_refusal, shortest, why_run};
+pub use entry::why;
+pub use runs::{room_for, shortest, why_run};
 pub use words::word;

@@ -3,7 +3,6 @@ ghost use Rattle.std.specs.Prelude.{◌≡◌, true, ℕ, ◌≤◌, min, length
 ghost use Rattle.policy.specs.File.{policy_of};
 ghost use Rattle.policy.specs.Number.{states};
 ghost use Rattle.policy.specs.Check.{all_pass};
-ghost use Rattle.policy.specs.Layout.{checked_under};
 ghost use Rattle.index.specs.Index.{index_of};
 ghost use Rattle.enforcer.specs.Entries.{event_good, state_refusal};
 ghost use Rattle.stepping.specs.Ready.{Laid};
@@ -11,39 +10,38 @@ ghost use Rattle.enforcer.specs.Promises.{ran_said};
 ghost use Rattle.prepare.specs.Enforcing.{AsPrepared};
 ghost use Rattle.counting.specs.Counted.{CountsOf};
 ghost use Rattle.counting.specs.OtherMarks.{other_marks};
-ghost use Rattle.reasons.specs.Runs.{room_refusal, early_refusal, WhyRunAnswers, WhyRunPromise};
+ghost use Rattle.refusals.specs.Refused.{told};
+ghost use Rattle.reasons.specs.Runs.{room_for, early_refusal, walked, WhyRunAnswers, WhyRunPromise};
 ghost use Rattle.reasons.specs.RunLaws.{Walking};
 
 use crate::words::both;
 use counting::count_in;
-use enforcer::{Ran, events_good, marks_refusal, state_refusal};
+use enforcer::{check_state, events_good, layout_for};
 use explaining::halves::tell;
 use index::{NUMBERS, own_at};
-use policy::{Checked, Layout};
+use policy::Layout;
+use refusals::Refusal;
 use stepping::State;
-use trimming::least;
 
-// 22 and 1 to 10; 23 where the shortest work slice is too short, and 14 where the slice for the words is.
-pub fn room_refusal(
+// The layout, where the slices are long enough. 22 and 1 to 10; 23 where the shortest work slice is too short, and 14 where the slice for the words is.
+pub fn room_for(
     reading: u8,
     file: &[u8],
-    checked: Checked,
     marks: &[u8],
     work: usize,
     events: usize,
     words: usize,
-) -> u8
-    requires { checked ≡ checked_under reading file.now }
-    ensures { result ≡ room_refusal reading file.now marks.now work events words }
+) -> Result<Layout, Refusal>
+    ensures { told result ≡ room_for reading file.now marks.now work events words }
 {
-    let r = marks_refusal(checked, marks);
-    if r != 0 {
-        return r;
+    let layout = layout_for(reading, file, marks)?;
+    if work < layout.states {
+        return Err(Refusal::LittleWork);
     }
-    if work < checked.layout.states {
-        return 23;
+    if words < events {
+        return Err(Refusal::NoRoom);
     }
-    if words < events { 14 } else { 0 }
+    Ok(layout)
 }
 
 // The least of eight lengths.
@@ -59,16 +57,8 @@ pub fn shortest(
 ) -> usize
     ensures { result ≡ min ticks (min rests (min prepared (min stack (min from (min ways (min bound place)))))) }
 {
-    least(
-        ticks,
-        least(
-            rests,
-            least(
-                prepared,
-                least(stack, least(from, least(ways, least(bound, place)))),
-            ),
-        ),
-    )
+    let five = stack.min(from.min(ways.min(bound.min(place))));
+    ticks.min(rests.min(prepared.min(five)))
 }
 
 // A word for each event, by the tables and the index of the rules. Returns the state after them.
@@ -88,9 +78,7 @@ fn explain_each(
     ensures { Walking file.now layout marks.now events.now words.old start (length events.now) words.new result }
 {
     let mut state = start;
-    let mut i = 0;
-    while i < events.len() {
-        let event = events[i];
+    for (i, event) in events.iter().enumerate() {
         let own = own_at(file, layout, index, state.location);
         let told = tell(
             file,
@@ -100,14 +88,11 @@ fn explain_each(
             ticks,
             rests,
             state,
-            event % 16,
-            event / 16,
+            *event % 16,
+            *event / 16,
         );
-        let reasons = told.reasons;
-        words[i] = both(reasons);
-        let next = told.state;
-        state = next;
-        i += 1;
+        words[i] = both(told.reasons);
+        state = told.state;
     }
     state
 }
@@ -145,37 +130,22 @@ fn explained(
     state: State,
     events: &[u8],
     words: &mut [u64],
-) -> Ran
+) -> Result<State, Refusal>
     requires laid { Laid file.now layout × (others ≡ other_marks (policy_of layout.reading file.now) marks.now) × CountsOf (policy_of layout.reading file.now) ticks.now rests.now }
     requires file_in_bounds { (states (policy_of layout.reading file.now) ≤ length marks.now) × (state_refusal layout.reading file.now marks.now state ≡ 0) × (length events.now ≤ length words.old) }
-    ensures { (work : ℕ) → early_refusal layout.reading file.now marks.now state events.now words.old work ≡ 0 → WhyRunAnswers layout.reading file.now marks.now state events.now words.old work (ran_said result words.new) }
+    ensures { (work : ℕ) → early_refusal layout.reading file.now marks.now state events.now words.old work ≡ 0 → WhyRunAnswers layout.reading file.now marks.now state events.now words.old work (ran_said (walked state (length events.now) result) words.new) }
 {
     if others {
-        return refused(state, 20);
+        return Err(Refusal::OtherMarks);
     }
     if !events_good(file, layout, events) {
-        return refused(state, 15);
+        return Err(Refusal::BadEvent);
     }
-    let after = explain_all(file, layout, marks, ticks, rests, state, events, words);
-    Ran {
-        refusal: 0,
-        count: events.len(),
-        state: after,
-    }
+    Ok(explain_all(file, layout, marks, ticks, rests, state, events, words))
 }
 
-fn refused(state: State, refusal: u8) -> Ran
-    ensures { result ≡ record { refusal = refusal; count = 0; state = state } }
-{
-    Ran {
-        refusal,
-        count: 0,
-        state,
-    }
-}
-
-// Writes for each event the word of what `why` answers in the state that the run has there: 0 where neither half is edited. The last eight slices are
-// scratch, each with an entry for each state. Refusals 22, 1 to 10, 23, 14, 16, 20, 15.
+// Writes for each event the word of what `why` answers in the state that the run has there: 0 where neither half is edited. Returns the state after them.
+// The last eight slices are scratch, each with an entry for each state. Refusals 22, 1 to 10, 23, 14, 16, 20, 15.
 pub fn why_run(
     reading: u8,
     file: &[u8],
@@ -191,10 +161,9 @@ pub fn why_run(
     ways: &mut [u16],
     bound: &mut [u16],
     place: &mut [u16],
-) -> Ran
-    ensures { WhyRunPromise reading file.now marks.now state events.now words.old (record { ticks = ticks.old; rests = rests.old; prepared = prepared.old; work = record { stack = stack.old; from = from.old; ways = ways.old; bound = bound.old; place = place.old } }) result words.new (record { ticks = ticks.new; rests = rests.new; prepared = prepared.new; work = record { stack = stack.new; from = from.new; ways = ways.new; bound = bound.new; place = place.new } }) }
+) -> Result<State, Refusal>
+    ensures { WhyRunPromise reading file.now marks.now state events.now words.old (record { ticks = ticks.old; rests = rests.old; prepared = prepared.old; work = record { stack = stack.old; from = from.old; ways = ways.old; bound = bound.old; place = place.old } }) (walked state (length events.now) result) words.new (record { ticks = ticks.new; rests = rests.new; prepared = prepared.new; work = record { stack = stack.new; from = from.new; ways = ways.new; bound = bound.new; place = place.new } }) }
 {
-    let checked = policy::check_under(reading, file);
     let work = shortest(
         ticks.len(),
         rests.len(),
@@ -205,23 +174,8 @@ pub fn why_run(
         bound.len(),
         place.len(),
     );
-    let r = room_refusal(
-        reading,
-        file,
-        checked,
-        marks,
-        work,
-        events.len(),
-        words.len(),
-    );
-    if r != 0 {
-        return refused(state, r);
-    }
-    let layout = checked.layout;
-    let r = state_refusal(file, layout, marks, state);
-    if r != 0 {
-        return refused(state, r);
-    }
+    let layout = room_for(reading, file, marks, work, events.len(), words.len())?;
+    check_state(file, layout, marks, state)?;
     let states = layout.states;
     let others = count_in(
         file,

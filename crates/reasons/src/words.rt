@@ -1,12 +1,12 @@
 // An answer as one number, for the C interface.
-ghost use Rattle.std.specs.Prelude.{◌≡◌, ◌+◌, ◌*◌, ◌<◌};
+ghost use Rattle.std.specs.Prelude.{◌≡◌, Ok, ◌+◌, ◌*◌, ◌<◌};
 ghost use Rattle.explaining.specs.Reasons.{kind_of, count_of};
 ghost use Rattle.explaining.specs.CodeReasons.{reason_said};
 ghost use Rattle.reasons.specs.Promise.{answer_said, SmallReasons};
 ghost use Rattle.reasons.specs.Word.{why_word};
 
-use crate::entry::WhyAnswer;
 use explaining::{Reason, Reasons, kind, number};
+use refusals::Refusal;
 
 // A reason's number above its kind.
 fn field(reason: Reason) -> u64
@@ -18,8 +18,8 @@ fn field(reason: Reason) -> u64
 
 // The two reasons.
 pub(crate) fn both(reasons: Reasons) -> u64
-    requires { SmallReasons (answer_said (WhyAnswer.Gives reasons)) }
-    ensures { result ≡ why_word (answer_said (WhyAnswer.Gives reasons)) }
+    requires { SmallReasons (answer_said (Ok reasons)) }
+    ensures { result ≡ why_word (answer_said (Ok reasons)) }
 {
     let input = reasons.input;
     let output = reasons.output;
@@ -27,12 +27,12 @@ pub(crate) fn both(reasons: Reasons) -> u64
 }
 
 // The refusal, or the word of the two.
-pub fn word(answer: WhyAnswer) -> u64
+pub fn word(answer: Result<Reasons, Refusal>) -> u64
     requires { SmallReasons (answer_said answer) }
     ensures { result ≡ why_word (answer_said answer) }
 {
     match answer {
-        WhyAnswer::Gives(reasons) => both(reasons),
-        WhyAnswer::Refused(n) => n as u64,
+        Ok(reasons) => both(reasons),
+        Err(refusal) => u64::from(u8::from(refusal)),
     }
 }

@@ -1,8 +1,10 @@
 -- What follows of a result from the numbers.
 use Rattle.std.specs.Prelude.{◌≡◌, refl, ℕ, zero, suc, ◌<◌, cond, eqb, Result, Ok, Err}
+use Rattle.std.specs.Result.{IsErrAnd}
 use Rattle.std.proofs.Common.{arith, sym, ap, ◌∙◌}
+use Rattle.std.proofs.lemmas.Result.{err_from_is_err_and}
 use Rattle.streams.specs.Answer.{Answer, refused, gives, answer, ◌or_else◌}
-use Rattle.refusals.specs.Refused.{number_of, told}
+use Rattle.refusals.specs.Refused.{number_of, refusal_in, told}
 use Rattle.refusals.specs.declared.Refusal.{Refusal}
 
 -- No refusal has the number 0, which stands for none.
@@ -153,3 +155,15 @@ told_one (Ok a) (Ok b) e = ap Ok (gives-one a b e)
 told_one (Err r) (Err s) e = ap Err (number_one r s (refused-one (number_of r) (number_of s) e))
 told_one (Ok a) (Err s) e = cc
 told_one (Err r) (Ok b) e = cc
+
+-- The refusal that a `?` hands on is the one that it met.
+pub handed_on : {A : Type 0} (r : Result A Refusal) (e : Refusal) → IsErrAnd r (λ d. d ≡ e) → r ≡ Err e
+handed_on r e h = let k = err_from_is_err_and r h in k.1 ∙ ap Err k.2
+
+-- It comes before any other.
+pub handed_first : {A : Type 0} (r : Result A Refusal) (e : Refusal) {n : ℕ} (b : ℕ) → IsErrAnd r (λ d. d ≡ e) → number_of e ≡ n → refusal_in r ≡ (n or_else b)
+handed_first r e b h g = rw (handed_on r e h, ← g, refused_first)
+
+-- With it nothing is given.
+pub handed_answer : {A : Type 0} (r : Result A Refusal) (e : Refusal) {n : ℕ} (a : A) → IsErrAnd r (λ d. d ≡ e) → number_of e ≡ n → told r ≡ answer n a
+handed_answer r e a h g = rw (handed_on r e h, ← g, refused_answer)

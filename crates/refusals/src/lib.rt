@@ -2,7 +2,7 @@
 #![tactic(auto)]
 
 ghost use Rattle.std.specs.Prelude.{◌≡◌};
-ghost use Rattle.refusals.specs.Refused.{number_of};
+ghost use Rattle.refusals.specs.Refused.{number_of, refusal_in};
 
 #[derive(Clone, Copy, Debug, PartialEq, Eq)]
 pub enum Refusal {
@@ -120,5 +120,15 @@ impl From<Refusal> for u8 {
             Refusal::BadOrder => 34,
             Refusal::NoneSuch => 35,
         }
+    }
+}
+
+// What C is told of an entry that gives nothing else: 0, or the refusal's number.
+pub fn number(outcome: Result<(), Refusal>) -> u8
+    ensures { result ≡ refusal_in outcome }
+{
+    match outcome {
+        Ok(()) => 0,
+        Err(refusal) => u8::from(refusal),
     }
 }

@@ -8,6 +8,7 @@ ghost use Rattle.rule_text.specs.Trail.{trailing};
 ghost use Rattle.rule_text.specs.Pieces.{limit_piece, low_piece, high_piece, bound_piece};
 
 use policy::bytes::pair_within;
+use policy::limits::NO_UPPER_BOUND;
 use texts::{put_bytes, put_decimal};
 
 // The digits of n in decimal. Most numbers of a text have one digit or two, and `put_decimal` calls itself.
@@ -16,15 +17,12 @@ fn put_digits(text: &mut [u8], at: usize, n: usize) -> usize
     ensures { Wrote text.old at (decimal n) result text.new }
 {
     if n < 10 {
-        let digit = b'0' + n as u8;
-        let one = [digit];
-        return put_bytes(text, at, &one);
+        return put_bytes(text, at, &[b'0' + n as u8]);
     }
     if n < 100 {
         let first = b'0' + (n / 10) as u8;
         let last = b'0' + (n % 10) as u8;
-        let two = [first, last];
-        return put_bytes(text, at, &two);
+        return put_bytes(text, at, &[first, last]);
     }
     put_decimal(text, at, n)
 }
@@ -73,12 +71,11 @@ fn put_low(text: &mut [u8], at: usize, k: usize, low: usize) -> usize
     put_limit(text, at, b" >= ", k, low)
 }
 
-// A high of 65,535 is no upper bound.
 fn put_high(text: &mut [u8], at: usize, k: usize, high: usize) -> usize
     requires { (k < 65536) × (high < 65536) × (at + 16 ≤ length text.old) }
     ensures { Wrote text.old at (high_piece k high) result text.new × (result ≤ at + 16) }
 {
-    if high == 65535 {
+    if high == NO_UPPER_BOUND as usize {
         return at;
     }
     put_limit(text, at, b" <= ", k, high)
@@ -104,12 +101,10 @@ pub(crate) fn put_bounds(
     ensures { Wrote text.old at (trailing (bound_words 0 (bounds_from file.now from clocks))) result text.new × (result ≤ at + 128) }
 {
     let mut next = at;
-    let mut i = 0;
-    while i < clocks {
-        let low = pair_within(file, from + 4 * i);
-        let high = pair_within(file, from + 4 * i + 2);
-        next = put_bound(text, next, i, low, high);
-        i += 1;
+    for clock in 0..clocks {
+        let low = pair_within(file, from + 4 * clock);
+        let high = pair_within(file, from + 4 * clock + 2);
+        next = put_bound(text, next, clock, low, high);
     }
     next
 }

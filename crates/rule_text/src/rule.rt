@@ -8,6 +8,7 @@ ghost use Rattle.rule_text.specs.Pieces.{leading, condition_text, condition_piec
 use crate::limits::{put_bounds, put_name, put_named};
 use crate::signals::put_signals;
 use policy::bytes::byte_within;
+use policy::limits::VIOLATION;
 use texts::put_bytes;
 
 // The rule stands in the file from `rule` on.
@@ -52,7 +53,7 @@ fn put_target(text: &mut [u8], at: usize, target: usize) -> usize
     requires { (target < 65536) × (at + 12 ≤ length text.old) }
     ensures { Wrote text.old at (target_piece target) result text.new × (result ≤ at + 12) }
 {
-    if target == 255 {
+    if target == VIOLATION {
         return put_bytes(text, at, b"-> violation");
     }
     put_name(text, at, b"-> q", target)
@@ -74,11 +75,9 @@ fn put_resets(text: &mut [u8], at: usize, clocks: usize, mask: usize) -> usize
 {
     let mut next = at;
     let mut mask_on = mask;
-    let mut i = 0;
-    while i < clocks {
-        next = put_reset(text, next, i, mask_on);
+    for clock in 0..clocks {
+        next = put_reset(text, next, clock, mask_on);
         mask_on /= 2;
-        i += 1;
     }
     next
 }

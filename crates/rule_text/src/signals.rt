@@ -38,12 +38,10 @@ pub(crate) fn put_signals(text: &mut [u8], at: usize, tags: &[u8], care: u8, val
     let mut next = at;
     let mut c = care;
     let mut v = value;
-    let mut i = 0;
-    while i < tags.len() {
-        next = put_signal(text, next, tags[i], c, v);
+    for tag in tags {
+        next = put_signal(text, next, *tag, c, v);
         c /= 2;
         v /= 2;
-        i += 1;
     }
     next
 }

@@ -1,17 +1,29 @@
 -- The whole promise of the writer, and that one answer alone meets it.
-use Rattle.std.specs.Prelude.{◌≡◌, refl, List, ◌++◌, length, take, drop}
+use Rattle.std.specs.Prelude.{◌≡◌, refl, Result, Ok, Err, List, ◌++◌, length, take, drop}
 use Rattle.std.proofs.Common.{ap, sym, ◌∙◌, arith}
 use Prim.Native.Nat.{ℕ, zero, suc, ◌+◌, ◌≤◌, ◌<◌}
 use borrow.Author.Tests.{le-leb, lt-leb}
+use Rattle.refusals.specs.Refused.{number_of}
+use Rattle.refusals.specs.declared.Refusal.{Refusal}
 use Rattle.policy.specs.Check.{refusal_of}
-use Rattle.policy.specs.Layout.{CheckPromise, layout_of}
+use Rattle.policy.specs.Layout.{CheckPromise, checked_of, checked_said, layout_of}
 use Rattle.policy.specs.LayoutLaws.{checked_says}
-use Rattle.policy.specs.declared.Checked.{Checked}
+use Rattle.policy.specs.Layout.{Checked}
+use Rattle.policy.specs.declared.Layout.{Layout}
 use Rattle.texts.specs.Wrote.{Wrote}
 use Rattle.texts.specs.WroteLaws.{wrote_front}
 use Rattle.wording.specs.Writer.{text_of_file}
 use Rattle.showing.specs.Entry.{written_over, length_unless, write_refusal}
-use Rattle.showing.specs.declared.writer.Written.{Written}
+
+-- In 01's numbers: a refusal, or 0 and the length written.
+pub record Written : Type 0 where
+  pub refusal : ℕ
+  pub length : ℕ
+
+-- What a length or a refusal says, as an answer of the writer.
+abbrev pub written_said : Result ℕ Refusal → Written
+written_said (Ok n) = record { refusal = 0; length = n }
+written_said (Err r) = record { refusal = number_of r; length = 0 }
 
 -- What the writer answers, and what its slice holds `before` and `after`.
 pub record WriteTextPromise (file before : List ℕ) (r : Written) (after : List ℕ) : Type 0 where
@@ -31,6 +43,17 @@ pub check_says : {f : List ℕ} {r : Checked} → CheckPromise f r → (r.refusa
 check_says {f} {r} k =
     let said = checked_says f in
     (ap (λ (c : Checked). c.refusal) k.said ∙ said.0, λ h. ap (λ (c : Checked). c.layout) k.said ∙ said.1 h)
+
+-- A layout that the check gives is the file's, which passes.
+pub passed_says : (f : List ℕ) {l : Layout} → checked_said (Ok l) ≡ checked_of f → (refusal_of f ≡ 0) × (l ≡ layout_of 1 f)
+passed_says f e =
+    let says = checked_says f in
+    let none = sym says.0 ∙ sym (ap (λ (c : Checked). c.refusal) e) in
+    (none, ap (λ (c : Checked). c.layout) e ∙ says.1 none)
+
+-- A refusal that it gives is the file's.
+pub refused_says : (f : List ℕ) (d : Refusal) → checked_said (Err d) ≡ checked_of f → number_of d ≡ refusal_of f
+refused_says f d e = ap (λ (c : Checked). c.refusal) e ∙ (checked_says f).0
 
 -- The ways out.
 module _ (f before : List ℕ) where

@@ -5,4 +5,4 @@ mod declared;
 mod lines;
 mod writer;
 
-pub use writer::{Written, write};
+pub use writer::show;

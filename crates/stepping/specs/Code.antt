@@ -1,15 +1,12 @@
 -- What the code's own types stand for, and the definitions that its leaves meet.
-use Rattle.std.specs.Prelude.{true, false, cond, List, [], ◌∷◌, ℕ, suc, eqb}
-use Rattle.std.proofs.Math.Option.{Option, none, some, map}
+use Rattle.std.specs.Prelude.{cond, List, [], ◌∷◌, ℕ, suc, eqb, Option, Some, None}
+use Rattle.std.proofs.Math.Option as math
 use Rattle.streams.specs.Stream.{Event}
 use Rattle.policy.specs.Rules.{Rule, Place, fires, stopped, advance}
 use Rattle.policy.specs.Number.{location_from, clocks_from}
 use Rattle.policy.specs.declared.Layout.{Layout}
 use Rattle.stepping.specs.declared.state.State.{State}
 use Rattle.stepping.specs.declared.state.Limits.{Limits}
-use Rattle.stepping.specs.declared.next.Step.{Step}
-use Rattle.stepping.specs.declared.matcher.Found.{Found}
-use Rattle.stepping.specs.declared.matcher.Found.TheVariants as Found
 use Rattle.stepping.specs.State.{state_of}
 
 -- The event with the input x and the output y.
@@ -33,16 +30,16 @@ abbrev pub seen_by : Layout → State → State
 seen_by l s = cond (eqb l.reading 2) (record { location = s.location; clocks = advance stopped 0 l.ceilings s.clocks }) s
 
 -- The number of the first rule that fires: the one that decides.
-unfoldable pub decider : List Rule → Place → Event → Option ℕ
-decider [] s e = none
-decider (r ∷ rs) s e = cond (fires r s e) (some 0) (map suc (decider rs s e))
+unfoldable pub decider : List Rule → Place → Event → math.Option ℕ
+decider [] s e = math.none
+decider (r ∷ rs) s e = cond (fires r s e) (math.some 0) (math.map suc (decider rs s e))
 
 -- The number of the rule that the code found, if it found one.
-abbrev pub found_said : Found → Option ℕ
-found_said (Found.Rule i) = some i
-found_said Found.Nothing = none
+abbrev pub found_said : Option ℕ → math.Option ℕ
+found_said (Some i) = math.some i
+found_said None = math.none
 
--- The state after a step, or a violation and the state before it.
-abbrev pub step_from : State → Option Place → Step
-step_from s none = record { permitted = false; state = s }
-step_from s (some t) = record { permitted = true; state = state_of t }
+-- The state after a step, or none: a violation.
+abbrev pub step_from : math.Option Place → Option State
+step_from math.none = None
+step_from (math.some t) = Some (state_of t)

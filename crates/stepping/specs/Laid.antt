@@ -5,8 +5,8 @@ use Rattle.std.specs.Prelude.{◌≡◌, Bool, ℕ, zero, suc, ◌+◌, ◌-◌,
 use Rattle.std.proofs.Math.Path.{refl, sym, ap}
 use Rattle.std.proofs.Common.{◌∙◌, subst, add-zero, div-one, arith, length-append, take_at, get_or-take, get_or-append-add, ltb-true, ltb-false}
 use Rattle.std.proofs.Math.Bool.{true, false, cond}
-use Rattle.std.proofs.lemmas.Bool.{false≢true}
 use mathlib.Core.List.{List}
+use Rattle.std.specs.Prelude.{Some}
 use Rattle.std.proofs.Math.Option.{Option, none, some}
 use Rattle.std.proofs.Math.Nat.{mod-one, pow-le-pow_right}
 use Rattle.std.proofs.Math.Seq.{append_snoc}
@@ -26,7 +26,7 @@ use Rattle.policy.specs.Own.{own, own_of, own_sources, own_ends, own_reads}
 use Rattle.policy.specs.Layout.{layout_of, checked_under}
 use Rattle.policy.specs.LayoutLaws.{under_says}
 use Rattle.policy.specs.declared.Layout.{Layout}
-use Rattle.policy.specs.declared.Checked.{Checked}
+use Rattle.policy.specs.Layout.{Checked}
 use Rattle.policy.specs.declared.own.Own.{Own}
 use Rattle.index.specs.Sections.{Sections, sections_filled, sections_rules}
 use Rattle.choice.specs.Changed.{zeros}
@@ -35,7 +35,6 @@ use Rattle.stepping.specs.Tick.{arrives, reaches}
 use Rattle.stepping.specs.Code.{event_xy, state_at, seen_by, step_from}
 use Rattle.stepping.specs.Ready.{Laid, Standing, HereOf}
 use Rattle.stepping.specs.declared.state.State.{State}
-use Rattle.stepping.specs.declared.next.Step.{Step}
 use Rattle.stepping.specs.declared.here.Here.{Here}
 
 -- The number of a state, as the code works it out.
@@ -267,18 +266,19 @@ module _ {f : List ℕ} {l : Layout} (k : Laid f l) where
       Of (Inside (policy_of l.reading f)) (step stopped (policy_of l.reading f) (place l.clocks s) e)
   next_inside s e h = step_inside (policy_of l.reading f) (well_sound (policy_of l.reading f) laid_well) (place l.clocks s) h e
 
-  -- By the answer r of a step that has a next state: whether the event reaches a marked place is said by the mark of that state's number.
-  module _ (marks : List ℕ) (s : State) (x y : ℕ) {r : Step}
-      (e : r ≡ step_from s (step stopped (policy_of l.reading f) (place l.clocks s) (event_xy x y))) where
+  -- By a step that has a next state: whether the event reaches a marked place is said by the mark of that state's number.
+  module _ (marks : List ℕ) (s : State) (x y : ℕ) {next : State}
+      (e : Some next ≡ step_from (step stopped (policy_of l.reading f) (place l.clocks s) (event_xy x y))) where
     -- The next state has a number below that of the states, and its mark says whether the event reaches a marked place.
-    pub reaches_next : Inside (policy_of l.reading f) (place l.clocks s) → r.permitted ≡ true →
-        Numbered l.reading f marks (number_from l.ceilings 4 r.state.location r.state.clocks) (reaches (policy_of l.reading f) marks (place l.clocks s) x y)
+    pub reaches_next : Inside (policy_of l.reading f) (place l.clocks s) →
+        Numbered l.reading f marks (number_from l.ceilings 4 next.location next.clocks) (reaches (policy_of l.reading f) marks (place l.clocks s) x y)
     unfolding reaches
-    reaches_next h p = go (step stopped (policy_of l.reading f) (place l.clocks s) (event_xy x y)) e (next_inside s (event_xy x y) h)
+    reaches_next h = go (step stopped (policy_of l.reading f) (place l.clocks s) (event_xy x y)) e (next_inside s (event_xy x y) h)
       where
-        go : (d : Option Place) → r ≡ step_from s d → Of (Inside (policy_of l.reading f)) d →
-            Numbered l.reading f marks (number_from l.ceilings 4 r.state.location r.state.clocks) (arrives (policy_of l.reading f) marks d)
-        go none q i = absurd (false≢true (sym (ap (λ (z : Step). z.permitted) q) ∙ p))
+        go : (d : Option Place) → Some next ≡ step_from d → Of (Inside (policy_of l.reading f)) d →
+            Numbered l.reading f marks (number_from l.ceilings 4 next.location next.clocks) (arrives (policy_of l.reading f) marks d)
+        go none q i = absurd (cc)
         go (some t) q i =
-            let n = ap (λ (z : Step). number_from l.ceilings 4 z.state.location z.state.clocks) q ∙ four_number i in
+            let w : next ≡ state_of t = cc in
+            let n = ap (λ (z : State). number_from l.ceilings 4 z.location z.clocks) w ∙ four_number i in
             record { number = rw n (number_of_below (policy_of l.reading f) i); mark = ap (is_marked marks) n }

@@ -11,6 +11,7 @@ pub mod Ways
 pub mod TakesLaws
 pub mod WaysLaws
 pub mod RuleAhead
+pub mod RulePlaces
 pub mod Pass
 pub mod Led
 pub mod Decided

@@ -23,10 +23,6 @@ pub fn put_state(state: &mut [u16], next: State)
     requires { length state.old ≡ 5 }
     ensures { state.new ≡ state_words next }
 {
-    let clocks = next.clocks;
     state[0] = next.location;
-    state[1] = clocks[0];
-    state[2] = clocks[1];
-    state[3] = clocks[2];
-    state[4] = clocks[3];
+    state[1..].copy_from_slice(&next.clocks);
 }

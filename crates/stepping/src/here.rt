@@ -8,8 +8,8 @@ ghost use Rattle.stepping.specs.State.{place};
 ghost use Rattle.stepping.specs.Ready.{Laid, HereOf};
 ghost use Rattle.stepping.specs.Decided.{Decided};
 
-use crate::matcher::{Found, first_rule};
-use crate::next::{DecidedBy, Step, advanced};
+use crate::matcher::first_rule;
+use crate::next::advanced;
 use crate::state::State;
 use policy::limits::{BOUND_SIZE, RULE_HEAD};
 use policy::{Layout, Own, own_rules};
@@ -38,6 +38,7 @@ pub fn own_of(file: &[u8], layout: Layout, state: State) -> Own
 }
 
 // The state that bounds see: under reading 2 each clock has gone on by one.
+#[tactic(auto, using(std::proofs::lemmas::Bool::Decides::nat_tests))]
 fn seen_of(layout: Layout, state: State) -> State
     ensures { result ≡ seen_by layout state }
 {
@@ -64,8 +65,8 @@ pub fn here_by(file: &[u8], layout: Layout, own: Own, state: State) -> Here
     }
 }
 
-// The rule that decides the event x, y: the first of the location's own that fires.
-pub fn rule_of(file: &[u8], layout: Layout, here: Here, x: u8, y: u8) -> DecidedBy
+// Where the rule that decides the event x, y stands in the file: the first of the location's own that fires.
+pub fn rule_of(file: &[u8], layout: Layout, here: Here, x: u8, y: u8) -> Option<usize>
     requires { Laid file.now layout × HereOf file.now layout here }
     ensures { Decided file.now layout here.state (event_xy x y) result }
 {
@@ -74,17 +75,15 @@ pub fn rule_of(file: &[u8], layout: Layout, here: Here, x: u8, y: u8) -> Decided
     let size = RULE_HEAD + BOUND_SIZE * clocks;
     let from = layout.rules_start + here.own.start;
     let to = from + count * size;
-    match first_rule(&file[from..to], count, clocks, here.seen, x, y) {
-        Found::Nothing => DecidedBy::Nothing,
-        Found::Rule(number) => DecidedBy::At(from + number * size),
-    }
+    let number = first_rule(&file[from..to], count, clocks, here.seen, x, y)?;
+    Some(from + number * size)
 }
 
 impl State {
-    // The state after the event x, y.
-    pub fn step(self, file: &[u8], layout: Layout, here: Here, x: u8, y: u8) -> Step
+    // The state after the event x, y. A violation has none.
+    pub fn step(self, file: &[u8], layout: Layout, here: Here, x: u8, y: u8) -> Option<State>
         requires { Laid file.now layout × HereOf file.now layout here × (here.state ≡ self) }
-        ensures { result ≡ step_from self (step stopped (policy_of layout.reading file.now) (place layout.clocks self) (event_xy x y)) }
+        ensures { result ≡ step_from (step stopped (policy_of layout.reading file.now) (place layout.clocks self) (event_xy x y)) }
     {
         let rule = rule_of(file, layout, here, x, y);
         self.by(file, layout, rule)

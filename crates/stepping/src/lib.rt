@@ -8,8 +8,8 @@ mod matcher;
 mod next;
 mod state;
 
-pub use ahead::{RulesAhead, rules_ahead};
+pub use ahead::{RulePlaces, RulesAhead, rule_places, rules_ahead};
 pub use here::{Here, here_by, own_of, rule_of};
-pub use matcher::{Found, bounds_hold, first_rule};
-pub use next::{DecidedBy, Step, advanced};
+pub use matcher::{bounds_hold, first_rule};
+pub use next::advanced;
 pub use state::{Limits, State};

@@ -13,20 +13,6 @@ use policy::Layout;
 use policy::bytes::byte_within;
 use policy::limits::VIOLATION;
 
-// What an event does: the state after it, or a violation and the state before it.
-#[derive(Clone, Copy)]
-pub struct Step {
-    pub permitted: bool,
-    pub state: State,
-}
-
-// The rule that decides an event, by where it stands in the file.
-#[derive(Clone, Copy)]
-pub enum DecidedBy {
-    At(usize),
-    Nothing,
-}
-
 // Each clock goes to 0 if the mask names it, else up by one and no further than its ceiling. An unused clock stays at its ceiling 0.
 pub fn advanced(
     mask: usize,
@@ -37,10 +23,8 @@ pub fn advanced(
 {
     let mut next = [0u16; State::CLOCKS];
     let mut rest = mask;
-    let mut i = 0;
-    while i < State::CLOCKS {
+    for (i, &value) in values.iter().enumerate() {
         let ceiling = ceilings[i];
-        let value = values[i];
         next[i] = if rest % 2 == 1 {
             0
         } else if value < ceiling {
@@ -48,41 +32,27 @@ pub fn advanced(
         } else {
             ceiling
         };
-        rest = rest / 2;
-        i += 1;
+        rest /= 2;
     }
     next
 }
 
 impl State {
-    // The next state by the rule that decides. No such rule means violation, which leaves the state as it is.
-    pub fn by(self, file: &[u8], layout: Layout, rule: DecidedBy) -> Step
+    // The next state by the rule that decides, by where it stands in the file. No such rule means violation, which has no next state.
+    pub fn by(self, file: &[u8], layout: Layout, rule: Option<usize>) -> Option<State>
         requires { Laid file.now layout × Stands file.now layout self.location rule }
-        ensures { result ≡ step_from self (bind (rule_said layout.clocks file.now rule) (taken stopped (policy_of layout.reading file.now) (place layout.clocks self))) }
+        ensures { result ≡ step_from (bind (rule_said layout.clocks file.now rule) (taken stopped (policy_of layout.reading file.now) (place layout.clocks self))) }
     {
-        match rule {
-            DecidedBy::Nothing => Step {
-                permitted: false,
-                state: self,
-            },
-            DecidedBy::At(at) => {
-                let target = byte_within(file, at + 6);
-                if target == VIOLATION {
-                    return Step {
-                        permitted: false,
-                        state: self,
-                    };
-                }
-                let values = self.clocks;
-                let ceilings = layout.ceilings;
-                Step {
-                    permitted: true,
-                    state: State {
-                        location: target as u16,
-                        clocks: advanced(byte_within(file, at + 5), ceilings, values),
-                    },
-                }
-            }
+        let at = rule?;
+        let target = byte_within(file, at + 6);
+        if target == VIOLATION {
+            return None;
         }
+        let values = self.clocks;
+        let ceilings = layout.ceilings;
+        Some(State {
+            location: target as u16,
+            clocks: advanced(byte_within(file, at + 5), ceilings, values),
+        })
     }
 }

@@ -17,9 +17,9 @@ ghost use Rattle.telling.specs.Prints.{Prints, Writes, Startable};
 use crate::tell::tell;
 use console::{MARKS, outcome};
 use counting::count;
+use enforcer::layout_for;
 use frames::{EVENTS, events_in, policy_in};
 use policy::Layout;
-use prepare::Prepared;
 use printing::{put_refused, put_verdict};
 
 // The text at the most: a verdict, 66 bytes, and for each event three lines, 373 bytes.
@@ -60,8 +60,10 @@ fn tell_all(
     requires ticks_len { (length ticks.old ≡ 65536) × (length rests.old ≡ 65536) × (length events.now ≤ 16384) × (at + tick_room * length events.now ≤ length text.old) }
     ensures { ToldFrom (policy_of reading file.now) marks.now (start (policy_of reading file.now)) events.now text.old at result text.new }
 {
-    let checked = policy::check_under(reading, file);
-    let layout = checked.layout;
+    // What was prepared and run has passed these refusals.
+    let Ok(layout) = layout_for(reading, file, marks) else {
+        unreachable!();
+    };
     let states = layout.states;
     tell_counted(
         file,
@@ -89,8 +91,8 @@ fn reply(
     ensures { Writes (Prints reading input.now) text.old result text.new }
 {
     match outcome(reading, input, marks, released) {
-        Prepared::Refused(n) => put_refused(text, 0, n),
-        Prepared::Gives(summary) => {
+        Err(refusal) => put_refused(text, 0, u8::from(refusal)),
+        Ok(summary) => {
             let next = put_verdict(text, 0, summary.verdict, summary.states, summary.live);
             let file = policy_in(input);
             let events = events_in(input);

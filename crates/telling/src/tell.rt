@@ -86,10 +86,8 @@ pub(crate) fn tell(
         state: start,
         at,
     };
-    let mut i = 0;
-    while i < events.len() {
-        this = tell_tick(file, layout, marks, ticks, rests, this, events[i], text);
-        i += 1;
+    for &event in events {
+        this = tell_tick(file, layout, marks, ticks, rests, this, event, text);
     }
     this.at
 }

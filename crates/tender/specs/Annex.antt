@@ -9,7 +9,7 @@ use Rattle.std.proofs.Math.Path.{subst}
 use mathlib.Core.List.Memᴰ
 use mathlib.Core.List.{List, [], ◌∷◌, ◌++◌, map, Memᴰ}
 use Prim.Native.Nat.{ℕ, ◌*◌, ◌/◌, ◌%◌, ◌^◌, ◌≤◌, ◌<◌}
-use Rattle.streams.specs.Answer.{gives}
+use Rattle.streams.specs.Answer.{Answer, gives}
 use Rattle.streams.specs.AnswerLaws.{given_only}
 use Rattle.streams.specs.Stream.{Stream, Hopeless}
 use Rattle.streams.specs.Enforced.{Enforced}
@@ -29,17 +29,14 @@ use Rattle.enforcer.specs.Refusals.{events_back, fits_good}
 use Rattle.stepping.specs.Code.{start_state}
 use Rattle.enforcer.specs.Promises.{RunPromise, ran_said}
 use Rattle.stepping.specs.declared.state.State.{State}
-use Rattle.enforcer.specs.declared.runs.Ran.{Ran}
+use Rattle.enforcer.specs.Promises.{Ran}
 use Rattle.prepare.specs.Entry.{summary_of, prepare_of}
-use Rattle.prepare.specs.Promise.{PreparePromise, prepared_one}
+use Rattle.prepare.specs.Promise.{PreparePromise}
 use Rattle.prepare.specs.Enforcing.{EnforcedBy}
 use Rattle.prepare.specs.declared.Summary.{Summary}
-use Rattle.prepare.specs.declared.Prepared.{Prepared}
-use Rattle.prepare.specs.declared.Prepared.TheVariants as Prepared
 use Rattle.join.specs.Steps.{fits_same}
 use Rattle.join.specs.Limits.{states_join}
 use Rattle.join.specs.Promise.{JoinPromise}
-use Rattle.join.specs.declared.Joined.TheVariants as Code
 use Rattle.groovepawn.specs.Calls.{PrepareCall, RunCall, JoinCall}
 use Rattle.groovepawn.specs.Fields.{summary_in, prepare_fields}
 use Rattle.tender.specs.Granted.{well_formed, given_passed, given_goes_on}
@@ -73,19 +70,19 @@ pub record Unedited (p : Policy) (events before : List ℕ) (r : RunAnswer) : Ty
 pub record CodeKeeps (reading : ℕ) (f a : List ℕ) : Type 0 where
   -- It gives one of A, into every slice for the marks that is long enough.
   pub given :
-      {x m y n : List ℕ} {s : Summary} {q : Prepared} → PreparePromise reading f x (Prepared.Gives s) m → PreparePromise reading a y q n →
-      states (policy_of reading a) ≤ length y → (t : Summary) × (q ≡ Prepared.Gives t)
+      {x m y n : List ℕ} {s : Summary} {q : Answer Summary} → PreparePromise reading f x (gives s) m → PreparePromise reading a y q n →
+      states (policy_of reading a) ≤ length y → (t : Summary) × (q ≡ gives t)
   -- The bytes that run's code released for the join are released unedited by run's code for A, each from `State::start()` with the marks of prepare.
   pub runs :
       {x m y n events out after again also : List ℕ} {s t : Summary} {r q : Ran} →
-      PreparePromise reading f x (Prepared.Gives s) m → PreparePromise reading a y (Prepared.Gives t) n →
+      PreparePromise reading f x (gives s) m → PreparePromise reading a y (gives t) n →
       all_pass (event_good reading f) events ≡ true → length events ≤ length out → length events ≤ length again →
       RunPromise reading f m start_state events out r after → RunPromise reading a n start_state (take (length events) after) again q also →
       Unedited (policy_of reading a) (take (length events) after) again (ran_said q also)
   -- And so by the two halves, tick after tick. They never stop: `ticks_go_on` in specs/TickByTick.antt.
   pub ticks :
       {x m y n : List ℕ} {s t : Summary} {u v : State} {es rs qs : Stream} →
-      PreparePromise reading f x (Prepared.Gives s) m → PreparePromise reading a y (Prepared.Gives t) n →
+      PreparePromise reading f x (gives s) m → PreparePromise reading a y (gives t) n →
       TickByTick reading f m start_state es rs u → TickByTick reading a n start_state rs qs v → qs ≡ rs
 
 -- The same in C, where groovepawn_prepare refused nothing of the join; over fewer than 2^56 events.
@@ -216,7 +213,7 @@ module _ (reading : ℕ) where
               λ {x = x} {y = y} {s = s} {q = q} h k long.
               let t = summary_of part in
               let d : Summary = record { verdict = t.verdict; states = t.states; live = t.live } in
-              (d, prepared_one q (Prepared.Gives d) (k.said ∙ given x y s (sym h.said) long));
+              (d, k.said ∙ given x y s (sym h.said) long);
           runs =
               λ {y = y} {t = t} h k good long room i j.
               let ok = well_formed reading a (given_passed reading a y t (sym k.said)) in
@@ -253,7 +250,7 @@ module _ (reading : ℕ) where
 
   -- What join's code wrote keeps both of its parts.
   pub code_of_two :
-      {a b before after : List ℕ} {n : ℕ} → JoinPromise a b before (Code.Length n) after →
+      {a b before after : List ℕ} {n : ℕ} → JoinPromise a b before (gives n) after →
       CodeKeeps reading (take n after) a × CodeKeeps reading (take n after) b
   code_of_two h = let j = code_joined h in (code_keeps (as_first itself j), code_keeps (as_second itself j))
 

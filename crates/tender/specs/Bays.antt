@@ -14,13 +14,9 @@ use Rattle.policy.specs.Rules.{input_values, output_values}
 use Rattle.policy.specs.File.{policy_of}
 use Rattle.enforcer.specs.Entries.{input_of, output_of}
 use Rattle.stepping.specs.Code.{start_state}
-use Rattle.enforcer.specs.Promises.{answer_said}
 use Rattle.stepping.specs.declared.state.State.{State}
-use Rattle.enforcer.specs.declared.halves.HalfAnswer.{HalfAnswer}
-use Rattle.enforcer.specs.declared.halves.HalfAnswer.TheVariants as Code
 use Rattle.prepare.specs.Promise.{PreparePromise}
 use Rattle.prepare.specs.declared.Summary.{Summary}
-use Rattle.prepare.specs.declared.Prepared.TheVariants as Prepare
 use Rattle.bays.specs.Bays.{bays_in, bay_count, bay_state}
 use Rattle.bays.specs.Entries.{BayAnswer}
 use Rattle.bays.specs.Promises.{NewPromise, BayInputPromise, BayOutputPromise}
@@ -41,12 +37,12 @@ replied bay h a = record { bay = bay; reply = record { half = h; answer = a } }
 -- What the code answered, half after half, of any bays in any order, from the list `states` on; `last` is the list then.
 pub data BayCalls (reading : ℕ) (file marks : List ℕ) : List ℕ → List BayReply → List ℕ → Type 0 where
   calls_none : {states : List ℕ} → BayCalls reading file marks states [] states
-  calls_input : {states last : List ℕ} {bay x : ℕ} {a : HalfAnswer} {rs : List BayReply} →
+  calls_input : {states last : List ℕ} {bay x : ℕ} {a : Said.Answer ℕ} {rs : List BayReply} →
       BayInputPromise reading file marks states bay x a → BayCalls reading file marks states rs last →
-      BayCalls reading file marks states (replied bay (input x) (answer_said a) ∷ rs) last
-  calls_output : {states next last : List ℕ} {bay x y : ℕ} {a : HalfAnswer} {rs : List BayReply} →
+      BayCalls reading file marks states (replied bay (input x) a ∷ rs) last
+  calls_output : {states next last : List ℕ} {bay x y : ℕ} {a : Said.Answer ℕ} {rs : List BayReply} →
       BayOutputPromise reading file marks states bay x y a next → BayCalls reading file marks next rs last →
-      BayCalls reading file marks states (replied bay (output x y) (answer_said a) ∷ rs) last
+      BayCalls reading file marks states (replied bay (output x y) a ∷ rs) last
 
 -- The same of groovepawn_bay_input and groovepawn_bay_output, their words read as the header's macros read them.
 pub data CBayCalls (reading : ℕ) (file marks : List ℕ) : List ℕ → List BayReply → List ℕ → Type 0 where
@@ -159,7 +155,7 @@ module _ (reading : ℕ) (file marks : List ℕ) where
 
 -- After prepare's code gave a summary, from a list that bays_new's code made, and with any calls of other bays in between: for the events read at a bay
 -- the code released demand 2's stream, and the bay's state is the one that it leads to.
-module _ {reading : ℕ} {file lent marks : List ℕ} {s : Summary} (h : PreparePromise reading file lent (Prepare.Gives s) marks)
+module _ {reading : ℕ} {file lent marks : List ℕ} {s : Summary} (h : PreparePromise reading file lent (Said.gives s) marks)
     {before fresh : List ℕ} (new : NewPromise before 0 fresh) {bay : ℕ} (is : bay < bay_count fresh)
     {last : List ℕ} {rs : List BayReply} (calls : BayCalls reading file marks fresh rs last)
     {es os : Stream} (ticks : BayTicks (replies_to bay rs) es os) where
@@ -170,11 +166,11 @@ module _ {reading : ℕ} {file lent marks : List ℕ} {s : Summary} (h : Prepare
   -- The bay never stops: whatever is read there next, the input half gives an input; and for it and whatever the controller answers the output half
   -- gives an output, also where other bays had their turns in between.
   pub bays_go_on :
-      (x : ℕ) (a : HalfAnswer) → x < input_values (policy_of reading file) → BayInputPromise reading file marks last bay x a →
-      (z : ℕ) × (a ≡ Code.Value z)
-      × ((more : List BayReply) (later next : List ℕ) (y : ℕ) (o : HalfAnswer) → y < output_values (policy_of reading file) →
+      (x : ℕ) (a : Said.Answer ℕ) → x < input_values (policy_of reading file) → BayInputPromise reading file marks last bay x a →
+      (z : ℕ) × (a ≡ Said.gives z)
+      × ((more : List BayReply) (later next : List ℕ) (y : ℕ) (o : Said.Answer ℕ) → y < output_values (policy_of reading file) →
       BayCalls reading file marks last more later → replies_to bay more ≡ [] → BayOutputPromise reading file marks later bay z y o next →
-      (w : ℕ) × (o ≡ Code.Value w))
+      (w : ℕ) × (o ≡ Said.gives w))
   bays_go_on x a f i =
       let told = calls_told reading file marks calls in
       let here = still reading file marks new is told ticks in
@@ -270,7 +266,7 @@ module _ {reading : ℕ} {file lent marks : List ℕ} {v : ℕ} (h : PrepareCall
     {before fresh : List ℕ} (new : NewCall before 0 fresh) {bay : ℕ} (is : bay < bay_count fresh)
     {last : List ℕ} {rs : List BayReply} (calls : CBayCalls reading file marks fresh rs last)
     {es os : Stream} (ticks : BayTicks (replies_to bay rs) es os) where
-  summary : (s : Summary) × PreparePromise reading file lent (Prepare.Gives s) marks
+  summary : (s : Summary) × PreparePromise reading file lent (Said.gives s) marks
   summary = let s = prepare_read h z in (s.0, record { said = sym s.1; marks = h.marks })
 
   -- In C, what was released at the bay is demand 2's stream, and leads to the bay's state.

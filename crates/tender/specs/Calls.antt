@@ -9,38 +9,26 @@ use Rattle.streams.specs.Answer.{refused, gives, answer}
 use Rattle.streams.specs.Answer as Said
 use Rattle.streams.specs.AnswerLaws.{given_only}
 use Rattle.enforcer.specs.Entries.{OutputAnswer, input_of, output_of}
-use Rattle.enforcer.specs.Promises.{answer_said, InputPromise, OutputPromise}
+use Rattle.enforcer.specs.Promises.{InputPromise, OutputPromise}
 use Rattle.stepping.specs.declared.state.State.{State}
-use Rattle.enforcer.specs.declared.halves.HalfAnswer.{HalfAnswer}
-use Rattle.enforcer.specs.declared.halves.HalfAnswer.TheVariants as Half
-use Rattle.prepare.specs.Promise.{prepared_said, PreparePromise, prepared_one}
+use Rattle.prepare.specs.Promise.{PreparePromise}
 use Rattle.prepare.specs.declared.Summary.{Summary}
-use Rattle.prepare.specs.declared.Prepared.{Prepared}
-use Rattle.prepare.specs.declared.Prepared.TheVariants as Prepared
 use Rattle.fast.specs.Entry.{Work, shortest}
 use Rattle.fast.specs.Promise.{FastPromise}
-use Rattle.join.specs.Promise.{joined_said, JoinPromise}
-use Rattle.join.specs.declared.Joined.{Joined}
-use Rattle.join.specs.declared.Joined.TheVariants as Joined
+use Rattle.join.specs.Promise.{JoinPromise}
 use Rattle.stepping.specs.Five.{state_words, state_in, words_in}
 use Rattle.bays.specs.Odd.{odd_refusal}
 use Rattle.bays.specs.Halves.{output_four}
 use Rattle.bays.specs.Promises.{NewPromise, BayInputPromise, BayOutputPromise}
 use Rattle.meter.specs.Promises.{MeterNewPromise, MeterInputPromise, MeterOutputPromise}
-use Rattle.cleaning.specs.Promise.{clean_said, CleanPromise}
+use Rattle.cleaning.specs.Promise.{CleanPromise}
 use Rattle.cleaning.specs.declared.Lengths.{Lengths}
-use Rattle.cleaning.specs.declared.Cleaned.{Cleaned}
-use Rattle.cleaning.specs.declared.Cleaned.TheVariants as Cleaned
 use Rattle.compiling.specs.Promise.{ReadTextPromise}
 use Rattle.showing.specs.Promise.{WriteTextPromise}
 use Rattle.pointing.specs.RuleAt.{RuleAtPromise}
 use Rattle.pointing.specs.NameAt.{NameAtPromise}
 use Rattle.drawing.specs.Entry.{Reads}
-use Rattle.waves.specs.Promise.{written_said, taken_said, WritePromise, TakePromise}
-use Rattle.waves.specs.declared.writer.Written.{Written}
-use Rattle.waves.specs.declared.writer.Written.TheVariants as Written
-use Rattle.waves.specs.declared.reader.Taken.{Taken}
-use Rattle.waves.specs.declared.reader.Taken.TheVariants as Taken
+use Rattle.waves.specs.Promise.{WritePromise, TakePromise}
 use Rattle.groovepawn.specs.Words.{is_state, output_state}
 use Rattle.groovepawn.specs.Calls.{PrepareCall, InputCall, OutputCall, JoinCall}
 use Rattle.groovepawn.specs.Fields.{summary_in, answer_in, prepare_fields, input_fields, output_fields, join_fields}
@@ -53,83 +41,33 @@ use Rattle.groovepawn.specs.Waves.{WaveWriteCall, WaveReadCall, wave_write_field
 use Rattle.groovepawn.specs.Text.{TextReadCall, TextWriteCall, TextRuleCall, TextNameCall, text_read_of, text_rule_of, text_name_of, where_of, text_read_in, text_rule_in, text_name_in}
 use Rattle.groovepawn.specs.Text.{text_read_fields, text_write_numbers, text_rule_fields, text_name_fields}
 
--- What a word says, as the answer of the entry below.
-abbrev as_prepared : Said.Answer Summary → Prepared
-as_prepared (gives s) = Prepared.Gives (record { verdict = s.verdict; states = s.states; live = s.live })
-as_prepared (refused n) = Prepared.Refused n
-
 -- The answer of prepare that a word holds.
-abbrev pub prepared_in : ℕ → Prepared
-prepared_in w = as_prepared (summary_in w)
-
-abbrev as_half : Said.Answer ℕ → HalfAnswer
-as_half (gives v) = Half.Value v
-as_half (refused n) = Half.Refused n
+abbrev pub prepared_in : ℕ → Said.Answer Summary
+prepared_in w = summary_in w
 
 -- The answer of a half that a word holds.
-abbrev pub half_in : ℕ → HalfAnswer
-half_in w = as_half (answer_in w)
-
-abbrev as_joined : Said.Answer ℕ → Joined
-as_joined (gives n) = Joined.Length n
-as_joined (refused n) = Joined.Refused n
+abbrev pub half_in : ℕ → Said.Answer ℕ
+half_in w = answer_in w
 
 -- The answer of the join that a word holds.
-abbrev pub joined_in : ℕ → Joined
-joined_in w = as_joined (answer_in w)
-
-abbrev as_cleaned : Said.Answer Lengths → Cleaned
-as_cleaned (gives l) = Cleaned.Gives (record { cleaned = l.cleaned; struck = l.struck })
-as_cleaned (refused n) = Cleaned.Refused n
+abbrev pub joined_in : ℕ → Said.Answer ℕ
+joined_in w = answer_in w
 
 -- The answer of clean that a word holds.
-abbrev pub cleaned_in : ℕ → Cleaned
-cleaned_in w = as_cleaned (lengths_in w)
-
-abbrev as_written : Said.Answer ℕ → Written
-as_written (gives n) = Written.Length n
-as_written (refused n) = Written.Refused n
+abbrev pub cleaned_in : ℕ → Said.Answer Lengths
+cleaned_in w = lengths_in w
 
 -- The answer of the wave writer that a word holds.
-abbrev pub written_in : ℕ → Written
-written_in w = as_written (answer_in w)
-
-abbrev as_taken : Said.Answer ℕ → Taken
-as_taken (gives n) = Taken.Count n
-as_taken (refused n) = Taken.Refused n
+abbrev pub written_in : ℕ → Said.Answer ℕ
+written_in w = answer_in w
 
 -- The answer of the wave reader that a word holds.
-abbrev pub taken_in : ℕ → Taken
-taken_in w = as_taken (answer_in w)
-
--- Each says the answer that it was made from.
-prepared_says : (a : Said.Answer Summary) → prepared_said (as_prepared a) ≡ a
-prepared_says (gives s) = refl
-prepared_says (refused n) = refl
-
-half_says : (a : Said.Answer ℕ) → answer_said (as_half a) ≡ a
-half_says (gives v) = refl
-half_says (refused n) = refl
-
-joined_says : (a : Said.Answer ℕ) → joined_said (as_joined a) ≡ a
-joined_says (gives n) = refl
-joined_says (refused n) = refl
-
-clean_says : (a : Said.Answer Lengths) → clean_said (as_cleaned a) ≡ a
-clean_says (gives l) = refl
-clean_says (refused n) = refl
-
-written_says : (a : Said.Answer ℕ) → written_said (as_written a) ≡ a
-written_says (gives n) = refl
-written_says (refused n) = refl
-
-taken_says : (a : Said.Answer ℕ) → taken_said (as_taken a) ≡ a
-taken_says (gives n) = refl
-taken_says (refused n) = refl
+abbrev pub taken_in : ℕ → Said.Answer ℕ
+taken_in w = answer_in w
 
 -- Read as a half's answer, a word says what `answer_in` reads in it.
-pub half_read : (w : ℕ) → answer_said (half_in w) ≡ answer_in w
-half_read w = half_says (answer_in w)
+pub half_read : (w : ℕ) → half_in w ≡ answer_in w
+half_read w = refl
 
 -- An answer by the number k refuses by a number above 0 exactly if k is that number.
 answer_refused : {A : Type 0} (k n : ℕ) (a : A) → (answer k a ≡ refused (suc n)) ↔ (k ≡ suc n)
@@ -141,37 +79,33 @@ pub word_refused : (w n : ℕ) → (answer_in w ≡ refused (suc n)) ↔ (w % 25
 word_refused w n = answer_refused (w % 256) n (w / 256)
 
 -- A word of prepare refuses by a number above 0 exactly if its low eight bits are that number.
-pub prepared_refused : (w n : ℕ) → (prepared_in w ≡ Prepared.Refused (suc n)) ↔ (w % 256 ≡ suc n)
-prepared_refused w n =
-    let k = answer_refused (w % 256) n _ in (
-      λ e. k.0 (sym (prepared_says (summary_in w)) ∙ ap prepared_said e),
-      λ e. prepared_one (prepared_in w) (Prepared.Refused (suc n)) (prepared_says (summary_in w) ∙ k.1 e),
-    )
+pub prepared_refused : (w n : ℕ) → (prepared_in w ≡ Said.refused (suc n)) ↔ (w % 256 ≡ suc n)
+prepared_refused w n = answer_refused (w % 256) n _
 
 -- A word of prepare that gives a summary has 0 in its low eight bits.
-pub prepared_none : (w : ℕ) {s : Summary} → prepared_in w ≡ Prepared.Gives s → w % 256 ≡ 0
-prepared_none w {s} e = (given_only (w % 256) _ s (sym (prepared_says (summary_in w)) ∙ ap prepared_said e)).0
+pub prepared_none : (w : ℕ) {s : Summary} → prepared_in w ≡ Said.gives s → w % 256 ≡ 0
+prepared_none w {s} e = (given_only (w % 256) _ s e).0
 
 -- A word of a half that gives a value has 0 in its low eight bits, and the value above them.
-pub half_given : (w : ℕ) {v : ℕ} → half_in w ≡ Half.Value v → (w % 256 ≡ 0) × (w / 256 ≡ v)
-half_given w {v} e = given_only (w % 256) (w / 256) v (sym (half_says (answer_in w)) ∙ ap answer_said e)
+pub half_given : (w : ℕ) {v : ℕ} → half_in w ≡ Said.gives v → (w % 256 ≡ 0) × (w / 256 ≡ v)
+half_given w {v} e = given_only (w % 256) (w / 256) v e
 
 -- A word of a half whose low eight bits are a number above 0 refuses by it.
-pub half_refused : (w n : ℕ) → w % 256 ≡ suc n → half_in w ≡ Half.Refused (suc n)
-half_refused w n e = ap as_half ((answer_refused (w % 256) n (w / 256)).1 e)
+pub half_refused : (w n : ℕ) → w % 256 ≡ suc n → half_in w ≡ Said.refused (suc n)
+half_refused w n e = (answer_refused (w % 256) n (w / 256)).1 e
 
 -- A word of the wave writer that gives a length has 0 in its low eight bits, and the length above them.
-pub written_given : (w : ℕ) {n : ℕ} → written_in w ≡ Written.Length n → (w % 256 ≡ 0) × (w / 256 ≡ n)
-written_given w {n} e = given_only (w % 256) (w / 256) n (sym (written_says (answer_in w)) ∙ ap written_said e)
+pub written_given : (w : ℕ) {n : ℕ} → written_in w ≡ Said.gives n → (w % 256 ≡ 0) × (w / 256 ≡ n)
+written_given w {n} e = given_only (w % 256) (w / 256) n e
 
 -- A word of the wave reader that gives a count has 0 in its low eight bits, and the count above them.
-pub taken_given : (w : ℕ) {n : ℕ} → taken_in w ≡ Taken.Count n → (w % 256 ≡ 0) × (w / 256 ≡ n)
-taken_given w {n} e = given_only (w % 256) (w / 256) n (sym (taken_says (answer_in w)) ∙ ap taken_said e)
+pub taken_given : (w : ℕ) {n : ℕ} → taken_in w ≡ Said.gives n → (w % 256 ≡ 0) × (w / 256 ≡ n)
+taken_given w {n} e = given_only (w % 256) (w / 256) n e
 
 -- groovepawn_prepare keeps the promise of prepare.
 pub c_prepare : {reading : ℕ} {file before marks : List ℕ} {v : ℕ} → PrepareCall reading file before v marks → PreparePromise reading file before (prepared_in v) marks
 c_prepare {reading} {file} {before} {v = v} h =
-    record { said = prepared_says (summary_in v) ∙ ap summary_in h.said ∙ prepare_fields reading file before; marks = h.marks }
+    record { said = ap summary_in h.said ∙ prepare_fields reading file before; marks = h.marks }
 
 -- groovepawn_prepare_fast keeps the promise of the second engine.
 pub c_fast :
@@ -179,7 +113,7 @@ pub c_fast :
     FastPromise reading file before work (prepared_in v) marks left
 c_fast {reading} {file} {before} {work = work} {v = v} h =
     record {
-      said = prepared_says (summary_in v) ∙ ap summary_in h.said ∙ fast_fields reading file before (shortest work);
+      said = ap summary_in h.said ∙ fast_fields reading file before (shortest work);
       marks = h.marks;
       scratch = h.scratch;
     }
@@ -194,7 +128,7 @@ module _ {reading : ℕ} {file marks state : List ℕ} (five : length state ≡ 
   c_input {x} {r} h =
       record {
         said =
-            half_says (answer_in r) ∙ ap answer_in h.said ∙ input_fields reading file marks state x
+            ap answer_in h.said ∙ input_fields reading file marks state x
             ∙ ap (λ (t : Bool). cond t (input_of reading file marks (state_in state) x) (refused (odd_refusal reading file marks true))) (is-state state five);
       }
 
@@ -215,8 +149,8 @@ module _ {reading : ℕ} {file marks state : List ℕ} (five : length state ≡ 
       OutputPromise reading file marks (state_in state) x y (record { answer = half_in r; state = state_in after })
   c_output {x} {y} {r} {after} h =
       let o = output_of reading file marks (state_in state) x y in
-      let said : answer_said (half_in r) ≡ o.answer =
-      half_says (answer_in r) ∙ ap answer_in h.said ∙ output_fields reading file marks state x y
+      let said : half_in r ≡ o.answer =
+      ap answer_in h.said ∙ output_fields reading file marks state x y
       ∙ ap (λ (t : Bool). cond t o.answer (refused (odd_refusal reading file marks true))) (is-state state five)
       in
       let there : state_in after ≡ o.state = ap state_in (output_moves h) ∙ words_in o.state (output_four reading file marks (state_in state) x y refl) in
@@ -224,14 +158,14 @@ module _ {reading : ℕ} {file marks state : List ℕ} (five : length state ≡ 
 
 -- groovepawn_join keeps the promise of join.
 pub c_join : {a b before after : List ℕ} {r : ℕ} → JoinCall a b before r after → JoinPromise a b before (joined_in r) after
-c_join {a} {b} {before} {r = r} h = record { answers = joined_says (answer_in r) ∙ ap answer_in h.said ∙ join_fields a b before; writes = h.out }
+c_join {a} {b} {before} {r = r} h = record { answers = ap answer_in h.said ∙ join_fields a b before; writes = h.out }
 
 -- groovepawn_clean keeps the promise of clean.
 pub c_clean :
     {reading : ℕ} {file out list out_after list_after : List ℕ} {r : ℕ} → CleanCall reading file out list r out_after list_after →
     CleanPromise reading file out list (cleaned_in r) out_after list_after
 c_clean {reading} {file} {out} {list} {r = r} h =
-    record { said = clean_says (lengths_in r) ∙ ap lengths_in h.said ∙ clean_fields reading file out list; cleaned = h.cleaned; struck = h.struck }
+    record { said = ap lengths_in h.said ∙ clean_fields reading file out list; cleaned = h.cleaned; struck = h.struck }
 
 -- groovepawn_bays_new keeps the promise of new bays.
 pub c_bays_new : {before after : List ℕ} {r : ℕ} → NewCall before r after → NewPromise before r after
@@ -240,12 +174,12 @@ c_bays_new h = record { said = h.said; states = h.states }
 module _ {reading : ℕ} {file marks states : List ℕ} {bay x r : ℕ} where
   -- groovepawn_bay_input keeps the promise of a bay's input half.
   pub c_bay_input : BayInputCall reading file marks states bay x r → BayInputPromise reading file marks states bay x (half_in r)
-  c_bay_input h = record { said = half_says (answer_in r) ∙ ap answer_in h.said ∙ bay_input_fields reading file marks states bay x }
+  c_bay_input h = record { said = ap answer_in h.said ∙ bay_input_fields reading file marks states bay x }
 
   -- groovepawn_bay_output keeps the promise of a bay's output half.
   pub c_bay_output : {y : ℕ} {after : List ℕ} → BayOutputCall reading file marks states bay x y r after → BayOutputPromise reading file marks states bay x y (half_in r) after
   c_bay_output {y} h =
-      let said = half_says (answer_in r) ∙ ap answer_in h.said ∙ bay_output_fields reading file marks states bay x y in
+      let said = ap answer_in h.said ∙ bay_output_fields reading file marks states bay x y in
       let next = h.next in
       record { said = λ k. record { answer = said k; states = next k } }
 
@@ -258,14 +192,14 @@ c_meter_new h = record { said = h.said; placed = h.placed; cleared = h.cleared }
 module _ {reading : ℕ} {file marks station : List ℕ} {register x r : ℕ} where
   -- groovepawn_meter_input keeps the promise of the meter's input half.
   pub c_meter_input : MeterInputCall reading file marks station register x r → MeterInputPromise reading file marks station register x (half_in r)
-  c_meter_input h = record { said = half_says (answer_in r) ∙ ap answer_in h.said ∙ meter_input_fields reading file marks station register x }
+  c_meter_input h = record { said = ap answer_in h.said ∙ meter_input_fields reading file marks station register x }
 
   -- groovepawn_meter_output keeps the promise of the meter's output half.
   pub c_meter_output :
       {totals after risen : List ℕ} {y : ℕ} → MeterOutputCall reading file marks station totals register x y r after risen →
       MeterOutputPromise reading file marks station totals register x y (half_in r) after risen
   c_meter_output {totals} {y = y} h =
-      let said = half_says (answer_in r) ∙ ap answer_in h.said ∙ meter_output_fields reading file marks station totals register x y in
+      let said = ap answer_in h.said ∙ meter_output_fields reading file marks station totals register x y in
       let next = h.next in
       let sums = h.sums in
       record { said = λ k. record { answer = said k; station = next k; totals = sums k } }
@@ -273,12 +207,12 @@ module _ {reading : ℕ} {file marks station : List ℕ} {register x r : ℕ} wh
 -- groovepawn_wave_write keeps the promise of the wave writer.
 pub c_wave_write : {file events before after : List ℕ} {r : ℕ} → WaveWriteCall file events before r after → WritePromise file events before (written_in r) after
 c_wave_write {file} {events} {before} {r = r} h =
-    record { answers = written_says (answer_in r) ∙ ap answer_in h.said ∙ wave_write_fields file events before; writes = h.text }
+    record { answers = ap answer_in h.said ∙ wave_write_fields file events before; writes = h.text }
 
 -- groovepawn_wave_read keeps the promise of the wave reader.
 pub c_wave_read : {file text before after : List ℕ} {r : ℕ} → WaveReadCall file text before r after → TakePromise file text before (taken_in r) after
 c_wave_read {file} {text} {before} {after} {r} h =
-    record { reads = subst (λ (a : Said.Answer ℕ). Reads file text before a after) (sym (taken_says (answer_in r))) (wave_read_fields h) }
+    record { reads = wave_read_fields h }
 
 -- groovepawn_text_read keeps the promise of reading a policy's text, where the line is below 2 ^ 32.
 pub c_text_read : {text before after : List ℕ} {r : ℕ} → (text_read_of text before).line < 2 ^ 32 → TextReadCall text before r after → ReadTextPromise text before (text_read_in r) after

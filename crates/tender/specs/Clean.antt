@@ -1,11 +1,12 @@
 -- 9/13, over the promise of clean and the definitions of the other entries: what prepare and run answer for a cleaned policy, and clean itself; then over the
 -- promises of all of them, and over the functions in C.
+use Rattle.prepare.specs.declared.Summary.{Summary}
 use Rattle.std.specs.Prelude.{◌≡◌, refl, ◌↔◌, ◌⊎◌, ℕ, ◌/◌, ◌%◌, ◌≤◌, length, drop}
 use Rattle.std.proofs.Common.{sym, ◌∙◌, arith, take_at}
 use Rattle.std.proofs.Math.Path.{ap, ap₂}
 use mathlib.Core.List.{List, [], ◌++◌}
 use Rattle.std.proofs.Math.ListN.{take}
-use Rattle.streams.specs.Answer.{refused, gives}
+use Rattle.streams.specs.Answer.{Answer, refused, gives}
 use Rattle.streams.specs.AnswerLaws.{given_only, none_refused}
 use Rattle.streams.specs.Laws.{≋-trans}
 use Rattle.streams.specs.Languages.{◌≋◌}
@@ -16,13 +17,9 @@ use Rattle.policy.specs.Check.{reading_refusal, refusal_of, refusal_under}
 use Rattle.policy.specs.CheckLaws.{under_none}
 use Rattle.prepare.specs.Entry.{prepare_of}
 use Rattle.prepare.specs.Promise.{PreparePromise}
-use Rattle.prepare.specs.declared.Prepared.{Prepared}
-use Rattle.prepare.specs.declared.Prepared.TheVariants as Prepared
 use Rattle.cleaning.specs.Entry.{cleaned_of, cleaned_file, struck_list, clean_refusal, clean_of, cleaned_out, struck_out}
 use Rattle.cleaning.specs.Promise.{CleanPromise, clean_one}
 use Rattle.cleaning.specs.declared.Lengths.{Lengths}
-use Rattle.cleaning.specs.declared.Cleaned.{Cleaned as CodeCleaned}
-use Rattle.cleaning.specs.declared.Cleaned.TheVariants as Code
 use Rattle.cleaning.specs.Laws.{Cleans}
 use Rattle.cleaning.specs.Refused.{answers}
 use Rattle.cleaning.specs.Theorems.{cleans}
@@ -45,7 +42,7 @@ pub record CleanedFrom (reading : ℕ) (file policy list : List ℕ) : Type 0 wh
 
 -- What clean's code wrote without a refusal is such a policy and such a list.
 pub code_cleaned :
-    {reading : ℕ} {file slice other after other_after : List ℕ} {n : Lengths} → CleanPromise reading file slice other (Code.Gives n) after other_after →
+    {reading : ℕ} {file slice other after other_after : List ℕ} {n : Lengths} → CleanPromise reading file slice other (gives n) after other_after →
     CleanedFrom reading file (take n.cleaned after) (take n.struck other_after)
 code_cleaned {slice = slice} {other} {n = n} h =
     record {
@@ -192,19 +189,19 @@ joined_cleaned {f = f} j reading named slice other = cleaned_into reading f slic
 -- The same over the promises of the code, with slices for the marks that are long enough: prepare's code refuses both files by 11, or gives a summary
 -- of each, and then run's code releases the same for both with the marks that prepare wrote.
 pub code_same :
-    {reading : ℕ} {file slice other after other_after : List ℕ} {n : Lengths} → CleanPromise reading file slice other (Code.Gives n) after other_after →
-    {x m y k : List ℕ} {r q : Prepared} → PreparePromise reading (take n.cleaned after) x r m → PreparePromise reading file y q k →
+    {reading : ℕ} {file slice other after other_after : List ℕ} {n : Lengths} → CleanPromise reading file slice other (gives n) after other_after →
+    {x m y k : List ℕ} {r q : Answer Summary} → PreparePromise reading (take n.cleaned after) x r m → PreparePromise reading file y q k →
     states (policy_of reading (take n.cleaned after)) ≤ length x → states (policy_of reading file) ≤ length y →
-    ((r ≡ Prepared.Refused 11) × (q ≡ Prepared.Refused 11)) ⊎ SameGiven reading (take n.cleaned after) m file k r q
+    ((r ≡ refused 11) × (q ≡ refused 11)) ⊎ SameGiven reading (take n.cleaned after) m file k r q
 code_same h = code_alike (alike (code_cleaned h))
 
 -- Clean's code strikes nothing from a policy that it wrote, and writes the same bytes.
 pub code_again :
-    {reading : ℕ} {file slice other after other_after next last next_after last_after : List ℕ} {n : Lengths} {r : CodeCleaned} →
-    CleanPromise reading file slice other (Code.Gives n) after other_after →
+    {reading : ℕ} {file slice other after other_after next last next_after last_after : List ℕ} {n : Lengths} {r : Answer Lengths} →
+    CleanPromise reading file slice other (gives n) after other_after →
     let policy = take n.cleaned after in
     CleanPromise reading policy next last r next_after last_after → length policy ≤ length next →
-    (r ≡ Code.Gives (record { cleaned = length policy; struck = 0 })) × (next_after ≡ policy ++ drop (length policy) next) × (last_after ≡ last)
+    (r ≡ gives (record { cleaned = length policy; struck = 0 })) × (next_after ≡ policy ++ drop (length policy) next) × (last_after ≡ last)
 code_again {next = next} {last} h g long =
     let a = again_made (code_cleaned h) next last long in
     clean_one g (record { said = sym a.0; cleaned = sym a.1; struck = sym a.2 })

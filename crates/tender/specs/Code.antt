@@ -17,19 +17,14 @@ use Rattle.policy.specs.File.{policy_of}
 use Rattle.policy.specs.Check.{reading_refusal, refusal_under, all_pass}
 use Rattle.enforcer.specs.Entries.{RunAnswer, byte_of, event_good, marks_refusal, input_of, output_of, run_of}
 use Rattle.stepping.specs.Code.{start_state}
-use Rattle.enforcer.specs.Promises.{answer_said, InputPromise, OutputPromise, RunPromise, ran_said}
+use Rattle.enforcer.specs.Promises.{InputPromise, OutputPromise, RunPromise, ran_said}
 use Rattle.stepping.specs.declared.state.State.{State}
-use Rattle.enforcer.specs.declared.halves.HalfAnswer.{HalfAnswer}
-use Rattle.enforcer.specs.declared.halves.HalfAnswer.TheVariants as Half
-use Rattle.enforcer.specs.declared.runs.Ran.{Ran}
+use Rattle.enforcer.specs.Promises.{Ran}
 use Rattle.prepare.specs.Entry.{summary_of, prepare_of, prepared_marks}
-use Rattle.prepare.specs.Promise.{prepared_said, PreparePromise, prepared_one}
+use Rattle.prepare.specs.Promise.{PreparePromise}
 use Rattle.prepare.specs.Enforces.{leads_inside}
 use Rattle.prepare.specs.declared.Summary.{Summary}
-use Rattle.prepare.specs.declared.Prepared.{Prepared}
-use Rattle.prepare.specs.declared.Prepared.TheVariants as Prepared
 use Rattle.join.specs.Promise.{JoinPromise}
-use Rattle.join.specs.declared.Joined.TheVariants as Code
 use Rattle.console.specs.Scratch.{start_is}
 use Rattle.stepping.specs.Five.{state_words, state_in, words_in, words_back}
 use Rattle.bays.specs.Odd.{odd_refusal}
@@ -48,34 +43,34 @@ use Rattle.tender.specs.Calls.{prepared_in, half_in, prepared_refused, prepared_
 -- "a policy is refused as hopeless exactly if, from its start, some length has no permitted stream": prepare's code, of a file that passes its checks and
 -- with a slice for the marks that is long enough.
 pub code_hopeless :
-    {reading : ℕ} {file before marks : List ℕ} {r : Prepared} → PreparePromise reading file before r marks →
+    {reading : ℕ} {file before marks : List ℕ} {r : Answer Summary} → PreparePromise reading file before r marks →
     refusal_under reading file ≡ 0 → states (policy_of reading file) ≤ length before →
-    (r ≡ Prepared.Refused 11) ↔ Hopeless (Permits (policy_of reading file))
+    (r ≡ refused 11) ↔ Hopeless (Permits (policy_of reading file))
 code_hopeless {reading} {file} {before} {r = r} h passed long =
-    Iff.trans (λ e. sym h.said ∙ ap prepared_said e, λ e. prepared_one r (Prepared.Refused 11) (h.said ∙ e))
+    Iff.trans (λ e. sym h.said ∙ e, λ e. h.said ∙ e)
     (hopeless_exactly reading file before passed long)
 
 -- "Otherwise" prepare's code gives a summary.
 pub code_otherwise :
-    {reading : ℕ} {file before marks : List ℕ} {r : Prepared} → PreparePromise reading file before r marks →
+    {reading : ℕ} {file before marks : List ℕ} {r : Answer Summary} → PreparePromise reading file before r marks →
     refusal_under reading file ≡ 0 → states (policy_of reading file) ≤ length before →
-    (¬ Hopeless (Permits (policy_of reading file))) ↔ ((s : Summary) × (r ≡ Prepared.Gives s))
+    (¬ Hopeless (Permits (policy_of reading file))) ↔ ((s : Summary) × (r ≡ gives s))
 code_otherwise {reading} {file} {before} {r = r} h passed long = (
   λ n.
       let t = summary_of (policy_of reading file) in
       let d : Summary = record { verdict = t.verdict; states = t.states; live = t.live } in
-      (d, prepared_one r (Prepared.Gives d) (h.said ∙ (prepared_otherwise reading file before passed long).0 n)),
-  λ g. not_both (Permits (policy_of reading file)) [] (given_goes_on reading file before g.0 (sym h.said ∙ ap prepared_said g.1)),
+      (d, h.said ∙ (prepared_otherwise reading file before passed long).0 n),
+  λ g. not_both (Permits (policy_of reading file)) [] (given_goes_on reading file before g.0 (sym h.said ∙ g.1)),
 )
 
 -- "With the marks of prepare and a live state, run and the input half never give 17": with the marks that prepare's code wrote, from any state.
-module _ {reading : ℕ} {file before marks : List ℕ} {r : Prepared} (h : PreparePromise reading file before r marks)
+module _ {reading : ℕ} {file before marks : List ℕ} {r : Answer Summary} (h : PreparePromise reading file before r marks)
     (passed : refusal_under reading file ≡ 0) (long : states (policy_of reading file) ≤ length before) where
   -- The code's input half never gives 17.
-  pub code_input_never_17 : {s : State} {x : ℕ} {a : HalfAnswer} → InputPromise reading file marks s x a → ¬ (a ≡ Half.Refused 17)
+  pub code_input_never_17 : {s : State} {x : ℕ} {a : Answer ℕ} → InputPromise reading file marks s x a → ¬ (a ≡ refused 17)
   code_input_never_17 {s} {x} i e =
       input_never_17 reading file before passed long s x
-      (subst (λ (m : List ℕ). input_of reading file m s x ≡ refused 17) h.marks (sym i.said ∙ ap answer_said e))
+      (subst (λ (m : List ℕ). input_of reading file m s x ≡ refused 17) h.marks (sym i.said ∙ e))
 
   -- Run's code never gives 17.
   pub code_run_never_17 :
@@ -94,7 +89,7 @@ from-start reading file before events out s e =
 
 -- What run's code answered is what the definitions say of a run from the start with the marks of prepare.
 code_runs :
-    {reading : ℕ} {file before marks events out after : List ℕ} {s : Summary} {r : Ran} → PreparePromise reading file before (Prepared.Gives s) marks →
+    {reading : ℕ} {file before marks events out after : List ℕ} {s : Summary} {r : Ran} → PreparePromise reading file before (gives s) marks →
     RunPromise reading file marks start_state events out r after → from_start reading file before events out ≡ ran_said r after
 code_runs {reading} {file} {before} {events = events} {out = out} {s = s} h k =
     from-start reading file before events out s (sym h.said)
@@ -104,7 +99,7 @@ code_runs {reading} {file} {before} {events = events} {out = out} {s = s} h k =
 -- "Otherwise" .. "one event is released for each one read": prepare's code gave a summary, and run's code ran from `State::start()` with those marks, over
 -- events within the signals and into a slice that holds as many.
 pub code_releases :
-    {reading : ℕ} {file before marks events out after : List ℕ} {s : Summary} {r : Ran} → PreparePromise reading file before (Prepared.Gives s) marks →
+    {reading : ℕ} {file before marks events out after : List ℕ} {s : Summary} {r : Ran} → PreparePromise reading file before (gives s) marks →
     RunPromise reading file marks start_state events out r after → all_pass (event_good reading file) events ≡ true → length events ≤ length out →
     Released (policy_of reading file) events out (ran_said r after)
 code_releases {reading} {file} {before} {events = events} {out = out} {s = s} h k good long =
@@ -321,7 +316,7 @@ c_ticks_run {reading} {file} {marks} {state} {last} {out} {es = es} {rs} {r} h f
     )
 
 -- "Wherever the joins named are made": what join's code wrote is a join that was made.
-pub code_joined : {a b before after : List ℕ} {n : ℕ} → JoinPromise a b before (Code.Length n) after → JoinMade a b (take n after)
+pub code_joined : {a b before after : List ℕ} {n : ℕ} → JoinPromise a b before (gives n) after → JoinMade a b (take n after)
 code_joined {before = before} {n = n} h = record { slice = before; size = n; given = sym h.answers; written = ap (take n) h.writes }
 
 -- What groovepawn_join wrote without a refusal is a join that was made.
@@ -338,7 +333,7 @@ c_joined {a} {b} {before} {r = r} h z =
 -- So demand 3 speaks of the files that the code wrote: "the join permits exactly the streams that all its parts permit", and "rests only where all
 -- parts rest together", read under one reading.
 pub code_permits :
-    (reading : ℕ) {a b before after : List ℕ} {n : ℕ} → JoinPromise a b before (Code.Length n) after →
+    (reading : ℕ) {a b before after : List ℕ} {n : ℕ} → JoinPromise a b before (gives n) after →
     Permits (policy_of reading (take n after)) ≋ Permits (policy_of reading a) alongside Permits (policy_of reading b)
 code_permits reading h = permits_exactly reading (code_joined h)
 
@@ -353,26 +348,26 @@ c_permits reading h z = permits_exactly reading (c_joined h z)
 module _ (reading : ℕ) (named : reading_refusal reading ≡ 0) where
   -- A with B and B with A are alike.
   pub code_order :
-      {a b x f y g : List ℕ} {n m : ℕ} → JoinPromise a b x (Code.Length n) f → JoinPromise b a y (Code.Length m) g → Alike reading (take n f) (take m g)
+      {a b x f y g : List ℕ} {n m : ℕ} → JoinPromise a b x (gives n) f → JoinPromise b a y (gives m) g → Alike reading (take n f) (take m g)
   code_order j k = order reading named (code_joined j) (code_joined k)
 
   -- A with B, and then with C, is like A with the join of B and C.
   pub code_grouping :
       {a b c w f x h y g z k : List ℕ} {n m i j : ℕ} →
-      JoinPromise a b w (Code.Length n) f → JoinPromise (take n f) c x (Code.Length m) h →
-      JoinPromise b c y (Code.Length i) g → JoinPromise a (take i g) z (Code.Length j) k → Alike reading (take m h) (take j k)
+      JoinPromise a b w (gives n) f → JoinPromise (take n f) c x (gives m) h →
+      JoinPromise b c y (gives i) g → JoinPromise a (take i g) z (gives j) k → Alike reading (take m h) (take j k)
   code_grouping s t u v = grouping reading named (code_joined s) (code_joined t) (code_joined u) (code_joined v)
 
   -- A with itself is like A.
-  pub code_repetition : {a x f : List ℕ} {n : ℕ} → JoinPromise a a x (Code.Length n) f → Alike reading (take n f) a
+  pub code_repetition : {a x f : List ℕ} {n : ℕ} → JoinPromise a a x (gives n) f → Alike reading (take n f) a
   code_repetition j = repetition reading named (code_joined j)
 
   -- A with the policy that permits all is like A.
-  pub code_unit : {a x f : List ℕ} {n : ℕ} → JoinPromise a (permits_all a) x (Code.Length n) f → Alike reading (take n f) a
+  pub code_unit : {a x f : List ℕ} {n : ℕ} → JoinPromise a (permits_all a) x (gives n) f → Alike reading (take n f) a
   code_unit j = unit_law reading named (code_joined j)
 
   -- The policy that permits all, with A, is like A.
-  pub code_unit_first : {a x f : List ℕ} {n : ℕ} → JoinPromise (permits_all a) a x (Code.Length n) f → Alike reading (take n f) a
+  pub code_unit_first : {a x f : List ℕ} {n : ℕ} → JoinPromise (permits_all a) a x (gives n) f → Alike reading (take n f) a
   code_unit_first j = unit_law_first reading named (code_joined j)
 
   -- In C: A with B and B with A are alike.
@@ -427,9 +422,9 @@ same_runs {reading} {f} {g = g} {events = events} c {a} {b} one two =
 
 -- Prepare's code gave a summary for both files, and run's code, from `State::start()` and with the marks m and n that prepare wrote, releases the same
 -- for both.
-pub record SameGiven (reading : ℕ) (f m g n : List ℕ) (r q : Prepared) : Type 0 where
-  pub first : (s : Summary) × (r ≡ Prepared.Gives s)
-  pub second : (s : Summary) × (q ≡ Prepared.Gives s)
+pub record SameGiven (reading : ℕ) (f m g n : List ℕ) (r q : Answer Summary) : Type 0 where
+  pub first : (s : Summary) × (r ≡ gives s)
+  pub second : (s : Summary) × (q ≡ gives s)
   pub runs :
       (events out after also : List ℕ) (a b : Ran) → all_pass (event_good reading f) events ≡ true → length events ≤ length out →
       RunPromise reading f m start_state events out a after → RunPromise reading g n start_state events out b also →
@@ -438,19 +433,19 @@ pub record SameGiven (reading : ℕ) (f m g n : List ℕ) (r q : Prepared) : Typ
 -- "hopeless together, or the same released stream for every event stream": of two files that are alike, and with slices for the marks that are long
 -- enough, prepare's code refuses both by 11, or run's code releases the same for both.
 pub code_alike :
-    {reading : ℕ} {f x m g y n : List ℕ} {r q : Prepared} → Alike reading f g → PreparePromise reading f x r m → PreparePromise reading g y q n →
+    {reading : ℕ} {f x m g y n : List ℕ} {r q : Answer Summary} → Alike reading f g → PreparePromise reading f x r m → PreparePromise reading g y q n →
     states (policy_of reading f) ≤ length x → states (policy_of reading g) ≤ length y →
-    ((r ≡ Prepared.Refused 11) × (q ≡ Prepared.Refused 11)) ⊎ SameGiven reading f m g n r q
+    ((r ≡ refused 11) × (q ≡ refused 11)) ⊎ SameGiven reading f m g n r q
 code_alike {reading} {f} {x} {m} {g} {y} {n} {r} {q} alike h k l o =
     ⊎_elim
-    (λ d. inl (prepared_one r (Prepared.Refused 11) (h.said ∙ d.0), prepared_one q (Prepared.Refused 11) (k.said ∙ d.1)))
+    (λ d. inl (h.said ∙ d.0, k.said ∙ d.1))
     (λ d.
     let s : Summary = (summary_of (policy_of reading f)) in
     let t : Summary = (summary_of (policy_of reading g)) in
-    let i : r ≡ Prepared.Gives s = prepared_one r (Prepared.Gives s) (h.said ∙ d.0) in
-    let j : q ≡ Prepared.Gives t = prepared_one q (Prepared.Gives t) (k.said ∙ d.1) in
-    let of_f = subst (λ (z : Prepared). PreparePromise reading f x z m) i h in
-    let of_g = subst (λ (z : Prepared). PreparePromise reading g y z n) j k in
+    let i : r ≡ gives s = h.said ∙ d.0 in
+    let j : q ≡ gives t = k.said ∙ d.1 in
+    let of_f = subst (λ (z : Answer Summary). PreparePromise reading f x z m) i h in
+    let of_g = subst (λ (z : Answer Summary). PreparePromise reading g y z n) j k in
     inr (record {
       first = (s, i);
       second = (t, j);
@@ -475,14 +470,14 @@ pub c_alike :
 c_alike {reading} {f} {x} {m} {g} {y} {n} {v} {w} alike h k l o =
     ⊎_elim
     (λ d. inl (
-      (prepared_refused v 10).0 (prepared_one (prepared_in v) (Prepared.Refused 11) ((c_prepare h).said ∙ d.0)),
-      (prepared_refused w 10).0 (prepared_one (prepared_in w) (Prepared.Refused 11) ((c_prepare k).said ∙ d.1)),
+      (prepared_refused v 10).0 ((c_prepare h).said ∙ d.0),
+      (prepared_refused w 10).0 ((c_prepare k).said ∙ d.1),
     ))
     (λ d.
     let s : Summary = (summary_of (policy_of reading f)) in
     let t : Summary = (summary_of (policy_of reading g)) in
-    let i = prepared_none v (prepared_one (prepared_in v) (Prepared.Gives s) ((c_prepare h).said ∙ d.0)) in
-    let j = prepared_none w (prepared_one (prepared_in w) (Prepared.Gives t) ((c_prepare k).said ∙ d.1)) in
+    let i = prepared_none v ((c_prepare h).said ∙ d.0) in
+    let j = prepared_none w ((c_prepare k).said ∙ d.1) in
     inr (record {
       given = (i, j);
       runs = λ events out state after other also r q good long few a b.

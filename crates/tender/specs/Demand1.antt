@@ -1,7 +1,12 @@
 -- Demand 1: each public entry takes anything and ends, for it has no `requires`; its promise fixes "the result fixed here" and the later contents of
 -- every slice and state lent to it; and "Any pair of results allowed by the statement is proved equal".
 -- Where the contract of a function is one equation, its right side is named here: two results that meet it are the same.
--- The check of a file, and under a reading: `policy::check_under` gives `checked_under`.
+-- The laws `.._one` speak of what a result says, as an answer in numbers. Two results that say the same are the same, which carries these laws over to the code's own results.
+pub use Rattle.refusals.specs.Laws.{told_one}
+pub use Rattle.policy.specs.LayoutLaws.{said_one}
+pub use Rattle.enforcer.specs.Promises.{told_same}
+pub use Rattle.tender.specs.Said.{handed_one, walked_one, answer_said_one, read_said_one, judged_said_one, written_said_one, rule_said_one}
+-- The check of a file, and under a reading: `policy::layout_under` gives `checked_under`, by `checked_said`.
 pub use Rattle.policy.specs.Layout.{CheckPromise, check_one, checked_under}
 -- The limits and the start of the state's own type: `State::limits` gives `limits_said`, and `State::start` gives `start_state`.
 pub use Rattle.stepping.specs.Code.{limits_said, start_state}
@@ -39,6 +44,7 @@ pub use Rattle.showing.specs.Promise.{WriteTextPromise, write_one as write_text_
 -- Where the rules and the names of a text stand in it.
 pub use Rattle.pointing.specs.RuleAt.{RuleAtPromise, rule_at_one}
 pub use Rattle.pointing.specs.NameAt.{NameAtPromise, name_at_one}
+pub use Rattle.pointing.specs.Said.{Named, name_said_one}
 -- The functions for a controller in C. groovepawn_prepare, _input, _output, _run, _join, _ticks:
 pub use Rattle.groovepawn.specs.Calls.{
   PrepareCall,

@@ -15,7 +15,6 @@ use Rattle.enforcer.specs.Entries.{OutputAnswer, marks_refusal, input_refusal, i
 use Rattle.enforcer.specs.States.{marks_granted}
 use Rattle.trimming.specs.Table.{marks_of}
 use Rattle.prepare.specs.Entry.{summary_of, prepare_of, prepared_marks}
-use Rattle.prepare.specs.Promise.{prepared_one}
 use Rattle.prepare.specs.PromiseLaws.{said_past}
 use Rattle.reasons.specs.Entry.{why_refusal}
 use Rattle.indexed.specs.Entries.{index_refusal, input_indexed_of, output_indexed_of}
@@ -29,8 +28,6 @@ use Rattle.bays.specs.Halves.{refused_stays}
 use Rattle.meter.specs.Entries.{meter_refusal, meter_input_of, meter_output_of}
 use Rattle.prepare.specs.Promise.{PreparePromise}
 use Rattle.prepare.specs.declared.Summary.{Summary}
-use Rattle.prepare.specs.declared.Prepared.{Prepared}
-use Rattle.prepare.specs.declared.Prepared.TheVariants as Prepared
 use Rattle.tender.specs.Samples.{S, T}
 use Rattle.tender.specs.Granted.{each_reading}
 use Rattle.stepping.specs.declared.state.State.{State}
@@ -150,28 +147,26 @@ left reading file = answer (unless (is_marked (marks_of (policy_of reading file)
 
 module _ {reading : ℕ} (named : reading_refusal reading ≡ 0) {before after : List ℕ} where
   -- Under each reading, into a slice that is long enough, T has one answer: the marked case "T: 2 states, 1 live, verdict 1".
-  pub T-answer : {r : Prepared} →
-      PreparePromise reading T before r after → 2 ≤ length before → r ≡ Prepared.Gives (record { verdict = 1; states = 2; live = 1 })
+  pub T-answer : {r : Answer Summary} →
+      PreparePromise reading T before r after → 2 ≤ length before → r ≡ gives (record { verdict = 1; states = 2; live = 1 })
   unfolding the_file the_check a_step the_marks
   T-answer {r} h long =
-      prepared_one r _
-      (h.said ∙ said_past reading T before ((marks_granted reading T before).1 ((under_none reading T).1 (named, refl), long))
-      ∙ each_reading (λ n. left n T ≡ gives (record { verdict = 1; states = 2; live = 1 })) refl refl reading named)
+      h.said ∙ said_past reading T before ((marks_granted reading T before).1 ((under_none reading T).1 (named, refl), long))
+      ∙ each_reading (λ n. left n T ≡ gives (record { verdict = 1; states = 2; live = 1 })) refl refl reading named
 
   -- "one inventing the number of live states": whatever it says of T but the right numbers, it breaks the promise.
   pub not_inventing : {s : Summary} →
-      PreparePromise reading T before (Prepared.Gives s) after → 2 ≤ length before → (s.live ≡ 1) × (s.states ≡ 2) × (s.verdict ≡ 1)
+      PreparePromise reading T before (gives s) after → 2 ≤ length before → (s.live ≡ 1) × (s.states ≡ 2) × (s.verdict ≡ 1)
   not_inventing h long = let e = T-answer h long in (cc, cc, cc)
 
   -- Into a slice that is long enough, S has one answer: the marked case "S: 1 state, 1 live, verdict 0".
-  pub S-answer : {r : Prepared} →
-      PreparePromise reading S before r after → 1 ≤ length before → r ≡ Prepared.Gives (record { verdict = 0; states = 1; live = 1 })
+  pub S-answer : {r : Answer Summary} →
+      PreparePromise reading S before r after → 1 ≤ length before → r ≡ gives (record { verdict = 0; states = 1; live = 1 })
   unfolding the_file the_check a_step the_marks
   S-answer {r} h long =
-      prepared_one r _
-      (h.said ∙ said_past reading S before ((marks_granted reading S before).1 ((under_none reading S).1 (named, refl), long))
-      ∙ each_reading (λ n. left n S ≡ gives (record { verdict = 0; states = 1; live = 1 })) refl refl reading named)
+      h.said ∙ said_past reading S before ((marks_granted reading S before).1 ((under_none reading S).1 (named, refl), long))
+      ∙ each_reading (λ n. left n S ≡ gives (record { verdict = 0; states = 1; live = 1 })) refl refl reading named
 
   -- "one refusing always": a prepare that refuses S, by whatever number, breaks the promise.
-  pub not_refusing : {n : ℕ} → PreparePromise reading S before (Prepared.Refused n) after → ¬ (1 ≤ length before)
+  pub not_refusing : {n : ℕ} → PreparePromise reading S before (refused n) after → ¬ (1 ≤ length before)
   not_refusing h long = let e = S-answer h long in let z : ◌≡◌ {A = ℕ} 0 1 = cc in omega arith

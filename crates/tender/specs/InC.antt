@@ -11,11 +11,8 @@ use Rattle.policy.specs.Check.{refusal_under}
 use Rattle.policy.specs.Number.{states, place_of}
 use Rattle.stepping.specs.State.{place_in}
 use Rattle.enforcer.specs.Entries.{OutputAnswer}
-use Rattle.enforcer.specs.Promises.{answer_said, answer_one, InputPromise, OutputPromise}
+use Rattle.enforcer.specs.Promises.{InputPromise, OutputPromise}
 use Rattle.stepping.specs.declared.state.State.{State}
-use Rattle.enforcer.specs.declared.halves.HalfAnswer.{HalfAnswer}
-use Rattle.enforcer.specs.declared.halves.HalfAnswer.TheVariants as Half
-use Rattle.enforcer.specs.declared.halves.Output.{Output}
 use Rattle.prepare.specs.PromiseLaws.{prepare_live, prepare_dead}
 use Rattle.prepare.specs.declared.Summary.{Summary}
 use Rattle.prepare.specs.Judged.{Judges, gives_judges}
@@ -34,10 +31,6 @@ use Rattle.ticks.specs.Conversion.{rounded, ticks_of}
 use Rattle.ticks.specs.Laws.{Within, exactly_18, exactly_19, exactly_given}
 use Rattle.waves.specs.Promise.{WritePromise, TakePromise}
 use Rattle.waves.specs.Laws.{written_reads, read_writes}
-use Rattle.waves.specs.declared.writer.Written.{Written}
-use Rattle.waves.specs.declared.writer.Written.TheVariants as Written
-use Rattle.waves.specs.declared.reader.Taken.{Taken}
-use Rattle.waves.specs.declared.reader.Taken.TheVariants as Taken
 use Rattle.stepping.specs.Five.{state_in}
 use Rattle.bays.specs.Odd.{odd_some, odd_le}
 use Rattle.groovepawn.specs.Words.{is_state, is_up}
@@ -104,7 +97,7 @@ c_index h = code_index (record { refuses = h.said; writes = h.index })
 module _ {file before after : List ℕ} (built : BuildPromise file before 0 after) where
   -- The input half's two promises, with that index and without one, are the same.
   pub code_input_indexed :
-      (reading : ℕ) (marks : List ℕ) (s : State) (x : ℕ) (r : HalfAnswer) →
+      (reading : ℕ) (marks : List ℕ) (s : State) (x : ℕ) (r : Answer ℕ) →
       InputIndexedPromise reading file (take 128 after) marks s x r ↔ InputPromise reading file marks s x r
   code_input_indexed reading marks s x r =
       subst (λ (index : List ℕ). InputIndexedPromise reading file index marks s x r ↔ InputPromise reading file marks s x r) (sym (code_index built))
@@ -112,7 +105,7 @@ module _ {file before after : List ℕ} (built : BuildPromise file before 0 afte
 
   -- The output half's two promises, with that index and without one, are the same.
   pub code_output_indexed :
-      (reading : ℕ) (marks : List ℕ) (s : State) (x y : ℕ) (r : Output) →
+      (reading : ℕ) (marks : List ℕ) (s : State) (x y : ℕ) (r : OutputAnswer) →
       OutputIndexedPromise reading file (take 128 after) marks s x y r ↔ OutputPromise reading file marks s x y r
   code_output_indexed reading marks s x y r =
       subst (λ (index : List ℕ). OutputIndexedPromise reading file index marks s x y r ↔ OutputPromise reading file marks s x y r) (sym (code_index built))
@@ -136,20 +129,20 @@ module _ {file before after : List ℕ} (built : IndexCall file before 0 after) 
 module _ {reading : ℕ} {file index marks : List ℕ} {s : State} {x : ℕ} where
   -- With an index, the code's input half gives 28 exactly if the file passes and the index is not the file's.
   pub code_input_28 :
-      {r : HalfAnswer} → InputIndexedPromise reading file index marks s x r →
-      (r ≡ Half.Refused 28) ↔ ((refusal_under reading file ≡ 0) × (¬ (index ≡ index_of file)))
+      {r : Answer ℕ} → InputIndexedPromise reading file index marks s x r →
+      (r ≡ refused 28) ↔ ((refusal_under reading file ≡ 0) × (¬ (index ≡ index_of file)))
   code_input_28 {r} h =
       let k = input_28 reading file index marks s x in
-      (λ e. k.0 (sym h.said ∙ ap answer_said e), λ e. answer_one r (Half.Refused 28) (h.said ∙ k.1 e))
+      (λ e. k.0 (sym h.said ∙ e), λ e. h.said ∙ k.1 e)
 
   -- With an index, the code's output half gives 28 exactly if the file passes and the index is not the file's.
   pub code_output_28 :
-      {y : ℕ} {r : Output} → OutputIndexedPromise reading file index marks s x y r →
-      (r.answer ≡ Half.Refused 28) ↔ ((refusal_under reading file ≡ 0) × (¬ (index ≡ index_of file)))
+      {y : ℕ} {r : OutputAnswer} → OutputIndexedPromise reading file index marks s x y r →
+      (r.answer ≡ refused 28) ↔ ((refusal_under reading file ≡ 0) × (¬ (index ≡ index_of file)))
   code_output_28 {y} {r} h =
       let k = output_28 reading file index marks s x y in
       let said = ap (λ (a : OutputAnswer). a.answer) h.said in
-      (λ e. k.0 (sym said ∙ ap answer_said e), λ e. answer_one r.answer (Half.Refused 28) (said ∙ k.1 e))
+      (λ e. k.0 (sym said ∙ e), λ e. said ∙ k.1 e)
 
 -- The same of the functions in C, whatever numbers stand for the state.
 module _ (reading : ℕ) (file index marks state : List ℕ) where
@@ -214,8 +207,8 @@ pub c_written_reads :
     WaveReadCall file (take (r / 256) after) out q later → length events ≤ length out →
     (q % 256 ≡ 0) × (q / 256 ≡ length events) × (later ≡ events ++ drop (length events) out)
 c_written_reads {file} {events} {before} {after} {r = r} {q} w z t long =
-    let e : written_in r ≡ Written.Length (r / 256) = rw z in
-    let k = written_reads (subst (λ (a : Written). WritePromise file events before a after) e (c_wave_write w)) (c_wave_read t) long in
+    let e : written_in r ≡ gives (r / 256) = rw z in
+    let k = written_reads (subst (λ (a : Answer ℕ). WritePromise file events before a after) e (c_wave_write w)) (c_wave_read t) long in
     let g = taken_given q k.0 in (g.0, g.1, k.1)
 
 -- 4/13: the reader "takes back exactly what the writer makes". What groovepawn_wave_read took, groovepawn_wave_write writes as the same text.
@@ -224,8 +217,8 @@ pub c_read_writes :
     WaveWriteCall file (take (q / 256) later) before r after → length text ≤ length before →
     (r % 256 ≡ 0) × (r / 256 ≡ length text) × (after ≡ text ++ drop (length text) before)
 c_read_writes {file} {text} {out} {later} {q = q} {r} t z w long =
-    let e : taken_in q ≡ Taken.Count (q / 256) = rw z in
-    let k = read_writes (subst (λ (a : Taken). TakePromise file text out a later) e (c_wave_read t)) (c_wave_write w) long in
+    let e : taken_in q ≡ gives (q / 256) = rw z in
+    let k = read_writes (subst (λ (a : Answer ℕ). TakePromise file text out a later) e (c_wave_read t)) (c_wave_write w) long in
     let g = written_given r k.0 in (g.0, g.1, k.1)
 
 -- "ticks × tick length differs from the time by less than one tick length"; 18 and 19 exactly when 01 says.

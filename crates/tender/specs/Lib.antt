@@ -1,5 +1,6 @@
 pub mod Samples
 pub mod Cases
+pub mod Said
 pub mod Demand1
 pub mod Demand1Shown
 pub mod NoReading

@@ -9,7 +9,7 @@ use Prim.Native.Nat.{ℕ, zero, suc, ◌*◌, ◌/◌, ◌%◌, ◌≤◌, zero-
 use Rattle.std.proofs.Math.Nat.{le_refl}
 use Rattle.std.proofs.Math.Dec.{ltb}
 use Rattle.std.proofs.Math.ListN.{length, length-append}
-use Rattle.streams.specs.Answer.{gives}
+use Rattle.streams.specs.Answer.{Answer, gives}
 use Rattle.policy.specs.Rules.{Rule, Policy}
 use Rattle.policy.specs.Rules as Rules
 use Rattle.policy.specs.Number.{states, states_of}
@@ -30,8 +30,6 @@ use Rattle.join.specs.Limits.{states_join}
 use Rattle.join.specs.Again.{same_tags_is}
 use Rattle.join.specs.Written.{Unrefused, joined_passes, joined_written}
 use Rattle.join.specs.Promise.{JoinPromise, join_one}
-use Rattle.join.specs.declared.Joined as Code
-use Rattle.join.specs.declared.Joined.TheVariants as Variants
 use Rattle.tender.specs.Samples.{K}
 use Rattle.tender.specs.Demand3.{JoinMade, Alike, permits_all}
 use Rattle.tender.specs.Demand3Shown.{grouping}
@@ -161,12 +159,12 @@ module _ (a : List ℕ) (passed : refusal_of a ≡ 0) where
       longest f (frame f (joined_passes a (permits_all a) f none))
 
   -- So into a slice of 5,974 bytes or more join's code gives a length.
-  pub unit_given : {before after : List ℕ} {r : Code.Joined} → JoinPromise a (permits_all a) before r after → 5974 ≤ length before →
-      (n : ℕ) × (r ≡ Variants.Length n)
+  pub unit_given : {before after : List ℕ} {r : Answer ℕ} → JoinPromise a (permits_all a) before r after → 5974 ≤ length before →
+      (n : ℕ) × (r ≡ gives n)
   unit_given {before} h long =
       let n = length (joined_file a (permits_all a) before) in
       let e = given_of a (permits_all a) before (unit_unrefused before (omega (arith, unit_room before))) in
-      (n, (join_one {s = Variants.Length n} h (record { answers = sym e; writes = refl })).0)
+      (n, (join_one {s = gives n} h (record { answers = sym e; writes = refl })).0)
 
 -- The join of a and b, in a slice of so many bytes.
 abbrev joined_in : (size : ℕ) (a b : List ℕ) → List ℕ

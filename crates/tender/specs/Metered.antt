@@ -7,11 +7,8 @@ use Rattle.streams.specs.Stream.{Event, Stream}
 use Rattle.policy.specs.File.{policy_of}
 use Rattle.enforcer.specs.Entries.{OutputAnswer, output_of}
 use Rattle.stepping.specs.Code.{start_state}
-use Rattle.enforcer.specs.declared.halves.HalfAnswer.{HalfAnswer}
-use Rattle.enforcer.specs.declared.halves.HalfAnswer.TheVariants as Code
 use Rattle.prepare.specs.Promise.{PreparePromise}
 use Rattle.prepare.specs.declared.Summary.{Summary}
-use Rattle.prepare.specs.declared.Prepared.TheVariants as Prepare
 use Rattle.meter.specs.Meter.{station_state, last_reading, billed, unbilled, pulses_of, with_pulse}
 use Rattle.meter.specs.Entries.{MeterAnswer, weight_p}
 use Rattle.meter.specs.Promises.{MeterNewPromise, MeterInputPromise, MeterOutputPromise}
@@ -41,8 +38,8 @@ module _ (reading : ℕ) (file : List ℕ) where
 pub data MeterTicks (reading : ℕ) (file marks : List ℕ) : (station totals : List ℕ) → List Read → (read released : Stream) → (last sums : List ℕ) → Type 0 where
   meter_none : {station totals : List ℕ} → MeterTicks reading file marks station totals [] [] [] station totals
   meter_more : {station totals next risen last sums : List ℕ} {t : Read} {ts : List Read} {r : Event} {es rs : Stream} →
-      MeterInputPromise reading file marks station t.register t.x (Code.Value r.x) →
-      MeterOutputPromise reading file marks station totals t.register r.x t.y (Code.Value r.y) next risen →
+      MeterInputPromise reading file marks station t.register t.x (Said.gives r.x) →
+      MeterOutputPromise reading file marks station totals t.register r.x t.y (Said.gives r.y) next risen →
       MeterTicks reading file marks next risen ts es rs last sums →
       MeterTicks reading file marks station totals (t ∷ ts) (event_read reading file station t ∷ es) (r ∷ rs) last sums
 
@@ -66,7 +63,7 @@ module _ {reading : ℕ} {file marks : List ℕ} where
 -- After prepare's code gave a summary, from a station that meter_new's code set up: for the events read the code released demand 2's stream, and the
 -- station's state is the one that it leads to.
 pub meter_release :
-    {reading : ℕ} {file lent marks : List ℕ} {s : Summary} → PreparePromise reading file lent (Prepare.Gives s) marks →
+    {reading : ℕ} {file lent marks : List ℕ} {s : Summary} → PreparePromise reading file lent (Said.gives s) marks →
     {before totals fresh zeros : List ℕ} {register : ℕ} → MeterNewPromise before totals register 0 fresh zeros →
     {last sums : List ℕ} {ts : List Read} {es rs : Stream} → MeterTicks reading file marks fresh zeros ts es rs last sums →
     TicksReleased (policy_of reading file) es rs (station_state last)
@@ -85,7 +82,7 @@ pub data CMeterTicks (reading : ℕ) (file marks : List ℕ) : (station totals :
       CMeterTicks reading file marks station totals (t ∷ ts) (event_read reading file station t ∷ es) (r ∷ rs) last sums
 
 -- What such a word says.
-word_half : (v : ℕ) → half_in (v * 256) ≡ Code.Value v
+word_half : (v : ℕ) → half_in (v * 256) ≡ Said.gives v
 word_half v = let f = answer_fields v in rw (f.0, f.1)
 
 c_meter_ticks : {reading : ℕ} {file marks station totals last sums : List ℕ} {ts : List Read} {es rs : Stream} →
@@ -94,7 +91,7 @@ c_meter_ticks c_meter_none = meter_none
 c_meter_ticks {reading} {file} {marks} (c_meter_more {station = station} {totals = totals} {next = next} {risen = risen} {t = t} {r = r} i o more) =
     meter_more
     (subst (MeterInputPromise reading file marks station t.register t.x) (word_half r.x) (c_meter_input i))
-    (subst (λ (a : HalfAnswer). MeterOutputPromise reading file marks station totals t.register r.x t.y a next risen) (word_half r.y) (c_meter_output o))
+    (subst (λ (a : Said.Answer ℕ). MeterOutputPromise reading file marks station totals t.register r.x t.y a next risen) (word_half r.y) (c_meter_output o))
     (c_meter_ticks more)
 
 -- After groovepawn_prepare and groovepawn_meter_new refused nothing: demand 2's stream, and the state that it leads to.
@@ -111,7 +108,7 @@ c_meter_release h z new ticks =
 -- Any calls of meter_output's code, accepted or refused, one after the other: `count` is the reading of a register that never rolls over.
 pub data Turns (reading : ℕ) (file marks : List ℕ) : (station totals : List ℕ) → List Turn → (last sums : List ℕ) → Type 0 where
   turns_none : {station totals : List ℕ} → Turns reading file marks station totals [] station totals
-  turns_more : {station totals next risen last sums : List ℕ} {t : Turn} {ts : List Turn} {a : HalfAnswer} →
+  turns_more : {station totals next risen last sums : List ℕ} {t : Turn} {ts : List Turn} {a : Said.Answer ℕ} →
       MeterOutputPromise reading file marks station totals (t.count % 65536) t.x t.y a next risen →
       Turns reading file marks next risen ts last sums → Turns reading file marks station totals (t ∷ ts) last sums
 
@@ -155,7 +152,7 @@ code_never_falls {reading} {file} {marks} {station} {totals} {ts = ts} turns =
 -- "A refused tick changes no total, last reading or state."
 pub code_refused_stays :
     {reading : ℕ} {file marks station totals next sums : List ℕ} {register x y n : ℕ} →
-    MeterOutputPromise reading file marks station totals register x y (Code.Refused n) next sums → (next ≡ station) × (sums ≡ totals)
+    MeterOutputPromise reading file marks station totals register x y (Said.refused n) next sums → (next ≡ station) × (sums ≡ totals)
 code_refused_stays {reading} {file} {marks} {station} {totals} {register = register} {x} {y} h =
     let k = refused_stays reading file marks station totals register x y (ap (λ (a : MeterAnswer). a.answer) (sym h.said)) in
     (ap (λ (a : MeterAnswer). a.station) h.said ∙ k.0, ap (λ (a : MeterAnswer). a.totals) h.said ∙ k.1)

@@ -1,5 +1,8 @@
 -- "Callers name reading 1 or 2." "Refusals: 22 for any other number, before all else": whatever else an entry is given, it answers 22, and nothing is written
 -- or moved. Of every entry that takes a reading, by its promise; and of every such function in C, by its call.
+use Rattle.streams.specs.Answer.{Answer, refused}
+use Rattle.cleaning.specs.declared.Lengths.{Lengths}
+use Rattle.prepare.specs.declared.Summary.{Summary}
 use Rattle.std.specs.Prelude.{◌≡◌, refl, Bool, true, false, cond, List, ℕ, length}
 use Rattle.std.proofs.Common.{sym, ◌∙◌, arith}
 use Rattle.std.proofs.Math.Path.{ap}
@@ -7,24 +10,18 @@ use Rattle.policy.specs.Layout.{checked_under, no_layout}
 use Rattle.enforcer.specs.Entries.{OutputAnswer}
 use Rattle.enforcer.specs.Promises.{InputPromise, OutputPromise, RunPromise, input_one, output_one, run_one}
 use Rattle.stepping.specs.declared.state.State.{State}
-use Rattle.enforcer.specs.declared.halves.HalfAnswer.{HalfAnswer}
-use Rattle.enforcer.specs.declared.halves.HalfAnswer.TheVariants as Half
-use Rattle.enforcer.specs.declared.halves.Output.{Output}
-use Rattle.enforcer.specs.declared.runs.Ran.{Ran}
-use Rattle.prepare.specs.Promise.{PreparePromise, prepared_one, prepare_one}
-use Rattle.prepare.specs.declared.Prepared.{Prepared}
-use Rattle.prepare.specs.declared.Prepared.TheVariants as Prepared
+use Rattle.enforcer.specs.Promises.{Ran}
+use Rattle.prepare.specs.Promise.{PreparePromise, prepare_one}
 use Rattle.fast.specs.Entry.{Work, shortest, lent_refusal}
 use Rattle.fast.specs.Promise.{FastPromise}
 use Rattle.fast.proofs.PromiseLaws.{first_refusals}
 use Rattle.indexed.specs.Entries.{early_refusal, index_refusal}
 use Rattle.indexed.specs.Promises.{InputIndexedPromise, OutputIndexedPromise, input_one as input_indexed_one, output_one as output_indexed_one}
 use Rattle.reasons.specs.Entry.{refuses, answers_one}
+use Rattle.explaining.specs.EachHalf.{Reasons}
 use Rattle.reasons.specs.Promise.{WhyPromise, why_one}
 use Rattle.reasons.specs.Word.{why_word}
 use Rattle.reasons.specs.Runs.{Room, shortest_of, room_refusal, early_refusal as early_run_refusal, why_run_refusal, WhyRunPromise, refuses as run_refuses, run_answers_one, why_run_one}
-use Rattle.reasons.specs.declared.entry.WhyAnswer.{WhyAnswer}
-use Rattle.reasons.specs.declared.entry.WhyAnswer.TheVariants as WhyAnswer
 use Rattle.stepping.specs.Five.{state_in}
 use Rattle.bays.specs.Odd.{odd_refusal}
 use Rattle.bays.specs.Entries.{BayAnswer}
@@ -32,8 +29,6 @@ use Rattle.bays.specs.Promises.{BayInputPromise, BayOutputPromise, bay_input_one
 use Rattle.meter.specs.Entries.{MeterAnswer}
 use Rattle.meter.specs.Promises.{MeterInputPromise, MeterOutputPromise, meter_input_one, meter_output_one}
 use Rattle.cleaning.specs.Promise.{CleanPromise, clean_one}
-use Rattle.cleaning.specs.declared.Cleaned.{Cleaned}
-use Rattle.cleaning.specs.declared.Cleaned.TheVariants as Cleaned
 use Rattle.groovepawn.specs.Words.{answer_word, summary_word, ran_word, is_state, prepare_word, input_word, output_word, run_word}
 use Rattle.groovepawn.specs.Calls.{PrepareCall, InputCall, OutputCall, RunCall}
 use Rattle.groovepawn.specs.Stays.{output_stays, run_stays}
@@ -49,40 +44,40 @@ use Rattle.tender.specs.Demand1Shown.{under_22, first_22, check_22, prepare_22, 
 -- Of the entries.
 pub record Entries22 (reading : ℕ) : Type 0 where
   pub check : (file : List ℕ) → checked_under reading file ≡ record { refusal = 22; layout = no_layout }
-  pub prepare : {file before after : List ℕ} {r : Prepared} → PreparePromise reading file before r after → (r ≡ Prepared.Refused 22) × (after ≡ before)
+  pub prepare : {file before after : List ℕ} {r : Answer Summary} → PreparePromise reading file before r after → (r ≡ refused 22) × (after ≡ before)
   pub prepare_fast :
-      {file before after : List ℕ} {work left : Work} {r : Prepared} → FastPromise reading file before work r after left →
-      (r ≡ Prepared.Refused 22) × (after ≡ before) × (left ≡ work)
-  pub input : {file marks : List ℕ} {s : State} {x : ℕ} {r : HalfAnswer} → InputPromise reading file marks s x r → r ≡ Half.Refused 22
+      {file before after : List ℕ} {work left : Work} {r : Answer Summary} → FastPromise reading file before work r after left →
+      (r ≡ refused 22) × (after ≡ before) × (left ≡ work)
+  pub input : {file marks : List ℕ} {s : State} {x : ℕ} {r : Answer ℕ} → InputPromise reading file marks s x r → r ≡ refused 22
   pub output :
-      {file marks : List ℕ} {s : State} {x y : ℕ} {r : Output} → OutputPromise reading file marks s x y r →
-      r ≡ record { answer = Half.Refused 22; state = s }
+      {file marks : List ℕ} {s : State} {x y : ℕ} {r : OutputAnswer} → OutputPromise reading file marks s x y r →
+      r ≡ record { answer = refused 22; state = s }
   pub run :
       {file marks events before after : List ℕ} {s : State} {r : Ran} → RunPromise reading file marks s events before r after →
       (r ≡ record { refusal = 22; count = 0; state = s }) × (after ≡ before)
   pub input_indexed :
-      {file index marks : List ℕ} {s : State} {x : ℕ} {r : HalfAnswer} → InputIndexedPromise reading file index marks s x r → r ≡ Half.Refused 22
+      {file index marks : List ℕ} {s : State} {x : ℕ} {r : Answer ℕ} → InputIndexedPromise reading file index marks s x r → r ≡ refused 22
   pub output_indexed :
-      {file index marks : List ℕ} {s : State} {x y : ℕ} {r : Output} → OutputIndexedPromise reading file index marks s x y r →
-      r ≡ record { answer = Half.Refused 22; state = s }
-  pub why : {file marks : List ℕ} {s : State} {x y : ℕ} {r : WhyAnswer} → WhyPromise reading file marks s x y r → r ≡ WhyAnswer.Refused 22
+      {file index marks : List ℕ} {s : State} {x y : ℕ} {r : OutputAnswer} → OutputIndexedPromise reading file index marks s x y r →
+      r ≡ record { answer = refused 22; state = s }
+  pub why : {file marks : List ℕ} {s : State} {x y : ℕ} {r : Answer Reasons} → WhyPromise reading file marks s x y r → r ≡ refused 22
   pub why_run :
       {file marks events before after : List ℕ} {s : State} {room left : Room} {r : Ran} → WhyRunPromise reading file marks s events before room r after left →
       (r ≡ record { refusal = 22; count = 0; state = s }) × (after ≡ before) × (left ≡ room)
   pub bay_input :
-      {file marks states : List ℕ} {bay x : ℕ} {r : HalfAnswer} → BayInputPromise reading file marks states bay x r → r ≡ Half.Refused 22
+      {file marks states : List ℕ} {bay x : ℕ} {r : Answer ℕ} → BayInputPromise reading file marks states bay x r → r ≡ refused 22
   pub bay_output :
-      {file marks states after : List ℕ} {bay x y : ℕ} {r : HalfAnswer} → BayOutputPromise reading file marks states bay x y r after →
-      (r ≡ Half.Refused 22) × (after ≡ states)
+      {file marks states after : List ℕ} {bay x y : ℕ} {r : Answer ℕ} → BayOutputPromise reading file marks states bay x y r after →
+      (r ≡ refused 22) × (after ≡ states)
   pub meter_input :
-      {file marks station : List ℕ} {register x : ℕ} {r : HalfAnswer} → MeterInputPromise reading file marks station register x r → r ≡ Half.Refused 22
+      {file marks station : List ℕ} {register x : ℕ} {r : Answer ℕ} → MeterInputPromise reading file marks station register x r → r ≡ refused 22
   pub meter_output :
-      {file marks station totals after risen : List ℕ} {register x y : ℕ} {r : HalfAnswer} →
+      {file marks station totals after risen : List ℕ} {register x y : ℕ} {r : Answer ℕ} →
       MeterOutputPromise reading file marks station totals register x y r after risen →
-      (r ≡ Half.Refused 22) × (after ≡ station) × (risen ≡ totals)
+      (r ≡ refused 22) × (after ≡ station) × (risen ≡ totals)
   pub clean :
-      {file out list out_after list_after : List ℕ} {r : Cleaned} → CleanPromise reading file out list r out_after list_after →
-      (r ≡ Cleaned.Refused 22) × (out_after ≡ out) × (list_after ≡ list)
+      {file out list out_after list_after : List ℕ} {r : Answer Lengths} → CleanPromise reading file out list r out_after list_after →
+      (r ≡ refused 22) × (out_after ≡ out) × (list_after ≡ list)
 
 -- Of the functions in C: the word is 22.
 pub record Calls22 (reading : ℕ) : Type 0 where
@@ -139,7 +134,7 @@ module _ (reading : ℕ) (not_one : ¬ (reading ≡ 1)) (not_two : ¬ (reading �
             prepare_one h (record { said = sym k.0; marks = sym k.1 });
         prepare_fast = λ {file = file} {before = before} {work = work} {r = r} h.
             let k = fast_22 reading not_one not_two file before (shortest work) in
-            (prepared_one r (Prepared.Refused 22) (h.said ∙ k.0), h.marks ∙ k.1, h.scratch (lent_22 file before (shortest work)));
+            (h.said ∙ k.0, h.marks ∙ k.1, h.scratch (lent_22 file before (shortest work)));
         input = λ {file = file} {marks = marks} {s = s} {x = x} h. input_one h (record { said = sym (input_22 reading not_one not_two file marks s x) });
         output = λ {file = file} {marks = marks} {s = s} {x = x} {y = y} h.
             output_one h (record { said = sym (output_22 reading not_one not_two file marks s x y) });

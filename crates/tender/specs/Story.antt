@@ -16,7 +16,6 @@ use Rattle.prepare.specs.Entry.{prepare_of}
 use Rattle.prepare.specs.Promise.{PreparePromise}
 use Rattle.prepare.specs.PromiseLaws.{marks_past}
 use Rattle.prepare.specs.declared.Summary.{Summary}
-use Rattle.prepare.specs.declared.Prepared.TheVariants as Prepare
 use Rattle.meter.specs.Meter.{is_station, are_totals, station_state}
 use Rattle.meter.specs.Entries.{new_refusal, new_station, new_totals}
 use Rattle.meter.specs.Promises.{MeterNewPromise}
@@ -111,7 +110,7 @@ pub record Story (reading : ℕ) (marks fresh zeros : List ℕ) (c : ℕ) (ds : 
       TicksReleased (policy_of reading Transfer) (replicate (length ds) (event 1 1) ++ (replicate n (event 0 0) ++ (event 0 2 ∷ [])))
       (replicate (length ds) (event 1 1) ++ (replicate n (event 0 0) ++ (event 0 0 ∷ []))) (station_state last)
 
-module _ {reading : ℕ} {lent marks : List ℕ} {s : Summary} (h : PreparePromise reading Transfer lent (Prepare.Gives s) marks)
+module _ {reading : ℕ} {lent marks : List ℕ} {s : Summary} (h : PreparePromise reading Transfer lent (gives s) marks)
     {before totals fresh zeros : List ℕ} (c : ℕ) (new : MeterNewPromise before totals (c % 65536) 0 fresh zeros) where
   summed : prepare_of reading Transfer lent ≡ gives s
   summed = sym h.said

@@ -3,7 +3,7 @@ use Rattle.std.specs.Prelude.{◌≡◌, List, [], ◌∷◌, ◌++◌, map, ℕ
 use Rattle.std.proofs.Math.Path.{refl, ap}
 use Rattle.std.proofs.Common.{sym, subst, ◌∙◌, lt-ltb, ltb-true}
 use Rattle.std.proofs.lemmas.List.{length-map}
-use Rattle.streams.specs.Answer.{gives}
+use Rattle.streams.specs.Answer.{Answer, gives}
 use Rattle.streams.specs.AnswerLaws.{none_refused}
 use Rattle.streams.specs.Stream.{Event, Stream, GoesOn}
 use Rattle.streams.specs.Corrections.{corrections}
@@ -18,18 +18,14 @@ use Rattle.stepping.specs.Ticks.{input_stands}
 use Rattle.enforcer.specs.Entries.{byte_of, output_from, OutputAnswer, marks_refusal, input_of, output_of}
 use Rattle.enforcer.specs.Refusals.{events_back, fits_good}
 use Rattle.stepping.specs.Code.{start_state}
-use Rattle.enforcer.specs.Promises.{ran_said, InputPromise, OutputPromise, RunPromise, answer_one}
+use Rattle.enforcer.specs.Promises.{ran_said, InputPromise, OutputPromise, RunPromise}
 use Rattle.stepping.specs.declared.state.State.{State}
-use Rattle.enforcer.specs.declared.halves.HalfAnswer.{HalfAnswer}
-use Rattle.enforcer.specs.declared.halves.HalfAnswer.TheVariants as Code
-use Rattle.enforcer.specs.declared.halves.Output.{Output}
-use Rattle.enforcer.specs.declared.runs.Ran.{Ran}
+use Rattle.enforcer.specs.Promises.{Ran}
 use Rattle.prepare.specs.Entry.{prepare_of}
 use Rattle.prepare.specs.Promise.{PreparePromise}
 use Rattle.prepare.specs.Enforces.{leads_start, leads_ready, output_found, input_found, ran_enforces}
 use Rattle.prepare.specs.Enforcing.{EnforcedBy, AsPrepared, Leads, MarkedPlace}
 use Rattle.prepare.specs.declared.Summary.{Summary}
-use Rattle.prepare.specs.declared.Prepared.TheVariants as Prepare
 use Rattle.console.specs.Scratch.{start_is}
 use Rattle.tender.specs.Granted.{well_formed, entry_refusal, prepared-marks, prepared_granted, given_passed, given_long, given_goes_on}
 use Rattle.tender.specs.Halves.{Looped, as_run, before, input_fits, input_here, loop, loop_more, loop_ran, loop_runs, output_fits, output_here, ran_as}
@@ -39,8 +35,8 @@ use Rattle.tender.specs.Halves.{Looped, as_run, before, input_fits, input_here, 
 pub data TickByTick (reading : ℕ) (file marks : List ℕ) : State → (read released : Stream) → State → Type 0 where
   ticks_none : {s : State} → TickByTick reading file marks s [] [] s
   ticks_more : {s u t : State} {e r : Event} {es rs : Stream} →
-      InputPromise reading file marks s e.x (Code.Value r.x) →
-      OutputPromise reading file marks s r.x e.y (record { answer = Code.Value r.y; state = u }) →
+      InputPromise reading file marks s e.x (gives r.x) →
+      OutputPromise reading file marks s r.x e.y (record { answer = gives r.y; state = u }) →
       TickByTick reading file marks u es rs t → TickByTick reading file marks s (e ∷ es) (r ∷ rs) t
 
 module _ {reading : ℕ} {file marks : List ℕ} where
@@ -83,7 +79,7 @@ pub record TicksReleased (p : Policy) (es rs : Stream) (t : State) : Type 0 wher
   pub leads : Leads p rs place
   pub state : t ≡ state_of place
 
-module _ {reading : ℕ} {file lent marks : List ℕ} {s : Summary} (h : PreparePromise reading file lent (Prepare.Gives s) marks) where
+module _ {reading : ℕ} {file lent marks : List ℕ} {s : Summary} (h : PreparePromise reading file lent (gives s) marks) where
   given : prepare_of reading file lent ≡ gives s
   given = sym h.said
 
@@ -129,9 +125,9 @@ module _ {reading : ℕ} {file lent marks : List ℕ} {s : Summary} (h : Prepare
     -- And they never stop: whatever is read next, the input half gives an input, and for it and whatever the controller answers the output half gives
     -- an output.
     pub ticks_go_on :
-        (x : ℕ) (r : HalfAnswer) → x < input_values (policy_of reading file) → InputPromise reading file marks t x r →
-        (z : ℕ) × (r ≡ Code.Value z)
-        × ((y : ℕ) (o : Output) → y < output_values (policy_of reading file) → OutputPromise reading file marks t z y o → (w : ℕ) × (o.answer ≡ Code.Value w))
+        (x : ℕ) (r : Answer ℕ) → x < input_values (policy_of reading file) → InputPromise reading file marks t x r →
+        (z : ℕ) × (r ≡ gives z)
+        × ((y : ℕ) (o : OutputAnswer) → y < output_values (policy_of reading file) → OutputPromise reading file marks t z y o → (w : ℕ) × (o.answer ≡ gives w))
     ticks_go_on x r f i =
         let p = policy_of reading file in
         let u = ticks_release.place in
@@ -142,14 +138,13 @@ module _ {reading : ℕ} {file lent marks : List ℕ} {s : Summary} (h : Prepare
         input_here reading file marks granted ready_there x (lt-ltb _ _ f) ∙ rw z.1
         in (
           z.0,
-          answer_one r (Code.Value z.0) (i.said ∙ ap (λ (s : State). input_of reading file marks s x) at ∙ input),
+          i.said ∙ ap (λ (s : State). input_of reading file marks s x) at ∙ input,
           λ y o g k.
               let w = output_found p marks u z.0 y stands.1 in
               let output : output_of reading file marks (state_of u) z.0 y ≡ output_from (state_of u) (gives w.0) =
               output_here reading file marks granted ready_there z.0 y (lt-ltb _ _ stands.0) (lt-ltb _ _ g) ∙ rw w.1
               in (
                 w.0.event.y,
-                answer_one o.answer (Code.Value w.0.event.y)
-                    (ap (λ (a : OutputAnswer). a.answer) (k.said ∙ ap (λ (s : State). output_of reading file marks s z.0 y) at ∙ output)),
+                ap (λ (a : OutputAnswer). a.answer) (k.said ∙ ap (λ (s : State). output_of reading file marks s z.0 y) at ∙ output),
               ),
         )

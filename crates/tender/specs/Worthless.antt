@@ -1,5 +1,6 @@
 -- "These worthless versions are to be rejected", from the promises of the code and by marked cases, which are under reading 1. As runs over the
 -- definitions they are in specs/WorthlessRuns.antt.
+use Rattle.streams.specs.Answer.{gives}
 use Rattle.std.specs.Prelude.{◌≡◌, true, List, [], ◌∷◌, ℕ, suc, ◌≤◌, length, get_or}
 use Rattle.std.proofs.Math.Path.{refl}
 use Rattle.std.proofs.Common.{sym, ap, ◌∙◌, le_refl, arith}
@@ -12,10 +13,9 @@ use Rattle.policy.specs.Check.{all_pass}
 use Rattle.enforcer.specs.Entries.{RunAnswer, event_good}
 use Rattle.stepping.specs.Code.{start_state}
 use Rattle.enforcer.specs.Promises.{RunPromise}
-use Rattle.enforcer.specs.declared.runs.Ran.{Ran}
+use Rattle.enforcer.specs.Promises.{Ran}
 use Rattle.prepare.specs.Promise.{PreparePromise}
 use Rattle.prepare.specs.declared.Summary.{Summary}
-use Rattle.prepare.specs.declared.Prepared.TheVariants as Prepared
 use Rattle.tender.specs.Samples.{S, T}
 use Rattle.tender.specs.Cases
 use Rattle.tender.specs.Granted.{given_passed, given_goes_on}
@@ -28,7 +28,7 @@ pub use Rattle.tender.specs.Demand1Shown.{not_refusing, not_inventing}
 -- Prepare's code gave a summary, and run's code ran under the same reading, from `State::start()` with those marks, over the events of a marked case
 -- and into a slice of as many bytes: it refuses nothing, and the slice holds what the case says.
 pub code_marked :
-    {reading : ℕ} {file before marks events rs after : List ℕ} {s : Summary} {r : Ran} → PreparePromise reading file before (Prepared.Gives s) marks →
+    {reading : ℕ} {file before marks events rs after : List ℕ} {s : Summary} {r : Ran} → PreparePromise reading file before (gives s) marks →
     RunPromise reading file marks start_state events (Cases.lent (length events)) r after → all_pass (event_good reading file) events ≡ true →
     Cases.said reading file (Cases.enforced events) ≡ Cases.released rs → (r.refusal ≡ 0) × (after ≡ rs)
 code_marked {reading} {file} {before} {events = events} {rs = rs} {s = s} h k good e =
@@ -51,7 +51,7 @@ at i = ap (λ (l : List ℕ). get_or l i 0)
 
 module _ {before marks : List ℕ} {s : Summary} where
   -- On S, from the start.
-  module _ (h : PreparePromise 1 S before (Prepared.Gives s) marks) where
+  module _ (h : PreparePromise 1 S before (gives s) marks) where
     S-03 : {after : List ℕ} {r : Ran} → RunPromise 1 S marks start_state (0x03 ∷ []) (Cases.lent 1) r after → (r.refusal ≡ 0) × (after ≡ 0x01 ∷ [])
     unfolding all_pass policy_of outputs_at Cases.cases
     S-03 k = code_marked h k refl (marked 0)
@@ -71,7 +71,7 @@ module _ {before marks : List ℕ} {s : Summary} where
     run_not_one_event j k e d = omega (arith, at 0 (sym e ∙ (S-03 j).1), at 0 (sym d ∙ (S-12 k).1))
 
   -- On T, from the start.
-  module _ (h : PreparePromise 1 T before (Prepared.Gives s) marks) {after : List ℕ} {r : Ran}
+  module _ (h : PreparePromise 1 T before (gives s) marks) {after : List ℕ} {r : Ran}
       (k : RunPromise 1 T marks start_state (0x01 ∷ 0x11 ∷ []) (Cases.lent 2) r after) where
     T-01-11 : after ≡ 0x00 ∷ 0x10 ∷ []
     unfolding all_pass policy_of outputs_at Cases.cases

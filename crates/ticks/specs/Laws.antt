@@ -10,7 +10,6 @@ use Rattle.streams.specs.AnswerLaws.{unless_le, else_le, answer_up_to}
 use Rattle.ticks.specs.declared.Milliseconds.{Milliseconds}
 use Rattle.ticks.specs.declared.Ticks.{Ticks}
 use Rattle.ticks.specs.declared.Rounding.{Rounding}
-use Rattle.ticks.specs.declared.Conversion.TheVariants.{Gives}
 use Rattle.ticks.specs.Conversion.{rounded, ticks_of, upwards, Converted}
 
 -- ticks × tick length differs from the time by less than one tick length, on the side asked for.
@@ -108,5 +107,5 @@ module _ (time tick : ℕ) (up : Bool) where
 -- Of the entry: the ticks that it gives are within a tick length of the time, and not above 1,000.
 pub converted_within :
     {time tick : Milliseconds} {rounding : Rounding} {t : Ticks} →
-    Converted time tick rounding (Gives t) → Within time.0 tick.0 (upwards rounding) t.0 × (t.0 ≤ 1000)
+    Converted time tick rounding (gives t) → Within time.0 tick.0 (upwards rounding) t.0 × (t.0 ≤ 1000)
 converted_within {time} {tick} {rounding} {t} p = (exactly_given time.0 tick.0 (upwards rounding) t.0).0 (sym p.said)

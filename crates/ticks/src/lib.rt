@@ -2,7 +2,10 @@
 #![tactic(auto)]
 
 ghost use Rattle.std.specs.Prelude.{◌≡◌, ◌<◌};
+ghost use Rattle.refusals.specs.Refused.{told};
 ghost use Rattle.ticks.specs.Conversion.{rounded, upwards, Converted};
+
+use refusals::Refusal;
 
 #[derive(Clone, Copy)]
 pub struct Milliseconds(pub u32);
@@ -15,12 +18,6 @@ pub struct Ticks(u32);
 pub enum Rounding {
     Down,
     Up,
-}
-
-#[derive(Clone, Copy)]
-pub enum Conversion {
-    Gives(Ticks),
-    Refused(u8),
 }
 
 impl Ticks {
@@ -54,17 +51,17 @@ impl Milliseconds {
         }
     }
 
-    // 18 for a tick length of 0, then 19 for a count above 1,000.
-    pub fn to_ticks(self, tick: Milliseconds, rounding: Rounding) -> Conversion
-        ensures { Converted self tick rounding result }
+    // NoTick for a tick length of 0, then LongTime for a count above 1,000.
+    pub fn to_ticks(self, tick: Milliseconds, rounding: Rounding) -> Result<Ticks, Refusal>
+        ensures { Converted self tick rounding (told result) }
     {
         if tick.0 == 0 {
-            return Conversion::Refused(18);
+            return Err(Refusal::NoTick);
         }
         let ticks = self.rounded(tick, rounding);
         if Ticks::MOST < ticks.0 {
-            return Conversion::Refused(19);
+            return Err(Refusal::LongTime);
         }
-        Conversion::Gives(ticks)
+        Ok(ticks)
     }
 }

@@ -1,5 +1,5 @@
 -- What the search for the next time says, and the stores of events.
-use Rattle.std.specs.Prelude.{◌≡◌, refl, true, false, not, List, [], ◌∷◌, ◌++◌, ℕ, zero, suc, ◌+◌, ◌-◌, ◌≤◌, ◌<◌, eqb, length, drop, set, replicate}
+use Rattle.std.specs.Prelude.{◌≡◌, refl, not, List, [], ◌∷◌, ◌++◌, ℕ, zero, suc, ◌+◌, ◌-◌, ◌≤◌, ◌<◌, eqb, length, drop, set, replicate, Option, Some, None}
 use Rattle.std.proofs.Math.Path.{sym}
 use Rattle.std.proofs.Common.{ap, ◌∙◌, arith, drop_of_length-le, drop-cons}
 use Rattle.std.proofs.Math.Bool.{and-false}
@@ -10,67 +10,67 @@ use borrow.Author.Tests.{le-leb, lt-leb, eq-eqb, ne_eqb}
 use Rattle.drawing.specs.Times.{read_time}
 use Rattle.drawing.specs.Events.{read_event}
 use Rattle.drawing.specs.Steps.{ReadStep, bad, closes, changes, change_by, step_after, step_in}
-use Rattle.tracing.specs.Read.{Between, TimeRead, EventRead}
+use Rattle.tracing.specs.Read.{Between, TimeThere, TimeRead, EventRead}
 use Rattle.tracing.specs.declared.read.Time.{Time}
 use Rattle.tracing.specs.declared.read.Lines as Code
 use Rattle.tracing.specs.declared.next.Next.{Next}
-use Rattle.tracing.specs.declared.next.Next.TheVariants.{Nothing, Closes, Changes}
+use Rattle.tracing.specs.declared.next.Next.TheVariants.{Closes, Changes}
 
 -- The answer of the code as a step of the reader, with the text after it in place of a position.
-abbrev pub next_said : List ℕ → Next → ReadStep
-next_said text Nothing = bad
-next_said text (Closes n) = closes n
-next_said text (Changes n e next) = changes n e (drop next text)
+abbrev pub next_said : List ℕ → Option Next → ReadStep
+next_said text None = bad
+next_said text (Some (Closes n)) = closes n
+next_said text (Some (Changes n e next)) = changes n e (drop next text)
 
 -- After a change the reader stands further on, within the text.
-abbrev pub NextBetween : List ℕ → ℕ → Next → Type 0
-NextBetween text at Nothing = Unit {0}
-NextBetween text at (Closes n) = Unit {0}
-NextBetween text at (Changes n e next) = Between text (at + 1) next
+abbrev pub NextBetween : List ℕ → ℕ → Option Next → Type 0
+NextBetween text at None = Unit {0}
+NextBetween text at (Some (Closes n)) = Unit {0}
+NextBetween text at (Some (Changes n e next)) = Between text (at + 1) next
 
 -- The answer is the step that stands at the position.
-pub record NextRead (inputs outputs text : List ℕ) (at from before : ℕ) (r : Next) : Type 0 where
+pub record NextRead (inputs outputs text : List ℕ) (at from before : ℕ) (r : Option Next) : Type 0 where
   pub said : next_said text r ≡ step_in inputs outputs from before (drop at text)
   pub between : NextBetween text at r
 
-module _ (inputs outputs text : List ℕ) (at from before : ℕ) {t : Time} (r : TimeRead text at t) where
-  -- No time line stands there: no step is read.
-  pub next_untimed : t.good ≡ false → step_in inputs outputs from before (drop at text) ≡ bad
-  unfolding step_in
-  next_untimed e = rw (sym r.good ∙ e)
+-- No time line stands there: no step is read.
+pub next_untimed : (inputs outputs text : List ℕ) (at from before : ℕ) → TimeRead text at None → step_in inputs outputs from before (drop at text) ≡ bad
+unfolding step_in
+next_untimed inputs outputs text at from before e = rw e
 
+module _ (inputs outputs text : List ℕ) (at from before : ℕ) {t : Time} (r : TimeThere text at t) where
   -- The time is one that has passed: no step is read.
   pub next_early : t.time < from → step_in inputs outputs from before (drop at text) ≡ bad
   unfolding step_in
   next_early h = rw (← r.time, lt-leb from t.time h, and-false (read_time (drop at text)).good)
 
-  next_after : t.good ≡ true → from ≤ t.time → step_in inputs outputs from before (drop at text) ≡ step_after inputs outputs t.time before (drop t.next text)
+  next_after : from ≤ t.time → step_in inputs outputs from before (drop at text) ≡ step_after inputs outputs t.time before (drop t.next text)
   unfolding step_in
-  next_after e h = rw (← r.time, sym r.good ∙ e, le-leb from t.time h, ← r.rest e)
+  next_after h = rw (← r.time, r.good, le-leb from t.time h, ← r.rest)
 
   -- The text ends after the time line: it is the closing one.
-  pub next_closes : t.good ≡ true → from ≤ t.time → t.next ≡ length text → step_in inputs outputs from before (drop at text) ≡ closes t.time
-  next_closes e h q = next_after e h ∙ rw (drop_of_length-le text {i = t.next} (omega arith))
+  pub next_closes : from ≤ t.time → t.next ≡ length text → step_in inputs outputs from before (drop at text) ≡ closes t.time
+  next_closes h q = next_after h ∙ rw (drop_of_length-le text {i = t.next} (omega arith))
 
-  next_lines : t.good ≡ true → from ≤ t.time → t.next < length text →
+  next_lines : from ≤ t.time → t.next < length text →
       step_in inputs outputs from before (drop at text) ≡ change_by inputs outputs t.time before (read_event inputs outputs (drop t.next text))
-  next_lines e h q = next_after e h ∙ rw (drop-cons text t.next 0 q)
+  next_lines h q = next_after h ∙ rw (drop-cons text t.next 0 q)
 
-  module _ (e : t.good ≡ true) (h : from ≤ t.time) (q : t.next < length text) {l : Code.Lines} (k : EventRead inputs outputs text t.next l) where
+  module _ (h : from ≤ t.time) (q : t.next < length text) {l : Code.Lines} (k : EventRead inputs outputs text t.next l) where
     -- More text follows, but no line of a value: no step is read.
     pub next_none : l.shown ≡ 0 → step_in inputs outputs from before (drop at text) ≡ bad
-    next_none z = next_lines e h q ∙ rw (← k.shown, z)
+    next_none z = next_lines h q ∙ rw (← k.shown, z)
 
     -- Some line says the value that its signal has already: no step is read.
     pub next_other : (bit_and (bit_xor before l.shown) l.shown ≡ l.values → ⊥) → step_in inputs outputs from before (drop at text) ≡ bad
     next_other z =
-        next_lines e h q ∙ rw (← k.shown, ← k.values, ne_eqb (bit_and (bit_xor before l.shown) l.shown) l.values z, and-false (not (eqb l.shown 0)))
+        next_lines h q ∙ rw (← k.shown, ← k.values, ne_eqb (bit_and (bit_xor before l.shown) l.shown) l.values z, and-false (not (eqb l.shown 0)))
 
     -- Lines follow, and each says another value than before: a change is read.
     pub next_changes : (l.shown ≡ 0 → ⊥) → bit_and (bit_xor before l.shown) l.shown ≡ l.values →
         changes t.time (bit_xor before l.shown) (drop l.next text) ≡ step_in inputs outputs from before (drop at text)
     next_changes z w =
-        sym (next_lines e h q ∙ rw (← k.shown, ← k.values, ← k.rest, ne_eqb l.shown 0 z, eq-eqb (bit_and (bit_xor before l.shown) l.shown) l.values w))
+        sym (next_lines h q ∙ rw (← k.shown, ← k.values, ← k.rest, ne_eqb l.shown 0 z, eq-eqb (bit_and (bit_xor before l.shown) l.shown) l.values w))
 
 -- Stores one after the other.
 pub sets_append : (l : List ℕ) (i : ℕ) (xs ys : List ℕ) → sets l i (xs ++ ys) ≡ sets (sets l i xs) (i + length xs) ys

@@ -1,10 +1,10 @@
 -- What the functions that read a text say, by positions.
 -- In order: the answers for a number, a time line, lines of values and an event; one digit or one line more, or none; the tests of a digit and of a
 -- line, in the order of the code; a time line, test by test; the answers for lines, put together line by line.
-use Rattle.std.specs.Prelude.{◌≡◌, Bool, true, false, cond, ◌&&◌, List, [], ◌∷◌, ℕ, zero, suc, ◌+◌, ◌-◌, ◌*◌, ◌≤◌, ◌<◌, leb, eqb, length, get_or, drop}
+use Rattle.std.specs.Prelude.{◌≡◌, Bool, true, false, cond, ◌&&◌, List, [], ◌∷◌, ℕ, zero, suc, ◌+◌, ◌-◌, ◌*◌, ◌≤◌, ◌<◌, leb, eqb, length, get_or, drop, Option, Some, None}
 use Rattle.std.proofs.Common.{sym, ap, ◌∙◌, add-one, add-zero, arith, drop_of_length-le, length-drop, leb-true, le-leb, eq-eqb, ne_eqb}
 use Rattle.std.proofs.Math.Bool.{and-false, and-eq-true_iff}
-use Rattle.std.proofs.lemmas.Bool.{false≢true, lt-leb}
+use Rattle.std.proofs.lemmas.Bool.{lt-leb}
 use Rattle.std.proofs.Math.ListN.{get_or-eq_default}
 use Rattle.std.proofs.Math.Seq.{drop-cons, drop-drop, get_or-drop}
 use Rattle.drawing.specs.Times.{is_digit, goes_on, read_digits, Timed, untimed, timed_by, read_time}
@@ -25,12 +25,17 @@ pub record NumberRead (text : List ℕ) (at v : ℕ) (r : Number) : Type 0 where
   pub rest : drop r.next text ≡ (read_digits v (drop at text)).rest
   pub between : Between text at r.next
 
+-- The time line that stands at the position `at`.
+pub record TimeThere (text : List ℕ) (at : ℕ) (t : Time) : Type 0 where
+  pub good : (read_time (drop at text)).good ≡ true
+  pub time : t.time ≡ (read_time (drop at text)).time
+  pub rest : drop t.next text ≡ (read_time (drop at text)).rest
+  pub between : Between text (at + 1) t.next
+
 -- The answer for a time line at the position `at`.
-pub record TimeRead (text : List ℕ) (at : ℕ) (r : Time) : Type 0 where
-  pub good : r.good ≡ (read_time (drop at text)).good
-  pub time : r.time ≡ (read_time (drop at text)).time
-  pub rest : r.good ≡ true → drop r.next text ≡ (read_time (drop at text)).rest
-  pub between : r.good ≡ true → Between text (at + 1) r.next
+abbrev pub TimeRead : List ℕ → ℕ → Option Time → Type 0
+TimeRead text at None = (read_time (drop at text)).good ≡ false
+TimeRead text at (Some t) = TimeThere text at t
 
 -- The answer for lines of the signals with these tags, from `at` on.
 pub record LinesRead (text : List ℕ) (at : ℕ) (tags : List ℕ) (r : Lines) : Type 0 where
@@ -173,15 +178,8 @@ module _ (text : List ℕ) (at : ℕ) where
       time_by ∙ rw (eq-eqb (get_or text at 0) 35 e, le-leb 48 (get_or text (at + 1) 0) h, le-leb (get_or text (at + 1) 0) 57 l)
 
   -- Where no time line stands, the answer is that there is none.
-  pub untimed_read : {r : Time} → read_time (drop at text) ≡ untimed → r ≡ record { good = false; time = 0; next = 0 } → TimeRead text at r
-  untimed_read e q =
-      let g = ap (λ (t : Time). t.good) q in
-      record {
-        good = g ∙ ap (λ (t : Timed). t.good) (sym e);
-        time = ap (λ (t : Time). t.time) q ∙ ap (λ (t : Timed). t.time) (sym e);
-        rest = λ h. absurd (false≢true (sym g ∙ h));
-        between = λ h. absurd (false≢true (sym g ∙ h));
-      }
+  pub untimed_read : read_time (drop at text) ≡ untimed → TimeRead text at None
+  untimed_read e = ap (λ (t : Timed). t.good) e
 
   -- From the number on.
   module _ (e : read_time (drop at text) ≡ timed_by (read_digits (get_or text (at + 1) 0 - 48) (drop (at + 2) text)))
@@ -197,17 +195,17 @@ module _ (text : List ℕ) (at : ℕ) where
         e ∙ rw (← r.rest, q, add-zero, ne_eqb (get_or text n.next 0) 10 h, and-false (leb (read_digits (get_or text (at + 1) 0 - 48) (drop (at + 2) text)).value 16384))
 
     -- A number up to 16,384 that a line feed follows is the time.
-    pub number_timed : n.value ≤ 16384 → get_or text n.next 0 ≡ 10 → TimeRead text at (record { good = true; time = n.value; next = n.next + 1 })
+    pub number_timed : n.value ≤ 16384 → get_or text n.next 0 ≡ 10 → TimeRead text at (Some (record { time = n.value; next = n.next + 1 }))
     number_timed h l =
         let q = byte_from text n.next 0 in
         let w : read_time (drop at text) ≡ record { good = true; time = n.value; rest = drop (n.next + 1) text } =
         e ∙ rw (← r.value, ← r.rest, q, add-zero, le-leb n.value 16384 h, eq-eqb (get_or text n.next 0) 10 l, drop-drop 1 n.next text) in
         let s = r.between in
         record {
-          good = ap (λ (t : Timed). t.good) (sym w);
+          good = ap (λ (t : Timed). t.good) w;
           time = ap (λ (t : Timed). t.time) (sym w);
-          rest = λ g. ap (λ (t : Timed). t.rest) (sym w);
-          between = λ g. record { after = omega arith; within = omega (arith, inside text n.next (omega arith)) };
+          rest = ap (λ (t : Timed). t.rest) (sym w);
+          between = record { after = omega arith; within = omega (arith, inside text n.next (omega arith)) };
         }
 
 -- A line that stands there ends within the text.

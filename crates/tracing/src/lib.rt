@@ -6,4 +6,4 @@ mod read;
 mod store;
 mod stream;
 
-pub use stream::{StreamRead, ones, read_stream};
+pub use stream::{ones, read_stream};

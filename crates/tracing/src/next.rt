@@ -4,15 +4,14 @@ ghost use Rattle.tracing.specs.Next.{NextRead};
 
 use crate::read::{read_event, read_time};
 
-// No line that may stand there; the closing time; a time, its event, and the position after its changes.
+// The closing time; or a time, its event, and the position after its changes.
 #[derive(Clone, Copy)]
 pub enum Next {
-    Nothing,
     Closes(usize),
     Changes(usize, u8, usize),
 }
 
-// From the time `from` on, after the event `before`.
+// From the time `from` on, after the event `before`. None where what stands there is no line that may.
 pub(crate) fn read_next(
     text: &[u8],
     at: usize,
@@ -20,30 +19,27 @@ pub(crate) fn read_next(
     outputs: &[u8],
     from: usize,
     before: u8,
-) -> Next
+) -> Option<Next>
     requires { (at ≤ length text.now) × (length inputs.now ≤ 4) × (length outputs.now ≤ 4) }
     ensures { NextRead inputs.now outputs.now text.now at from before result }
 {
-    let line = read_time(text, at);
-    if !line.good {
-        return Next::Nothing;
-    }
+    let line = read_time(text, at)?;
     let time = line.time;
     if time < from {
-        return Next::Nothing;
+        return None;
     }
     let after = line.next;
     if after == text.len() {
-        return Next::Closes(time);
+        return Some(Next::Closes(time));
     }
     let lines = read_event(text, after, inputs, outputs);
     let shown = lines.shown;
     if shown == 0 {
-        return Next::Nothing;
+        return None;
     }
     let event = before ^ shown;
     if event & shown != lines.values {
-        return Next::Nothing;
+        return None;
     }
-    Next::Changes(time, event, lines.next)
+    Some(Next::Changes(time, event, lines.next))
 }

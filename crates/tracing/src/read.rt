@@ -11,10 +11,9 @@ pub struct Number {
     pub next: usize,
 }
 
-// Whether a time line stands there, its time, and the position after it.
+// A time line's time, and the position after it.
 #[derive(Clone, Copy)]
 pub struct Time {
-    pub good: bool,
     pub time: usize,
     pub next: usize,
 }
@@ -38,16 +37,7 @@ fn byte_at(text: &[u8], at: usize) -> u8
 fn goes_on(v: usize, digit: u8) -> bool
     ensures { result ≡ goes_on v digit }
 {
-    if v < 1 {
-        return false;
-    }
-    if 16384 < v {
-        return false;
-    }
-    if digit < b'0' {
-        return false;
-    }
-    digit <= b'9'
+    1 <= v && v <= 16384 && b'0' <= digit && digit <= b'9'
 }
 
 // The number whose first digits say v, and whose others stand from `at` on.
@@ -65,45 +55,32 @@ fn read_digits(text: &[u8], at: usize, v: usize) -> Number
     Number { value: v, next: at }
 }
 
-fn no_time() -> Time
-    ensures { result ≡ record { good = false; time = 0; next = 0 } }
-{
-    Time {
-        good: false,
-        time: 0,
-        next: 0,
-    }
-}
-
-pub(crate) fn read_time(text: &[u8], at: usize) -> Time
+// None where no time line stands there.
+pub(crate) fn read_time(text: &[u8], at: usize) -> Option<Time>
     requires { at ≤ length text.now }
     ensures { TimeRead text.now at result }
 {
     if text.len() - at < 2 {
-        return no_time();
+        return None;
     }
     if text[at] != b'#' {
-        return no_time();
+        return None;
     }
     let first = text[at + 1];
-    if first < b'0' {
-        return no_time();
-    }
-    if b'9' < first {
-        return no_time();
+    if first < b'0' || b'9' < first {
+        return None;
     }
     let number = read_digits(text, at + 2, (first - b'0') as usize);
     if 16384 < number.value {
-        return no_time();
+        return None;
     }
     if byte_at(text, number.next) != b'\n' {
-        return no_time();
+        return None;
     }
-    Time {
-        good: true,
+    Some(Time {
         time: number.value,
         next: number.next + 1,
-    }
+    })
 }
 
 // A line of the signal stands at `at`.
@@ -112,16 +89,7 @@ fn line_at(text: &[u8], at: usize, tag: u8) -> bool
     ensures { result ≡ line_of tag (drop at text.now) }
 {
     let value = byte_at(text, at);
-    if value < b'0' {
-        return false;
-    }
-    if b'1' < value {
-        return false;
-    }
-    if byte_at(text, at + 1) != tag {
-        return false;
-    }
-    byte_at(text, at + 2) == b'\n'
+    b'0' <= value && value <= b'1' && byte_at(text, at + 1) == tag && byte_at(text, at + 2) == b'\n'
 }
 
 // The lines of the signals after one that has a line, and after one that has none.
@@ -147,22 +115,22 @@ fn without_line(more: Lines) -> Lines
     }
 }
 
-// The lines of the signals from the i-th on, each if it stands there.
-fn read_lines(text: &[u8], at: usize, tags: &[u8], i: usize) -> Lines
-    requires { (at ≤ length text.now) × (i ≤ length tags.now) × (length tags.now ≤ 4) }
-    ensures { LinesRead text.now at (drop i tags.now) result }
+// The lines of the signals, each if it stands there.
+fn read_lines(text: &[u8], at: usize, tags: &[u8]) -> Lines
+    requires { (at ≤ length text.now) × (length tags.now ≤ 4) }
+    ensures { LinesRead text.now at tags.now result }
 {
-    if i < tags.len() {
-        if line_at(text, at, tags[i]) {
-            let value = text[at] - b'0';
-            return with_line(value, read_lines(text, at + 3, tags, i + 1));
-        }
-        return without_line(read_lines(text, at, tags, i + 1));
-    }
-    Lines {
-        shown: 0,
-        values: 0,
-        next: at,
+    let [tag, later @ ..] = tags else {
+        return Lines {
+            shown: 0,
+            values: 0,
+            next: at,
+        };
+    };
+    if line_at(text, at, *tag) {
+        with_line(text[at] - b'0', read_lines(text, at + 3, later))
+    } else {
+        without_line(read_lines(text, at, later))
     }
 }
 
@@ -183,7 +151,7 @@ pub(crate) fn read_event(text: &[u8], at: usize, inputs: &[u8], outputs: &[u8]) 
     requires { (at ≤ length text.now) × (length inputs.now ≤ 4) × (length outputs.now ≤ 4) }
     ensures { EventRead inputs.now outputs.now text.now at result }
 {
-    let x = read_lines(text, at, inputs, 0);
-    let y = read_lines(text, x.next, outputs, 0);
+    let x = read_lines(text, at, inputs);
+    let y = read_lines(text, x.next, outputs);
     both_lines(x, y)
 }

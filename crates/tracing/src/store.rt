@@ -15,9 +15,7 @@ pub(crate) fn fill(events: &mut [u8], from: usize, to: usize, event: u8)
     requires { from ≤ to }
     ensures { events.new ≡ sets events.old from (replicate (to - from) event) }
 {
-    let mut i = from;
-    while i < to {
-        put(events, i, event);
-        i += 1;
+    for time in from..to {
+        put(events, time, event);
     }
 }

@@ -14,11 +14,9 @@ use Rattle.wording.specs.Writer.{text_of_file}
 use Rattle.wording.specs.Given.{stopped_by}
 use Rattle.wording.specs.Back.{text_passes}
 use Rattle.wording.specs.Longest.{written_at_most}
-use Rattle.compiling.specs.Promise.{ReadTextPromise, fitted, answered, filled}
-use Rattle.compiling.specs.declared.reader.ReadText.{ReadText}
+use Rattle.compiling.specs.Promise.{ReadText, ReadTextPromise, fitted, answered, filled}
 use Rattle.showing.specs.Entry.{written_over, write_refusal}
-use Rattle.showing.specs.Promise.{WriteTextPromise}
-use Rattle.showing.specs.declared.writer.Written.{Written}
+use Rattle.showing.specs.Promise.{Written, WriteTextPromise}
 use Rattle.printing.specs.Text.{refused_line, unless_refused}
 use Rattle.translating.specs.ToFile.{stopped_line, compiled_line, compiled, file_of, line_of, written, printed}
 use Rattle.translating.specs.ToText.{printed as shown}

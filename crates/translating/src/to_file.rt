@@ -4,8 +4,9 @@ ghost use Rattle.texts.specs.Wrote.{Wrote};
 ghost use Rattle.printing.specs.Reply.{Replied};
 ghost use Rattle.translating.specs.ToFile.{stopped_line, compiled_line, written, printed};
 
-use compiling::read;
+use compiling::compile;
 use policy::limits::FILE;
+use refusals::Refusal;
 use texts::{put_about, put_bytes, put_decimal};
 
 // The longest text that is read.
@@ -13,9 +14,6 @@ pub const TEXT: usize = 65536;
 
 // The line at the most: 8 + 3 + 6 + 20 + 1 bytes.
 pub const LINE: usize = 38;
-
-// The refusal of a longer text; it belongs to no line.
-const TOO_LONG: u8 = 33;
 
 // How many bytes there are: of the policy file, and of the line.
 #[derive(Clone, Copy)]
@@ -47,22 +45,22 @@ fn reply(text: &[u8], file: &mut [u8], line: &mut [u8]) -> Outcome
     ensures replied { Replied file.old (written text.now) result.file file.new }
     ensures replied_2 { Replied line.old (printed text.now) result.line line.new }
 {
+    // The refusal of a longer text belongs to no line.
     if TEXT < text.len() {
         return Outcome {
             file: 0,
-            line: put_stopped(line, TOO_LONG, 0),
+            line: put_stopped(line, u8::from(Refusal::NoPlace), 0),
         };
     }
-    let answer = read(text, file);
-    if answer.refusal != 0 {
-        return Outcome {
+    match compile(text, file) {
+        Ok(length) => Outcome {
+            file: length,
+            line: put_compiled(line, length),
+        },
+        Err(stopped) => Outcome {
             file: 0,
-            line: put_stopped(line, answer.refusal, answer.line),
-        };
-    }
-    Outcome {
-        file: answer.length,
-        line: put_compiled(line, answer.length),
+            line: put_stopped(line, u8::from(stopped.refusal), stopped.line),
+        },
     }
 }
 

@@ -4,7 +4,7 @@ ghost use Rattle.printing.specs.Reply.{Replied};
 ghost use Rattle.translating.specs.ToText.{printed};
 
 use printing::put_refused;
-use showing::write;
+use showing::show;
 
 // The longest text of a policy file.
 pub const TEXT: usize = 39420;
@@ -13,11 +13,10 @@ fn reply(file: &[u8], text: &mut [u8]) -> usize
     requires { length text.old ≡ 39420 }
     ensures { Replied text.old (printed file.now) result text.new }
 {
-    let answer = write(file, text);
-    if answer.refusal != 0 {
-        return put_refused(text, 0, answer.refusal);
+    match show(file, text) {
+        Ok(length) => length,
+        Err(refusal) => put_refused(text, 0, u8::from(refusal)),
     }
-    answer.length
 }
 
 // Writes what `show` prints for the file, and returns its length.

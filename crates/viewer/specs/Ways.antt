@@ -3,7 +3,7 @@ use Rattle.std.proofs.Math.Path.{◌≡◌, sym}
 use Rattle.std.proofs.Common.{◌∙◌, zero-add, arith}
 use Rattle.std.specs.Prelude.{List, length, take}
 use Prim.Native.Nat.{ℕ, zero, suc}
-use Rattle.streams.specs.Answer.{refused, answer}
+use Rattle.streams.specs.Answer.{refused, gives, answer}
 use Rattle.streams.specs.AnswerLaws.{given_only}
 use Rattle.prepare.specs.declared.Summary.{Summary}
 use Rattle.texts.specs.Wrote.{Wrote}
@@ -13,7 +13,6 @@ use Rattle.console.specs.Outcome.{lent, outcome}
 use Rattle.console.specs.OutcomeLaws.{Enforces, lent_length}
 use Rattle.drawing.specs.Entry.{text_of, written_over, write_refusal, write_of, written_out}
 use Rattle.waves.specs.Promise.{WritePromise}
-use Rattle.waves.specs.declared.writer.Written.{Written}
 use Rattle.viewer.specs.Shown.{file_or_line, shown}
 
 -- Of the slice for the text, the writer's refusal depends on its length alone.
@@ -23,14 +22,14 @@ module _ (file released before : List ℕ) (room : length before ≡ 508119) whe
   room_alike = rw (lent_length 508119, room)
 
   -- The writer gives a length, or refuses.
-  pub file_written : {n : ℕ} {after : List ℕ} → WritePromise file released before (Written.Length n) after → Wrote before 0 (file_or_line file released) n after
+  pub file_written : {n : ℕ} {after : List ℕ} → WritePromise file released before (gives n) after → Wrote before 0 (file_or_line file released) n after
   unfolding file_or_line write_of written_out
   file_written {n} w =
       let k = given_only (write_refusal file released before) (length (text_of file released)) n (sym w.answers) in
       rw (room_alike, k.0) (record { text = w.writes ∙ rw (k.0, zero-add); next = sym k.1 ∙ sym (zero-add (length (text_of file released))) })
 
   -- The writer refuses: the line of the refusal is written, and the slice stays as it was.
-  pub file_refused : {n : ℕ} {after : List ℕ} → WritePromise file released before (Written.Refused n) after →
+  pub file_refused : {n : ℕ} {after : List ℕ} → WritePromise file released before (refused n) after →
       (file_or_line file released ≡ refused_line n) × (after ≡ before)
   unfolding file_or_line write_of written_out
   file_refused {n} {after} w = rw room_alike (go (write_refusal file released before) w.answers w.writes)

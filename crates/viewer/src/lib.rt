@@ -7,9 +7,7 @@ ghost use Rattle.viewer.specs.Shown.{file_or_line, shown};
 
 use console::{MARKS, outcome};
 use frames::{EVENTS, events_in, policy_in};
-use prepare::Prepared;
 use printing::put_refused;
-use waves::Written;
 
 // The text at the most: 16,384 events with a change of every signal at each.
 pub const TEXT: usize = 508119;
@@ -20,8 +18,8 @@ fn write_file(file: &[u8], released: &[u8], text: &mut [u8]) -> usize
     ensures { Replied text.old (file_or_line file.now released.now) result text.new }
 {
     match waves::write(file, released, text) {
-        Written::Length(n) => n,
-        Written::Refused(n) => put_refused(text, 0, n),
+        Ok(length) => length,
+        Err(refusal) => put_refused(text, 0, u8::from(refusal)),
     }
 }
 
@@ -31,8 +29,8 @@ fn view(reading: u8, input: &[u8], marks: &mut [u8], released: &mut [u8], text: 
     ensures { Replied text.old (shown reading input.now) result text.new }
 {
     match outcome(reading, input, marks, released) {
-        Prepared::Refused(n) => put_refused(text, 0, n),
-        Prepared::Gives(_) => {
+        Err(refusal) => put_refused(text, 0, u8::from(refusal)),
+        Ok(_) => {
             let events = events_in(input);
             let count = events.len();
             write_file(policy_in(input), &released[..count], text)

@@ -14,26 +14,12 @@ use Rattle.drawing.specs.Checked.{signals}
 use Rattle.drawing.specs.Lengths.{text_most}
 use Rattle.drawing.specs.Streams.{stream_one}
 use Rattle.drawing.specs.Entry.{event_good, text_of, Makes, write_refusal, write_of, written_out, Reads, policy_refused, no_stream, no_room, taken}
-use Rattle.waves.specs.Promise.{written_said, taken_said, WritePromise, TakePromise}
-use Rattle.waves.specs.declared.writer.Written.{Written}
-use Rattle.waves.specs.declared.reader.Taken.{Taken}
-
-written_same : (r s : Written) → written_said r ≡ written_said s → r ≡ s
-written_same (Written.Length n) (Written.Length m) e = let h : n ≡ m = cc in rw h
-written_same (Written.Length n) (Written.Refused m) e = let z : ◌≡◌ {A = ℕ} 0 1 = cc in absurd (omega arith)
-written_same (Written.Refused n) (Written.Length m) e = let z : ◌≡◌ {A = ℕ} 0 1 = cc in absurd (omega arith)
-written_same (Written.Refused n) (Written.Refused m) e = let h : n ≡ m = cc in rw h
-
-taken_same : (r s : Taken) → taken_said r ≡ taken_said s → r ≡ s
-taken_same (Taken.Count n) (Taken.Count m) e = let h : n ≡ m = cc in rw h
-taken_same (Taken.Count n) (Taken.Refused m) e = let z : ◌≡◌ {A = ℕ} 0 1 = cc in absurd (omega arith)
-taken_same (Taken.Refused n) (Taken.Count m) e = let z : ◌≡◌ {A = ℕ} 0 1 = cc in absurd (omega arith)
-taken_same (Taken.Refused n) (Taken.Refused m) e = let h : n ≡ m = cc in rw h
+use Rattle.waves.specs.Promise.{WritePromise, TakePromise}
 
 -- One answer alone meets the writer's promise, and one later content of the slice.
-pub write_one : {file events before after later : List ℕ} {r s : Written} →
+pub write_one : {file events before after later : List ℕ} {r s : Answer ℕ} →
     WritePromise file events before r after → WritePromise file events before s later → (r ≡ s) × (after ≡ later)
-write_one {r = r} {s = s} g h = (written_same r s (g.answers ∙ sym h.answers), g.writes ∙ sym h.writes)
+write_one g h = (g.answers ∙ sym h.answers, g.writes ∙ sym h.writes)
 
 module _ (file text out : List ℕ) where
   given_alike : {es others : List ℕ} → es ≡ others →
@@ -82,10 +68,9 @@ module _ (file text out : List ℕ) where
       record { passes = e; makes = rw (take_at events (drop (length events) out) n h) m; count = omega (arith, m.few) }
 
 -- One answer alone meets the reader's promise, and one later content of the slice.
-pub take_one : {file text before after later : List ℕ} {r s : Taken} →
+pub take_one : {file text before after later : List ℕ} {r s : Answer ℕ} →
     TakePromise file text before r after → TakePromise file text before s later → (r ≡ s) × (after ≡ later)
-take_one {file} {text} {before} {r = r} {s = s} g h =
-    let k = reads_one file text before g.reads h.reads in (taken_same r s k.0, k.1)
+take_one {file} {text} {before} g h = reads_one file text before g.reads h.reads
 
 module _ (file events out : List ℕ) where
   -- The writer refuses by 1 to 29 alone.
@@ -113,7 +98,7 @@ module _ (file events out : List ℕ) where
     pub count : n ≤ 508119
 
   -- Where the writer gives n, the first n bytes of the slice are the text of the stream.
-  pub wrote_text : (n : ℕ) (later : List ℕ) → WritePromise file events out (Written.Length n) later → WroteText n later
+  pub wrote_text : (n : ℕ) (later : List ℕ) → WritePromise file events out (gives n) later → WroteText n later
   unfolding write_of written_out
   wrote_text n later w =
       let text = text_of file events in
@@ -128,7 +113,7 @@ module _ (file events out : List ℕ) where
       }
 
   makes_written : {text : List ℕ} → refusal_of file ≡ 0 → Makes file events text → length text ≤ length out →
-      WritePromise file events out (Written.Length (length text)) (text ++ drop (length text) out)
+      WritePromise file events out (gives (length text)) (text ++ drop (length text) out)
   unfolding write_of written_out write_refusal
   makes_written {text} p m h =
       let e = le-leb (length events) 16384 m.few in
@@ -136,15 +121,15 @@ module _ (file events out : List ℕ) where
       rw m.made (record { answers = rw (p, e, m.good, l); writes = rw (p, e, m.good, l) })
 
 -- "each written file reads back as its stream"
-pub written_reads : {file events before after out later : List ℕ} {n : ℕ} {r : Taken} →
-    WritePromise file events before (Written.Length n) after → TakePromise file (take n after) out r later → length events ≤ length out →
-    (r ≡ Taken.Count (length events)) × (later ≡ events ++ drop (length events) out)
+pub written_reads : {file events before after out later : List ℕ} {n : ℕ} {r : Answer ℕ} →
+    WritePromise file events before (gives n) after → TakePromise file (take n after) out r later → length events ≤ length out →
+    (r ≡ gives (length events)) × (later ≡ events ++ drop (length events) out)
 written_reads {file} {events} {before} {after} {n = n} w t h =
     let k = wrote_text file events before n after w in take_one t (record { reads = taken k.passes k.makes h })
 
 -- "takes back exactly what the writer makes": what is read is written as the same text.
-pub read_writes : {file text out later before after : List ℕ} {n : ℕ} {r : Written} →
-    TakePromise file text out (Taken.Count n) later → WritePromise file (take n later) before r after → length text ≤ length before →
-    (r ≡ Written.Length (length text)) × (after ≡ text ++ drop (length text) before)
+pub read_writes : {file text out later before after : List ℕ} {n : ℕ} {r : Answer ℕ} →
+    TakePromise file text out (gives n) later → WritePromise file (take n later) before r after → length text ≤ length before →
+    (r ≡ gives (length text)) × (after ≡ text ++ drop (length text) before)
 read_writes {file} {text} {out} {later} {before} {n = n} t w h =
     let g = took_stream file text out n t.reads refl in write_one w (makes_written file (take n later) before g.passes g.makes h)

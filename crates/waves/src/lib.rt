@@ -5,5 +5,5 @@ mod reader;
 mod tags;
 mod writer;
 
-pub use reader::{Taken, take};
-pub use writer::{Written, write};
+pub use reader::take;
+pub use writer::write;

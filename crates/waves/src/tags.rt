@@ -1,35 +1,27 @@
-// Where the tags of a policy's signals stand in its file.
-ghost use Rattle.waves.specs.Tags.{TagsPromise};
+// The tags of a policy's signals, as parts of its file.
+ghost use Rattle.std.specs.Prelude.{MatchResult, ◌≡◌};
+ghost use Rattle.policy.specs.Check.{refusal_of};
+ghost use Rattle.refusals.specs.Refused.{number_of};
+ghost use Rattle.waves.specs.Tags.{Tagged};
 
-// The refusal's number; or 0, and where the tags of the inputs end, which start at 1, and from where to where those of the outputs stand.
+use policy::layout_of;
+use refusals::Refusal;
+
 #[derive(Clone, Copy)]
-pub struct Tags {
-    pub refusal: u8,
-    pub inputs_end: usize,
-    pub outputs_start: usize,
-    pub outputs_end: usize,
+pub struct Tags<'a> {
+    pub inputs: &'a [u8],
+    pub outputs: &'a [u8],
 }
 
-pub(crate) fn tags_of(file: &[u8]) -> Tags
-    ensures { TagsPromise file.now result }
+pub(crate) fn tags_of(file: &[u8]) -> Result<Tags, Refusal>
+    ensures { MatchResult result (λ t. Tagged file.now t.inputs.now t.outputs.now) (λ r. refusal_of file.now ≡ number_of r) }
 {
-    let checked = policy::check(file);
-    if checked.refusal != 0 {
-        return Tags {
-            refusal: checked.refusal,
-            inputs_end: 0,
-            outputs_start: 0,
-            outputs_end: 0,
-        };
-    }
-    let layout = checked.layout;
+    let layout = layout_of(file)?;
     let inputs_end = 1 + layout.inputs;
     let outputs_start = inputs_end + 1;
     let outputs_end = outputs_start + layout.outputs;
-    Tags {
-        refusal: 0,
-        inputs_end,
-        outputs_start,
-        outputs_end,
-    }
+    Ok(Tags {
+        inputs: &file[1..inputs_end],
+        outputs: &file[outputs_start..outputs_end],
+    })
 }

@@ -1,6 +1,8 @@
 -- The number of a word, counted digit by digit and no further than 65,536.
 use Rattle.std.specs.Prelude.{◌≡◌, refl, Bool, true, false, [], ◌∷◌, ℕ, zero, suc, ◌+◌, ◌-◌, ◌*◌, ◌≤◌, ◌<◌, min, leb, length, get_or, take}
 use Rattle.std.proofs.Common.{sym, ◌∙◌, add-one, arith, take-suc}
+use Rattle.std.specs.Char.{is_ascii_digit}
+use Rattle.std.proofs.lemmas.Bool.{false≢true}
 use Rattle.std.proofs.Math.Bool.{and-eq-true_iff}
 use Rattle.std.proofs.Math.Seq.{take-length}
 use borrow.Author.Tests.{leb-true, le-leb, lt-leb}
@@ -71,9 +73,14 @@ unfolding is_number
 number_none [] h = sym (refuses [] refl)
 number_none (c ∷ w) h = absurd (omega arith)
 
-digit_range : (c : ℕ) → is_digit c ≡ true → (48 ≤ c) × (c ≤ 57)
+-- A byte that is a digit is one from `0` to `9`.
+pub digit_range : (c : ℕ) → is_digit c ≡ true → (48 ≤ c) × (c ≤ 57)
 unfolding is_digit
 digit_range c h = let both = (and-eq-true_iff (leb 48 c) _).0 h in (leb-true 48 c both.0, leb-true c 57 both.1)
+
+-- A byte that is no digit is not.
+pub not_digit : (c : ℕ) → false ≡ is_ascii_digit c → (48 ≤ c) × (c ≤ 57) → ⊥
+not_digit c e h = false≢true (e ∙ rw (le-leb 48 c h.0, le-leb c 57 h.1))
 
 -- A word with a byte that is no digit is no number: 30.
 pub number_not : (w : Word) (i : ℕ) → i < length w → ((48 ≤ get_or w i 0) × (get_or w i 0 ≤ 57) → ⊥) → answer 30 0 ≡ number_of w

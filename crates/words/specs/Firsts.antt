@@ -1,11 +1,12 @@
 -- The words of a line that is a part of the text, as parts of the text.
-use Rattle.std.specs.Prelude.{◌≡◌, cond, List, [], ◌∷◌, ℕ, zero, suc, ◌+◌, ◌-◌, ◌≤◌, ◌<◌, ltb, length, take, drop}
-use Rattle.std.proofs.Common.{ap, sym, ◌∙◌, arith, length-take, take-take, lt-ltb, le-ltb}
+use Rattle.std.specs.Prelude.{◌≡◌, refl, cond, List, [], ◌∷◌, ℕ, zero, suc, ◌+◌, ◌-◌, ◌≤◌, ◌<◌, ltb, length, take, drop}
+use Rattle.std.proofs.Common.{ap, sym, subst, ◌∙◌, arith, length-take, take-take, lt-ltb, le-ltb}
 use Rattle.std.proofs.Math.Seq.{take-nil}
 use Rattle.policy.specs.File.{part}
 use Rattle.wording.specs.Words.{Word, Line, words_of}
 use Rattle.words.specs.Lex.{blanks, Next}
 use Rattle.words.specs.declared.firsts.Few.{Few}
+use Rattle.words.specs.declared.words.Span.{Span}
 
 -- What follows the first a bytes of a line that ends at e, as a part of the text.
 pub drop_take : (a e : ℕ) (l : List ℕ) → drop a (take e l) ≡ take (e - a) (drop a l)
@@ -56,62 +57,111 @@ Shaped (suc zero) v w l = (l ≡ v ∷ []) × (w ≡ [])
 Shaped (suc (suc zero)) v w l = l ≡ v ∷ w ∷ []
 Shaped (suc (suc (suc n))) v w l = (u : Word) × (us : Line) × (l ≡ v ∷ w ∷ u ∷ us)
 
--- Both words of f stand within the text, and where there are fewer than two, the second has no byte.
-pub record InText (text : List ℕ) (f : Few) : Type 0 where
-  pub first : f.start ≤ f.end
-  pub first_in : f.end ≤ length text
-  pub second : f.from ≤ f.to
-  pub second_in : f.to ≤ length text
-  pub none : f.count < 2 → f.to ≤ f.from
+-- How many words, 3 for more than two, and where the first two stand.
+abbrev pub count_of : Few → ℕ
+count_of Few.None = 0
+count_of (Few.One v) = 1
+count_of (Few.Two v w) = 2
+count_of (Few.More v w) = 3
 
--- What f says of the line from `at` to `end`: how many words, 3 for more than two, and where the first two stand.
+-- No byte.
+abbrev pub no_span : Span
+no_span = record { start = 0; end = 0 }
+
+-- The first two words of the line, as far as it has them.
+abbrev pub first_held : Few → Span
+first_held Few.None = no_span
+first_held (Few.One v) = v
+first_held (Few.Two v w) = v
+first_held (Few.More v w) = v
+
+abbrev pub second_held : Few → Span
+second_held Few.None = no_span
+second_held (Few.One v) = no_span
+second_held (Few.Two v w) = w
+second_held (Few.More v w) = w
+
+-- The same of a line of no more than two words, and no byte of any other.
+abbrev pub first_span : Few → Span
+first_span Few.None = no_span
+first_span (Few.One v) = v
+first_span (Few.Two v w) = v
+first_span (Few.More v w) = no_span
+
+abbrev pub second_span : Few → Span
+second_span Few.None = no_span
+second_span (Few.One v) = no_span
+second_span (Few.Two v w) = w
+second_span (Few.More v w) = no_span
+
+-- The word of the text.
+abbrev pub word_of : List ℕ → Span → Word
+word_of text s = part text s.start (s.end - s.start)
+
+-- It stands within the text.
+pub record SpanIn (text : List ℕ) (s : Span) : Type 0 where
+  pub order : s.start ≤ s.end
+  pub within : s.end ≤ length text
+
+-- Both words do.
+pub record InText (text : List ℕ) (f : Few) : Type 0 where
+  pub first : SpanIn text (first_span f)
+  pub second : SpanIn text (second_span f)
+  pub held : SpanIn text (first_held f) × SpanIn text (second_held f)
+
+-- What f says of the line from `at` to `end`.
 pub record Firsts (text : List ℕ) (end at : ℕ) (f : Few) : Type 0 where
-  pub line : Shaped f.count (part text f.start (f.end - f.start)) (part text f.from (f.to - f.from)) (words_of (part text at (end - at)))
+  pub line : Shaped (count_of f) (word_of text (first_held f)) (word_of text (second_held f)) (words_of (part text at (end - at)))
   pub stands : InText text f
 
--- A part of no byte.
-no_word : (text : List ℕ) (a b : ℕ) → b ≤ a → part text a (b - a) ≡ []
-no_word text a b h = let e : b - a ≡ 0 = omega arith in ap (λ (n : ℕ). take n (drop a text)) e
+none_in : (text : List ℕ) → SpanIn text no_span
+none_in text = record { order = omega arith; within = omega arith }
 
 -- The four answers.
-module _ {text : List ℕ} {end at start stop : ℕ} (inside : end ≤ length text) (n : NextIn text end at start stop) where
+module _ {text : List ℕ} {end at : ℕ} (s : Span) (inside : end ≤ length text) (n : NextIn text end at s.start s.end) where
   -- The line has no word.
-  pub few_none : stop ≤ start → Firsts text end at (record { count = 0; start = start; end = stop; from = stop; to = stop })
-  few_none h =
-      record {
-        line = in_none n h;
-        stands = record { first = n.order; first_in = omega (arith, n.within); second = omega arith; second_in = omega (arith, n.within); none = λ k. omega arith };
-      }
+  pub few_none : s.end ≤ s.start → Firsts text end at Few.None
+  few_none h = record { line = in_none n h; stands = record { first = none_in text; second = none_in text; held = (none_in text, none_in text) } }
 
-  module _ {start' stop' : ℕ} (h : start < stop) (m : NextIn text end stop start' stop') where
-    placed : {count : ℕ} → (count < 2 → stop' ≤ start') → InText text (record { count = count; start = start; end = stop; from = start'; to = stop' })
-    placed e = record { first = n.order; first_in = omega (arith, n.within); second = m.order; second_in = omega (arith, m.within); none = e }
+  first_in : SpanIn text s
+  first_in = record { order = n.order; within = omega (arith, n.within) }
 
+  module _ (s' : Span) (h : s.start < s.end) (m : NextIn text end s.end s'.start s'.end) where
     -- The line has one word.
-    pub few_one : stop' ≤ start' → Firsts text end at (record { count = 1; start = start; end = stop; from = start'; to = stop' })
+    pub few_one : s'.end ≤ s'.start → Firsts text end at (Few.One s)
     few_one l =
         record {
-          line = (in_word n h ∙ ap (λ (z : Line). part text start (stop - start) ∷ z) (in_none m l), no_word text start' stop' l);
-          stands = placed (λ k. l);
+          line = (in_word n h ∙ ap (λ (z : Line). word_of text s ∷ z) (in_none m l), refl);
+          stands = record { first = first_in; second = none_in text; held = (first_in, none_in text) };
         }
 
-    module _ {from' to' : ℕ} (l : start' < stop') (k : NextIn text end stop' from' to') where
+    second_in : SpanIn text s'
+    second_in = record { order = m.order; within = omega (arith, m.within) }
+
+    module _ (s'' : Span) (l : s'.start < s'.end) (k : NextIn text end s'.end s''.start s''.end) where
       -- The line has two words.
-      pub few_two : to' ≤ from' → Firsts text end at (record { count = 2; start = start; end = stop; from = start'; to = stop' })
+      pub few_two : s''.end ≤ s''.start → Firsts text end at (Few.Two s s')
       few_two g =
           record {
-            line = in_word n h ∙ ap (λ (z : Line). part text start (stop - start) ∷ z) (in_word m l ∙ ap (λ (z : Line). part text start' (stop' - start') ∷ z) (in_none k g));
-            stands = placed (λ q. absurd (omega arith));
+            line = in_word n h ∙ ap (λ (z : Line). word_of text s ∷ z) (in_word m l ∙ ap (λ (z : Line). word_of text s' ∷ z) (in_none k g));
+            stands = record { first = first_in; second = second_in; held = (first_in, second_in) };
           }
 
       -- The line has more than two words.
-      pub few_more : from' < to' → Firsts text end at (record { count = 3; start = start; end = stop; from = start'; to = stop' })
+      pub few_more : s''.start < s''.end → Firsts text end at (Few.More s s')
       few_more g =
           record {
             line = (
-              part text from' (to' - from'),
-              words_of (part text to' (end - to')),
-              in_word n h ∙ ap (λ (z : Line). part text start (stop - start) ∷ z) (in_word m l ∙ ap (λ (z : Line). part text start' (stop' - start') ∷ z) (in_word k g)),
+              word_of text s'',
+              words_of (part text s''.end (end - s''.end)),
+              in_word n h ∙ ap (λ (z : Line). word_of text s ∷ z) (in_word m l ∙ ap (λ (z : Line). word_of text s' ∷ z) (in_word k g)),
             );
-            stands = placed (λ q. absurd (omega arith));
+            stands = record { first = none_in text; second = none_in text; held = (first_in, second_in) };
           }
+
+-- A line of the one word, and of the two.
+pub one_word : (text : List ℕ) (f : Few) (v : Span) (l : Line) → f ≡ Few.One v → Shaped (count_of f) (word_of text (first_held f)) (word_of text (second_held f)) l → l ≡ word_of text v ∷ []
+one_word text f v l e s = (subst (λ (g : Few). Shaped (count_of g) (word_of text (first_held g)) (word_of text (second_held g)) l) e s).0
+
+pub two_words : (text : List ℕ) (f : Few) (v w : Span) (l : Line) → f ≡ Few.Two v w → Shaped (count_of f) (word_of text (first_held f)) (word_of text (second_held f)) l → l ≡ word_of text v ∷ word_of text w ∷ []
+two_words text f v w l e s = subst (λ (g : Few). Shaped (count_of g) (word_of text (first_held g)) (word_of text (second_held g)) l) e s

@@ -1,13 +1,16 @@
 -- The words of the language by number, looked up once: each test for one of them is then a test of the number.
 -- In order: the words and the code's table of them; what a search of the table says; that no two are the same; which of them no name may be; what a
 -- name is, byte by byte.
-use Rattle.std.specs.Prelude.{◌≡◌, refl, Bool, true, false, cond, not, ◌&&◌, ◌||◌, List, [], ◌∷◌, ℕ, zero, suc, ◌+◌, ◌-◌, ◌≤◌, ◌<◌, leb, ltb, length, get_or, drop}
-use Rattle.std.proofs.Common.{ap, sym, ◌∙◌, add-one, arith, length-drop, drop_of_length-le, drop-cons, length-take-le}
+use Rattle.std.specs.Prelude.{◌≡◌, refl, Bool, true, false, cond, not, ◌&&◌, ◌||◌, List, [], ◌∷◌, ℕ, zero, suc, ◌+◌, ◌-◌, ◌≤◌, ◌<◌, leb, ltb, length, get_or, take, drop}
+use Rattle.std.proofs.Common.{ap, sym, ◌∙◌, arith, length-drop, length-take-le}
+use Rattle.std.specs.Char.{is_ascii_digit}
+use Rattle.std.specs.List.{list_all}
+use Rattle.std.proofs.Math.Seq.{take_all}
 use Rattle.std.proofs.Math.Bool.{and-eq-true_iff, and-false, or-true, or-false}
 use Rattle.std.proofs.lemmas.Bool.{false≢true}
 use Rattle.std.proofs.Math.Option.{none, some}
 use Rattle.std.proofs.Math.Dec.{eqb}
-use borrow.Author.Tests.{leb-true, le-leb, lt-leb, ltb-true, ltb-false, eq-eqb, ne_eqb}
+use borrow.Author.Tests.{leb-true, leb-false, le-leb, lt-leb, ltb-true, ltb-false, eq-eqb, ne_eqb}
 use Rattle.policy.specs.File.{part}
 use Rattle.texts.specs.Text.{ascii}
 use Rattle.wording.specs.Words.{Word}
@@ -205,6 +208,14 @@ module _ (w : Word) (r : ℕ) (h : find 0 w keywords ≡ place_below 14 r) where
   pub is-plain : 12 ≤ r → is_plain w ≡ true
   is-plain l = plain_by ∙ plain_high r l
 
+  -- So its number tells whether a name may be the word.
+  pub plain_test : leb 12 r ≡ is_plain w
+  plain_test = go (leb 12 r) refl
+    where
+      go : (t : Bool) → leb 12 r ≡ t → t ≡ is_plain w
+      go true e = sym (is-plain (leb-true 12 r e))
+      go false e = sym (not_plain (leb-false 12 r e))
+
 -- A name, by its tests one after another.
 abbrev pub inner : ℕ → Bool
 inner d = is_lower d || (is_digit d || eqb d 95)
@@ -256,31 +267,17 @@ unfolding is_name
 name_plain [] h l e f = absurd (omega arith)
 name_plain (c ∷ cs) h l e f = rw (← e, ← f, le-leb (length cs) 15 (omega arith))
 
--- A byte that may stand in a name: the bytes behind it decide.
-pub inner_on : (w : Word) (i : ℕ) → i < length w → true ≡ inner (get_or w i 0) → every inner (drop i w) ≡ every inner (drop (i + 1) w)
+every_all : (test : ℕ → Bool) (cs : List ℕ) → list_all test cs ≡ every test cs
 unfolding every
-inner_on w i h e = rw (add-one, drop-cons w i 0 h, ← e)
+every_all test [] = refl
+every_all test (c ∷ cs) = ap (λ (t : Bool). test c && t) (every_all test cs)
 
--- A byte that may not stand in a name: the bytes from there on fail.
-pub inner_off : (w : Word) (i : ℕ) → i < length w → false ≡ inner (get_or w i 0) → every inner (drop i w) ≡ false
-unfolding every
-inner_off w i h e = rw (drop-cons w i 0 h, ← e)
-
--- At the end of the word no byte is left to fail.
-pub inner_end : (w : Word) (i : ℕ) → length w ≤ i → every inner (drop i w) ≡ true
-unfolding every
-inner_end w i h = rw (drop_of_length-le w h)
+-- The bytes behind the first.
+pub all_inner : (w : Word) → list_all inner (take (length w - 1) (drop 1 w)) ≡ every inner (drop 1 w)
+all_inner w = ap (list_all inner) (take_all (length w - 1) (drop 1 w) (omega (arith, length-drop 1 w))) ∙ every_all inner (drop 1 w)
 
 -- A byte of a name.
 module _ (c : ℕ) where
-  -- A byte below `a` is no lower-case letter.
-  pub lower_below : c < 97 → false ≡ is_lower c
-  lower_below h = rw (lt-leb 97 c h)
-
-  -- A byte from `a` on is a lower-case letter if it is at most `z`.
-  pub lower_from : 97 ≤ c → leb c 122 ≡ is_lower c
-  lower_from h = rw (le-leb 97 c h)
-
   -- A lower-case letter may stand in a name.
   pub inner_lower : is_lower c ≡ true → true ≡ inner c
   inner_lower e = rw e
@@ -289,12 +286,7 @@ module _ (c : ℕ) where
   pub inner_line : c ≡ 95 → true ≡ inner c
   inner_line e = rw (eq-eqb c 95 e, or-true (is_digit c)) (sym (or-true (is_lower c)))
 
-  -- A byte below `0` may not stand in a name.
-  pub inner_below : is_lower c ≡ false → c < 48 → false ≡ inner c
+  -- Any other byte may stand in a name if it is a digit.
+  pub inner_other : is_lower c ≡ false → (c ≡ 95 → ⊥) → is_ascii_digit c ≡ inner c
   unfolding is_digit
-  inner_below e h = rw (e, lt-leb 48 c h, ne_eqb c 95 (λ s. omega arith))
-
-  -- Any other byte from `0` on may stand in a name if it is at most `9`.
-  pub inner_digit : is_lower c ≡ false → (c ≡ 95 → ⊥) → 48 ≤ c → leb c 57 ≡ inner c
-  unfolding is_digit
-  inner_digit e n h = rw (e, le-leb 48 c h, ne_eqb c 95 n) (sym (or-false (leb c 57)))
+  inner_other e n = rw (e, ne_eqb c 95 n) (sym (or-false (is_digit c)))

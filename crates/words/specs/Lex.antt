@@ -3,15 +3,25 @@
 use Rattle.std.specs.Prelude.{◌≡◌, Bool, true, false, cond, not, ◌&&◌, List, [], ◌∷◌, ltb, eqb, length, get_or, take, drop}
 use Rattle.std.proofs.Math.Path.{refl, sym}
 use Rattle.std.proofs.Common.{ap, ◌∙◌, drop_of_length-le, length-drop, drop-cons, drop-drop, get_or-drop}
-use Rattle.std.proofs.Math.Bool.{and-eq-true_iff, and-false}
+use Rattle.std.specs.Cmp.Lexicographic.{pointwise}
+use Rattle.std.specs.List.{prefix_len, take_while}
+use Rattle.std.proofs.Math.Seq.{take_all}
+use Rattle.std.proofs.lemmas.List.Folds.{length-prefix_len}
+use Rattle.std.proofs.Math.Bool.{and-eq-true_iff}
 use Rattle.std.proofs.lemmas.Bool.{false≢true}
 use Prim.Native.Nat.{ℕ, zero, suc, ◌+◌, ◌-◌, ◌≤◌, ◌<◌}
 use native.Mathlib.Omega.{arith}
 use borrow.Author.Tests.{eqb-true, ne_eqb, eq-eqb, lt-ltb, le-ltb, not-true}
 use Rattle.wording.specs.Laid.{no_comment}
-use Rattle.wording.specs.NamesBack.{same_true}
 use Rattle.wording.specs.Names.{same}
 use Rattle.wording.specs.Words.{Word, parts, is_sign, kind, onto, words_of, split}
+use Rattle.words.specs.declared.words.Kind.{Kind}
+
+-- The kind's number in `Words.kind`.
+abbrev pub kind_number : Kind → ℕ
+kind_number Kind.Blank = 0
+kind_number Kind.Plain = 1
+kind_number Kind.Sign = 2
 
 -- The byte parts words and begins no comment.
 abbrev pub skips : ℕ → Bool
@@ -26,6 +36,36 @@ blanks (c ∷ cs) = cond (skips c) (suc (blanks cs)) 0
 unfoldable pub run : ℕ → List ℕ → ℕ
 run k [] = 0
 run k (c ∷ cs) = cond (eqb (kind c) k) (suc (run k cs)) 0
+
+blanks_counted : (cs : List ℕ) → prefix_len skips cs ≡ blanks cs
+unfolding blanks
+blanks_counted [] = refl
+blanks_counted (c ∷ cs) =
+    let e : 1 + prefix_len skips cs ≡ suc (blanks cs) = omega (arith, blanks_counted cs) in
+    ap (λ (n : ℕ). cond (skips c) n 0) e
+
+run_counted : (k : ℕ) (cs : List ℕ) → prefix_len (λ c. eqb (kind c) k) cs ≡ run k cs
+unfolding run
+run_counted k [] = refl
+run_counted k (c ∷ cs) =
+    let e : 1 + prefix_len (λ c. eqb (kind c) k) cs ≡ suc (run k cs) = omega (arith, run_counted k cs) in
+    ap (λ (n : ℕ). cond (eqb (kind c) k) n 0) e
+
+rest_whole : (l : List ℕ) (at : ℕ) → take (length l - at) (drop at l) ≡ drop at l
+rest_whole l at = take_all (length l - at) (drop at l) (omega (arith, length-drop at l))
+
+front_of_rest : (p : ℕ → Bool) (l : List ℕ) (at : ℕ) → length (take_while p (take (length l - at) (drop at l))) ≡ prefix_len p (drop at l)
+front_of_rest p l at = ap (λ (cs : List ℕ). length (take_while p cs)) (rest_whole l at) ∙ length-prefix_len p (drop at l)
+
+-- Both counted from a position of the line on.
+module _ (l : List ℕ) (at : ℕ) where
+  -- The bytes that are skipped.
+  pub blanks_rest : length (take_while skips (take (length l - at) (drop at l))) ≡ blanks (drop at l)
+  blanks_rest = front_of_rest skips l at ∙ blanks_counted (drop at l)
+
+  -- The bytes of the kind k.
+  pub run_rest : (k : ℕ) → length (take_while (λ c. eqb (kind c) k) (take (length l - at) (drop at l))) ≡ run k (drop at l)
+  run_rest k = front_of_rest (λ c. eqb (kind c) k) l at ∙ run_counted k (drop at l)
 
 -- A word that begins here.
 word_run : (k c : ℕ) (cs : List ℕ) → 0 < k → kind c ≡ k → eqb c 35 ≡ false →
@@ -68,47 +108,6 @@ module _ (l : List ℕ) where
   past_end : (i : ℕ) → length l ≤ i → drop i l ≡ []
   past_end i h = drop_of_length-le l h
 
-  blanks_more : (i : ℕ) → i < length l → skips (get_or l i 0) ≡ true → blanks (drop i l) ≡ suc (blanks (drop (i + 1) l))
-  unfolding blanks
-  blanks_more i h s = rw (at_byte i h, s)
-
-  blanks_done : (i : ℕ) → i < length l → skips (get_or l i 0) ≡ false → blanks (drop i l) ≡ 0
-  unfolding blanks
-  blanks_done i h s = rw (at_byte i h, s)
-
-  -- At the end of the line there are no more blanks.
-  pub blanks_end : (i : ℕ) → length l ≤ i → blanks (drop i l) ≡ 0
-  unfolding blanks
-  blanks_end i h = rw (past_end i h)
-
-  -- At a comment there are no more blanks.
-  pub blanks_comment : (i : ℕ) → i < length l → get_or l i 0 ≡ 35 → blanks (drop i l) ≡ 0
-  blanks_comment i h e = blanks_done i h (rw (eq-eqb (get_or l i 0) 35 e) (and-false (eqb (kind (get_or l i 0)) 0)))
-
-  -- At a byte of a word there are no more blanks.
-  pub blanks_word : (i : ℕ) → i < length l → (kind (get_or l i 0) ≡ 0 → ⊥) → blanks (drop i l) ≡ 0
-  blanks_word i h e = blanks_done i h (rw (ne_eqb (kind (get_or l i 0)) 0 e))
-
-  -- At a byte that parts words there is one blank and those behind it.
-  pub blanks_skip : (i : ℕ) → i < length l → (get_or l i 0 ≡ 35 → ⊥) → kind (get_or l i 0) ≡ 0 → blanks (drop i l) ≡ suc (blanks (drop (i + 1) l))
-  blanks_skip i h e k = blanks_more i h (rw (eq-eqb (kind (get_or l i 0)) 0 k, ne_eqb (get_or l i 0) 35 e))
-
-  module _ (k : ℕ) where
-    -- A byte of the kind k makes the run one longer.
-    pub run_more : (i : ℕ) → i < length l → kind (get_or l i 0) ≡ k → run k (drop i l) ≡ suc (run k (drop (i + 1) l))
-    unfolding run
-    run_more i h s = rw (at_byte i h, eq-eqb (kind (get_or l i 0)) k s)
-
-    -- A byte of another kind ends the run.
-    pub run_done : (i : ℕ) → i < length l → (kind (get_or l i 0) ≡ k → ⊥) → run k (drop i l) ≡ 0
-    unfolding run
-    run_done i h s = rw (at_byte i h, ne_eqb (kind (get_or l i 0)) k s)
-
-    -- The end of the line ends the run.
-    pub run_end : (i : ℕ) → length l ≤ i → run k (drop i l) ≡ 0
-    unfolding run
-    run_end i h = rw (past_end i h)
-
 -- The kind of a byte by its range, and that of a byte which is none of those that part words or are of a sign.
 module _ (c : ℕ) where
   -- A byte that neither parts words nor is of a sign has kind 1.
@@ -116,14 +115,6 @@ module _ (c : ℕ) where
   unfolding kind parts is_sign
   kind_other space tab return feed hash dash below same above =
       rw (ne_eqb c 32 space, ne_eqb c 9 tab, ne_eqb c 13 return, ne_eqb c 10 feed, ne_eqb c 35 hash, ne_eqb c 45 dash, ne_eqb c 60 below, ne_eqb c 61 same, ne_eqb c 62 above)
-
-  -- A byte above `>` has kind 1.
-  pub kind_above : 62 < c → 1 ≡ kind c
-  kind_above h = kind_other (λ e. omega arith) (λ e. omega arith) (λ e. omega arith) (λ e. omega arith) (λ e. omega arith) (λ e. omega arith) (λ e. omega arith) (λ e. omega arith) (λ e. omega arith)
-
-  -- A byte between `-` and `<` has kind 1.
-  pub kind_between : 45 < c → c < 60 → 1 ≡ kind c
-  kind_between h l = kind_other (λ e. omega arith) (λ e. omega arith) (λ e. omega arith) (λ e. omega arith) (λ e. omega arith) (λ e. omega arith) (λ e. omega arith) (λ e. omega arith) (λ e. omega arith)
 
   -- The bytes `<`, `=` and `>` have kind 2.
   pub kind_sign : 59 < c → c ≤ 62 → 2 ≡ kind c
@@ -144,7 +135,7 @@ pub record Next (l : List ℕ) (at start end : ℕ) : Type 0 where
   pub within : end ≤ length l
   pub words : words_of (drop at l) ≡ cond (ltb start end) (take (end - start) (drop start l) ∷ words_of (drop end l)) []
 
-blanks_le : (cs : List ℕ) → blanks cs ≤ length cs
+pub blanks_le : (cs : List ℕ) → blanks cs ≤ length cs
 unfolding blanks
 blanks_le [] = omega arith
 blanks_le (c ∷ cs) = go (skips c) (blanks_le cs)
@@ -153,7 +144,7 @@ blanks_le (c ∷ cs) = go (skips c) (blanks_le cs)
     go true h = omega arith
     go false h = omega arith
 
-run_le : (k : ℕ) (cs : List ℕ) → run k cs ≤ length cs
+pub run_le : (k : ℕ) (cs : List ℕ) → run k cs ≤ length cs
 unfolding run
 run_le k [] = omega arith
 run_le k (c ∷ cs) = go (eqb (kind c) k) (run_le k cs)
@@ -235,42 +226,32 @@ module _ (l : List ℕ) (at : ℕ) (h : at ≤ length l) (start : ℕ) (e : star
       }
 
 -- Two words compared byte by byte.
-same_lengths : (v w : Word) → same v w ≡ true → length v ≡ length w
-same_lengths v w h = ap length (same_true v w h)
-
--- Two words of different lengths are not the same.
-pub same_longer : (v w : Word) → (length v ≡ length w → ⊥) → same v w ≡ false
-same_longer v w h = go (same v w) refl
-  where
-    go : (t : Bool) → same v w ≡ t → t ≡ false
-    go true e = absurd (h (same_lengths v w e))
-    go false e = refl
-
-module _ (v w : Word) (i : ℕ) where
-  -- An equal byte at i: the words compare from i on as they do from i + 1 on.
-  pub same_on : i < length v → i < length w → get_or v i 0 ≡ get_or w i 0 → same (drop i v) (drop i w) ≡ same (drop (i + 1) v) (drop (i + 1) w)
-  unfolding same
-  same_on h l e = rw (at_byte v i h, at_byte w i l, eq-eqb (get_or v i 0) (get_or w i 0) e)
-
-  -- A different byte at i: the words are not the same.
-  pub same_not : (get_or v i 0 ≡ get_or w i 0 → ⊥) → same v w ≡ false
-  same_not h = go (same v w) refl
-    where
-      go : (t : Bool) → same v w ≡ t → t ≡ false
-      go true e = absurd (h (ap (λ (x : Word). get_or x i 0) (same_true v w e)))
-      go false e = refl
-
-  -- At the end of both words nothing differs any more.
-  pub same_end : length v ≤ i → length w ≤ i → same (drop i v) (drop i w) ≡ true
-  unfolding same
-  same_end h l = rw (past_end v i h, past_end w i l)
+pub same_is : (v w : Word) → pointwise eqb v w ≡ same v w
+unfolding same
+same_is [] [] = refl
+same_is [] (b ∷ bs) = refl
+same_is (a ∷ as') [] = refl
+same_is (a ∷ as') (b ∷ bs) = ap (λ (t : Bool). eqb a b && t) (same_is as' bs)
 
 -- How many bytes stand before the end of the line, and the lines from there on.
 unfoldable pub line_length : List ℕ → ℕ
 line_length [] = 0
 line_length (c ∷ cs) = cond (eqb c 10) 0 (suc (line_length cs))
 
-line_le : (cs : List ℕ) → line_length cs ≤ length cs
+line_counted : (cs : List ℕ) → prefix_len (λ c. not (eqb c 10)) cs ≡ line_length cs
+unfolding line_length
+line_counted [] = refl
+line_counted (c ∷ cs) = go (eqb c 10) (line_counted cs)
+  where
+    go : (t : Bool) → prefix_len (λ c. not (eqb c 10)) cs ≡ line_length cs → cond (not t) (1 + prefix_len (λ c. not (eqb c 10)) cs) 0 ≡ cond t 0 (suc (line_length cs))
+    go true h = refl
+    go false h = omega arith
+
+-- Counted from a position of the text on.
+pub line_rest : (text : List ℕ) (at : ℕ) → length (take_while (λ c. not (eqb c 10)) (take (length text - at) (drop at text))) ≡ line_length (drop at text)
+line_rest text at = front_of_rest (λ c. not (eqb c 10)) text at ∙ line_counted (drop at text)
+
+pub line_le : (cs : List ℕ) → line_length cs ≤ length cs
 unfolding line_length
 line_le [] = omega arith
 line_le (c ∷ cs) = go (eqb c 10) (line_le cs)
@@ -301,21 +282,6 @@ pub record NextLine (text : List ℕ) (at end : ℕ) : Type 0 where
   pub lines : at < length text → split (drop at text) ≡ take (end - at) (drop at text) ∷ split (drop (end + 1) text)
 
 module _ (text : List ℕ) where
-  -- A byte other than a line feed makes the line one longer.
-  pub line_more : (i : ℕ) → i < length text → (get_or text i 0 ≡ 10 → ⊥) → line_length (drop i text) ≡ suc (line_length (drop (i + 1) text))
-  unfolding line_length
-  line_more i h e = rw (at_byte text i h, ne_eqb (get_or text i 0) 10 e)
-
-  -- A line feed ends the line.
-  pub line_done : (i : ℕ) → i < length text → get_or text i 0 ≡ 10 → line_length (drop i text) ≡ 0
-  unfolding line_length
-  line_done i h e = rw (at_byte text i h, eq-eqb (get_or text i 0) 10 e)
-
-  -- The end of the text ends the line.
-  pub line_last : (i : ℕ) → length text ≤ i → line_length (drop i text) ≡ 0
-  unfolding line_length
-  line_last i h = rw (past_end text i h)
-
   -- The bytes counted up to a line feed give the line from `at` on.
   pub next_line : (at end : ℕ) → at ≤ length text → end ≡ at + line_length (drop at text) → NextLine text at end
   next_line at end h e =

@@ -1,10 +1,11 @@
 -- Names as parts of the text: where each begins and how long it is; and a word looked for among them.
 use Rattle.std.specs.Prelude.{◌≡◌, true, false, cond, List, [], ◌∷◌, ltb, length, get_or}
 use Rattle.std.proofs.Common.{ap}
+use Rattle.std.specs.Prelude.{Some, None}
+use Rattle.std.specs.Prelude.{Option as Found}
 use Rattle.std.proofs.Math.Option.{Option, none, some}
 use Prim.Native.Nat.{ℕ, zero, suc, ◌+◌, ◌-◌, ◌≤◌, ◌<◌}
 use native.Mathlib.Omega.{arith}
-use borrow.Author.Tests.{lt-ltb, le-ltb}
 use Rattle.policy.specs.File.{part}
 use Rattle.wording.specs.Words.{Word}
 use Rattle.wording.specs.Names.{same, find}
@@ -33,6 +34,11 @@ names_fewer p m h =
 abbrev pub place_below : ℕ → ℕ → Option ℕ
 place_below n r = cond (ltb r n) (some r) none
 
+-- What a search found, as the place or none.
+abbrev pub found_said : Found ℕ → Option ℕ
+found_said (Some i) = some i
+found_said None = none
+
 -- A word looked for among the n names from `first` on, as far as the i-th of them.
 module _ (text starts lengths : List ℕ) (w : Word) (first i n : ℕ) where
   -- The name at i.
@@ -46,11 +52,6 @@ module _ (text starts lengths : List ℕ) (w : Word) (first i n : ℕ) where
       let s : suc (first + i) ≡ first + (i + 1) = omega arith in
       rw e (ap (λ (k : ℕ). name_at ∷ spans text starts lengths k (n - (i + 1))) s)
 
-  -- The name at i is the word: it is found there.
-  pub find_here : i < n → same name_at w ≡ true → find i w (spans text starts lengths (first + i) (n - i)) ≡ place_below n i
-  unfolding find
-  find_here h e = rw (left_one h, e, lt-ltb i n h)
-
   -- The name at i is another: the search goes on from i + 1.
   pub find_on : i < n → same name_at w ≡ false →
       find i w (spans text starts lengths (first + i) (n - i)) ≡ find (i + 1) w (spans text starts lengths (first + (i + 1)) (n - (i + 1)))
@@ -59,7 +60,12 @@ module _ (text starts lengths : List ℕ) (w : Word) (first i n : ℕ) where
       let s : suc i ≡ i + 1 = omega arith in
       rw (left_one h, e) (ap (λ (k : ℕ). find k w (spans text starts lengths (first + (i + 1)) (n - (i + 1)))) s)
 
-  -- No name is left: the word is not found.
-  pub find_nowhere : n ≤ i → find i w (spans text starts lengths (first + i) (n - i)) ≡ place_below n i
+  -- The name at i is the word: i is found.
+  pub found_here : i < n → same name_at w ≡ true → find i w (spans text starts lengths (first + i) (n - i)) ≡ some i
+  unfolding find
+  found_here h e = rw (left_one h, e)
+
+  -- No name is left: none is found.
+  pub found_nowhere : n ≤ i → find i w (spans text starts lengths (first + i) (n - i)) ≡ none
   unfolding find spans
-  find_nowhere h = let e : n - i ≡ 0 = omega arith in rw (e, le-ltb i n h)
+  found_nowhere h = let e : n - i ≡ 0 = omega arith in rw e

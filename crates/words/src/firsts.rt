@@ -1,6 +1,6 @@
 // The first words of a line that ends at `end`, as positions in the text.
-ghost use Rattle.std.specs.Prelude.{◌≤◌, length};
-ghost use Rattle.words.specs.Firsts.{NextIn, Firsts};
+ghost use Rattle.std.specs.Prelude.{◌≡◌, ◌≤◌, length};
+ghost use Rattle.words.specs.Firsts.{NextIn, Firsts, first_span, second_span};
 
 use crate::words::{Span, next_word};
 
@@ -12,14 +12,35 @@ pub fn word_in(text: &[u8], end: usize, at: usize) -> Span
     next_word(&text[..end], at)
 }
 
-// How many words there are, 3 for more than two, and where the first two stand.
+// The first two words of a line, and whether there are more.
 #[derive(Clone, Copy)]
-pub struct Few {
-    pub count: usize,
-    pub start: usize,
-    pub end: usize,
-    pub from: usize,
-    pub to: usize,
+pub enum Few {
+    None,
+    One(Span),
+    Two(Span, Span),
+    More(Span, Span),
+}
+
+impl Few {
+    // The first word. Where there is none, and where there are more than two, no byte.
+    pub fn first(self) -> Span
+        ensures { result ≡ first_span self }
+    {
+        match self {
+            Few::One(first) | Few::Two(first, _) => first,
+            Few::None | Few::More(_, _) => Span { start: 0, end: 0 },
+        }
+    }
+
+    // The second word. Where there are not two, no byte.
+    pub fn second(self) -> Span
+        ensures { result ≡ second_span self }
+    {
+        match self {
+            Few::Two(_, second) => second,
+            Few::None | Few::One(_) | Few::More(_, _) => Span { start: 0, end: 0 },
+        }
+    }
 }
 
 pub fn few_words(text: &[u8], line_end: usize, at: usize) -> Few
@@ -27,46 +48,16 @@ pub fn few_words(text: &[u8], line_end: usize, at: usize) -> Few
     ensures { Firsts text.now line_end at result }
 {
     let first = word_in(text, line_end, at);
-    let start = first.start;
-    let end = first.end;
-    if end <= start {
-        return Few {
-            count: 0,
-            start,
-            end,
-            from: end,
-            to: end,
-        };
+    if first.end <= first.start {
+        return Few::None;
     }
-    let next = word_in(text, line_end, end);
-    let from = next.start;
-    let to = next.end;
-    if to <= from {
-        return Few {
-            count: 1,
-            start,
-            end,
-            from,
-            to,
-        };
+    let second = word_in(text, line_end, first.end);
+    if second.end <= second.start {
+        return Few::One(first);
     }
-    let third = word_in(text, line_end, to);
-    let third_start = third.start;
-    let third_end = third.end;
-    if third_end <= third_start {
-        return Few {
-            count: 2,
-            start,
-            end,
-            from,
-            to,
-        };
+    let third = word_in(text, line_end, second.end);
+    if third.end <= third.start {
+        return Few::Two(first, second);
     }
-    Few {
-        count: 3,
-        start,
-        end,
-        from,
-        to,
-    }
+    Few::More(first, second)
 }

@@ -1,72 +1,55 @@
 // The words of a line.
-ghost use Rattle.std.specs.Prelude.{◌≡◌, ◌+◌, ◌≤◌, ◌<◌, length, drop};
+ghost use Rattle.std.specs.Prelude.{◌≡◌, ◌+◌, ◌≤◌, ◌<◌, eqb, not, length};
+ghost use Rattle.std.specs.List.{take_while};
 ghost use Rattle.wording.specs.Words;
-ghost use Rattle.wording.specs.Names.{same};
-ghost use Rattle.words.specs.Lex.{blanks, run, Next, NextLine};
+ghost use Rattle.words.specs.Lex.{kind_number, skips, Next, NextLine};
 
-// 0 parts words, 2 is of a sign, 1 anything else. Letters and digits come first: most bytes are those.
-pub fn kind(c: u8) -> u8
-    ensures { result ≡ Words.kind c }
-{
-    if 62 < c {
-        return 1;
-    }
-    if 59 < c {
-        return 2;
-    }
-    if 45 < c {
-        return 1;
-    }
-    if c == 32 {
-        return 0;
-    }
-    if c == 45 {
-        return 2;
-    }
-    if c == 35 {
-        return 0;
-    }
-    if c == 13 {
-        return 0;
-    }
-    if c == 9 {
-        return 0;
-    }
-    if c == 10 { 0 } else { 1 }
+// What a byte is to the words of a line.
+#[derive(Clone, Copy, PartialEq, Eq)]
+pub enum Kind {
+    // It parts words, or begins a comment.
+    Blank,
+    // Of a name, a number, or nothing that the language has.
+    Plain,
+    // Of the signs `->`, `>=` and `<=`.
+    Sign,
 }
 
-// The first byte from `at` on that parts no words, or begins a comment.
-fn skip(line: &[u8], at: usize) -> usize
-    requires { at ≤ length line.now }
-    ensures { result ≡ at + blanks (drop at line.now) }
+pub fn kind_of(c: u8) -> Kind
+    ensures { kind_number result ≡ Words.kind c }
 {
-    let mut i = at;
-    while i < line.len() {
-        let c = line[i];
-        if c == 35 {
-            return i;
-        }
-        if kind(c) != 0 {
-            return i;
-        }
-        i += 1;
+    match c {
+        b' ' | b'\t' | b'\r' | b'\n' | b'#' => Kind::Blank,
+        b'-' | b'<' | b'=' | b'>' => Kind::Sign,
+        _ => Kind::Plain,
     }
-    i
 }
 
-// The first byte from `at` on that is not of the kind k.
-fn run_end(line: &[u8], at: usize, k: u8) -> usize
-    requires { at ≤ length line.now }
-    ensures { result ≡ at + run k (drop at line.now) }
+// A byte that parts words and begins no comment.
+fn is_skipped(c: u8) -> bool
+    ensures { result ≡ skips c }
 {
-    let mut i = at;
-    while i < line.len() {
-        if kind(line[i]) != k {
-            return i;
-        }
-        i += 1;
-    }
-    i
+    c != b'#' && kind_of(c) == Kind::Blank
+}
+
+// How many bytes at the front part words, as far as a comment.
+fn blanks(line: &[u8]) -> usize
+    ensures { result ≡ length (take_while skips line.now) }
+{
+    line.iter().take_while(|c| is_skipped(**c)).count()
+}
+
+fn is_of_kind(c: u8, k: Kind) -> bool
+    ensures { result ≡ eqb (Words.kind c) (kind_number k) }
+{
+    kind_of(c) == k
+}
+
+// How many bytes at the front are of the kind k.
+fn run(line: &[u8], k: Kind) -> usize
+    ensures { result ≡ length (take_while (λ c. eqb (Words.kind c) (kind_number k)) line.now) }
+{
+    line.iter().take_while(|c| is_of_kind(**c, k)).count()
 }
 
 // Where a word stands in its line: its first byte and the one after its last.
@@ -81,37 +64,20 @@ pub fn next_word(line: &[u8], at: usize) -> Span
     requires { at ≤ length line.now }
     ensures { Next line.now at result.start result.end }
 {
-    let start = skip(line, at);
-    if line.len() <= start {
+    let start = at + blanks(&line[at..]);
+    if line.len() <= start || line[start] == b'#' {
         return Span { start, end: start };
     }
-    let c = line[start];
-    if c == 35 {
-        return Span { start, end: start };
-    }
-    let k = kind(c);
-    Span {
-        start,
-        end: run_end(line, start + 1, k),
-    }
+    let k = kind_of(line[start]);
+    let end = start + 1 + run(&line[start + 1..], k);
+    Span { start, end }
 }
 
-// Whether the word of the line is this one. From the last byte on: names that are numbered differ there.
-pub fn same_word(line: &[u8], word: &[u8]) -> bool
-    ensures { result ≡ same line.now word.now }
+// How many bytes stand before the end of the line.
+fn line_length(text: &[u8]) -> usize
+    ensures { result ≡ length (take_while (λ c. not (eqb c 10)) text.now) }
 {
-    if line.len() != word.len() {
-        return false;
-    }
-    let mut left = line.len();
-    while 0 < left {
-        let i = left - 1;
-        if line[i] != word[i] {
-            return false;
-        }
-        left = i;
-    }
-    true
+    text.iter().take_while(|c| **c != b'\n').count()
 }
 
 // Where the line that begins at `at` ends: its line feed, or the text's end.
@@ -119,12 +85,5 @@ pub fn line_end(text: &[u8], at: usize) -> usize
     requires { at ≤ length text.now }
     ensures { NextLine text.now at result }
 {
-    let mut i = at;
-    while i < text.len() {
-        if text[i] == 10 {
-            return i;
-        }
-        i += 1;
-    }
-    i
+    at + line_length(&text[at..])
 }

@@ -1,0 +1,13 @@
+-- The rules still to come find, from what is left and found, what all rules find.
+use Rattle.policy.specs.File.{rules_from, policy_of}
+use Rattle.stepping.specs.State.{place}
+use Rattle.stepping.specs.RulePlaces.{PlacesAhead}
+use Rattle.leading.specs.Rowing.{Rowing}
+use Rattle.leading.proofs.pass.row.Given as goal
+
+abbrev pub invariant-loop-at : goal.invariant-loop-at
+invariant-loop-at l =
+    (goal.iterator-loop-at).can_next l.at-iterator
+    × (goal.iterator-loop-at).is_finite l.at-iterator
+    × PlacesAhead l.file l.layout l.here.state.location l.at-iterator
+    × Rowing (place l.layout.clocks l.here.state) (policy_of l.layout.reading l.file) l.marks l.x (rules_from l.layout.clocks l.file l.at-iterator.at l.at-iterator.ahead) l.left l.found

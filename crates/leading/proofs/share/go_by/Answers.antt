@@ -1,0 +1,35 @@
+-- A rule whose bounds do not hold takes nothing, and else its bytes say what it takes, and the mark of the state that it leads to says the rest.
+use Rattle.std.proofs.Common.{sym, ◌∙◌}
+use Rattle.policy.specs.File.{rule_from}
+use Rattle.stepping.specs.Pass.{parted_bounds, parted_taken, parted_so, took_not, took_so, went_not, went_took}
+use Rattle.leading.proofs.share.go_by.Goals as goal
+
+pub returns-then-not-held : goal.returns-then-not-held
+returns-then-not-held c = went_not _ _ _ (took_not _ (parted_bounds _ (sym c.held.ensures ∙ c.if-not-held.true)))
+
+pub is_left-requires : goal.is_left-requires
+unfolding rule_from
+is_left-requires c =
+    let k = c.requires in
+    rw (c.byte_within-care.ensures.0, c.byte_within-value.ensures.0) (k.2, k.1.ours.care, k.1.ours.formed.inputs)
+
+-- Whether the rule takes something is said of its bytes.
+pub returns-then-not-is_left : goal.returns-then-not-is_left
+unfolding rule_from
+returns-then-not-is_left c =
+    let left = rw (c.outs-set.ensures, c.byte_within-care.ensures.0, c.byte_within-value.ensures.0, c.byte_within.ensures.0, c.byte_within-2.ensures.0) at c.is_left.ensures in
+    went_not _ _ _ (took_not _ (parted_taken _ (sym c.held.ensures ∙ c.if-not-held.false) (sym (c.if-not-is_left.true) ∙ left)))
+
+pub take-requires : goal.take-requires
+unfolding rule_from
+take-requires c =
+    let k = c.requires in
+    rw (c.byte_within-care.ensures.0, c.byte_within-value.ensures.0) (k.2, k.1.ours.care, k.1.ours.formed.inputs, k.3)
+
+pub returns : goal.returns
+unfolding rule_from
+returns c =
+    let left = rw (c.outs-set.ensures, c.byte_within-care.ensures.0, c.byte_within-value.ensures.0, c.byte_within.ensures.0, c.byte_within-2.ensures.0) at c.is_left.ensures in
+    let taken = rw (c.outs-set.ensures, c.byte_within-care.ensures.0, c.byte_within-value.ensures.0, c.byte_within.ensures.0, c.byte_within-2.ensures.0) at c.take.ensures in
+    let ours = c.requires.1.ours in
+    went_took _ _ _ (took_so _ (parted_so _ (sym c.held.ensures ∙ c.if-not-held.false) ours.care ours.formed.inputs (sym (c.if-not-is_left.false) ∙ left)) taken) c.leads.ensures

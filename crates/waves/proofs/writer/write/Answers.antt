@@ -1,0 +1,11 @@
+use Rattle.refusals.specs.Laws.{handed_on}
+use Rattle.waves.specs.BySignals.{write_refused, write_by}
+use Rattle.waves.proofs.writer.write.Goals as goal
+
+pub returns-in_err-tags : goal.returns-in_err-tags
+returns-in_err-tags c = rw (handed_on _ _ c.from_residual.ensures.1) (write_refused _ c.in_err-tags.ensures)
+
+pub returns : goal.returns
+returns c =
+    let t = c.in_ok-tags.ensures in
+    write_by t.passes (rw (t.inputs_are, t.outputs_are) at c.write_checked.ensures)
