@@ -1,5 +1,5 @@
 -- What the proof of `why_run` cites of the layout that it goes on with: what was refused, or that there is room.
-use Rattle.std.specs.Prelude.{◌≡◌, List, ℕ, ◌≤◌, length}
+use Rattle.std.specs.Prelude.{◌≡◌, List, ℕ, ◌≤◌}
 use Rattle.std.proofs.Common.{sym, ap, subst}
 use Rattle.streams.specs.Answer.{refused, gives}
 use Rattle.streams.specs.AnswerLaws.{given_only}

@@ -2,7 +2,7 @@
 -- So whatever is said of the entries' promises holds of the functions in C.
 -- In order: what a word says; then, function by function: prepare, the two halves, join, clean, bays, the meter, waves, texts.
 use Rattle.std.specs.Prelude.{◌≡◌, refl, Bool, true, List, ◌↔◌, ℕ, zero, suc, ◌/◌, ◌%◌, ◌^◌, ◌<◌, length}
-use Rattle.std.proofs.Common.{sym, ap₂, subst, ◌∙◌, arith, eq-eqb}
+use Rattle.std.proofs.Common.{ap₂, ◌∙◌, arith, eq-eqb}
 use Rattle.std.proofs.Math.Path.{ap}
 use Rattle.std.proofs.Math.Bool.{cond}
 use Rattle.streams.specs.Answer.{refused, gives, answer}
@@ -27,7 +27,6 @@ use Rattle.compiling.specs.Promise.{ReadTextPromise}
 use Rattle.showing.specs.Promise.{WriteTextPromise}
 use Rattle.pointing.specs.RuleAt.{RuleAtPromise}
 use Rattle.pointing.specs.NameAt.{NameAtPromise}
-use Rattle.drawing.specs.Entry.{Reads}
 use Rattle.waves.specs.Promise.{WritePromise, TakePromise}
 use Rattle.groovepawn.specs.Words.{is_state, output_state}
 use Rattle.groovepawn.specs.Calls.{PrepareCall, InputCall, OutputCall, JoinCall}

@@ -38,7 +38,7 @@ use Rattle.tender.specs.Demand2Shown.{releases, hopeless_exactly, prepared_other
 use Rattle.tender.specs.TickByTick.{TickByTick, ticks_none, ticks_more, TicksReleased, ticks_run, ticks_release, ticks_go_on}
 use Rattle.tender.specs.Demand3.{JoinMade, SameReleased, Alike, permits_all}
 use Rattle.tender.specs.Demand3Shown.{permits_exactly, order, grouping, repetition, unit_law, unit_law_first}
-use Rattle.tender.specs.Calls.{prepared_in, half_in, prepared_refused, prepared_none, half_given, half_refused, c_prepare, c_input, c_output, output_five}
+use Rattle.tender.specs.Calls.{half_in, prepared_refused, prepared_none, half_given, half_refused, c_prepare, c_input, c_output, output_five}
 
 -- "a policy is refused as hopeless exactly if, from its start, some length has no permitted stream": prepare's code, of a file that passes its checks and
 -- with a slice for the marks that is long enough.

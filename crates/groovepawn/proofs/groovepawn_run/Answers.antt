@@ -1,5 +1,5 @@
 -- The answer, the state and the slice of the run for five numbers, and a refusal for any other state.
-use Rattle.std.proofs.Common.{ap, ◌∙◌, eq-eqb, ne_eqb}
+use Rattle.std.proofs.Common.{◌∙◌, eq-eqb, ne_eqb}
 use Rattle.groovepawn.specs.Words.{run_word, run_state, run_out}
 use Rattle.groovepawn.proofs.groovepawn_run.Goals as goal
 

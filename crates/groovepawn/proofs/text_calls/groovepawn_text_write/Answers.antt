@@ -1,6 +1,6 @@
 -- The refusal or the length in one number.
-use Rattle.std.proofs.Common.{◌∙◌, arith}
-use Rattle.groovepawn.specs.Text.{written_word, write_le}
+use Rattle.std.proofs.Common.{arith}
+use Rattle.groovepawn.specs.Text.{written_word}
 use Rattle.groovepawn.proofs.text_calls.groovepawn_text_write.Goals as goal
 
 pub overflow_mul-result : goal.overflow_mul-result

@@ -1,5 +1,5 @@
 -- `reasons::runs::explain_each` meets its contract: each turn explains one event more.
-use Rattle.std.proofs.Common.{◌<◌, length, arith, ltb-true}
+use Rattle.std.proofs.Common.{arith, ltb-true}
 use Rattle.std.proofs.Math.Bool.{and-eq-true_iff}
 use Rattle.policy.specs.Checked.{all_at}
 use Rattle.stepping.specs.Laid.{laid_sections, standing_location}

@@ -1,5 +1,5 @@
 -- `reasons::runs::room_for` meets its contract: 22 or a refusal up to 10 comes first, then 23, then 14.
-use Rattle.std.proofs.Common.{◌≡◌, ◌≤◌, ◌<◌, sym, ap, ◌∙◌, ℕ, arith}
+use Rattle.std.proofs.Common.{◌≤◌, ◌<◌, sym, ap, ◌∙◌, ℕ, arith}
 use Rattle.streams.specs.Answer.{gives}
 use Rattle.refusals.specs.Laws.{number_above, handed_answer}
 use Rattle.policy.specs.File.{policy_of}

@@ -1,5 +1,5 @@
 -- `reasons::runs::why_run` meets its contract: the refusals in their order; the tables are made once, and each event is explained by them.
-use Rattle.std.proofs.Common.{◌≡◌, refl, sym, ap, subst, ◌∙◌, ℕ, length, arith}
+use Rattle.std.proofs.Common.{◌≡◌, refl, sym, subst, ℕ, length, arith}
 use Rattle.std.proofs.Math.Seq.{length-take-le}
 use Rattle.refusals.specs.Refused.{number_of}
 use Rattle.refusals.specs.Laws.{number_above, handed_on}

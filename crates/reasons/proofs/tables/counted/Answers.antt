@@ -1,5 +1,5 @@
 -- `reasons::tables::counted` meets its contract: the refusals in their order, and what `count` leaves in the tables.
-use Rattle.std.proofs.Common.{◌≡◌, sym, ap, ◌∙◌, ℕ, arith}
+use Rattle.std.proofs.Common.{sym, ap, ◌∙◌, ℕ, arith}
 use Rattle.std.proofs.Math.Seq.{length-take-le}
 use Rattle.refusals.specs.Laws.{number_above, handed_on}
 use Rattle.policy.specs.Rules.{input_values, output_values}

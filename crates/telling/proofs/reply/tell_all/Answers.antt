@@ -1,5 +1,5 @@
 -- The layout is the file's, the start may be asked about, and the tables have an entry for each state.
-use Rattle.std.proofs.Common.{◌≡◌, ℕ, ◌≤◌, length, sym, ◌∙◌, arith, length-take-le}
+use Rattle.std.proofs.Common.{sym, ◌∙◌, arith, length-take-le}
 use Rattle.refusals.specs.Laws.{number_above}
 use Rattle.stepping.specs.Laid.{laid_well}
 use Rattle.enforcer.specs.States.{layout_refused, layout_granted}
