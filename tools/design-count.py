@@ -4,17 +4,25 @@
     tools/design-count.py [COMMIT] [-v]
 
 Without a commit the working tree is read; -v names the places. The generated stored cases are passed over."""
+import os
 import re
 import subprocess
 import sys
 from collections import defaultdict
 
 VERBOSE = "-v" in sys.argv
-COMMIT = next((a for a in sys.argv[1:] if a != "-v"), None)
+COMMITS = [a for a in sys.argv[1:] if a != "-v"]
+if 1 < len(COMMITS) or COMMITS and COMMITS[0].startswith("-"):
+    sys.exit("usage: tools/design-count.py [COMMIT] [-v]")
+COMMIT = COMMITS[0] if COMMITS else None
+os.chdir(os.path.join(os.path.dirname(os.path.abspath(__file__)), ".."))
 
 
 def run(*words):
-    return subprocess.run(words, capture_output=True, text=True, check=True).stdout
+    done = subprocess.run(words, capture_output=True, text=True)
+    if done.returncode != 0:
+        sys.exit(f"design-count: {done.stderr.strip()}")
+    return done.stdout
 
 
 def sources():
