@@ -82,9 +82,13 @@ pub record Took (text : List ℕ) (before : List Rule → Draft) (end at count :
   pub fit : Fit r.table
   pub rule : MatchOption r.rule (Unit {0}) (λ p. Masked p × (r.table.source < 64) × (count < 256))
 
+-- By which number it is refused.
+abbrev pub StoppedBy : (text : List ℕ) → (List Rule → Draft) → (end at count n : ℕ) → Type 0
+StoppedBy text before end at count n = (rules : List Rule) → length rules ≡ count → refused n ≡ read_line (before rules) (words_of (part text at (end - at)))
+
 -- Why it is refused.
 abbrev pub Stopped : (text : List ℕ) → (List Rule → Draft) → (end at count : ℕ) → Refusal → Type 0
-Stopped text before end at count e = (rules : List Rule) → length rules ≡ count → refused (number_of e) ≡ read_line (before rules) (words_of (part text at (end - at)))
+Stopped text before end at count e = StoppedBy text before end at count (number_of e)
 
 -- By the first word.
 module _ {text : List ℕ} {end at a b : ℕ} (n : NextIn text end at a b) (d : Draft) where

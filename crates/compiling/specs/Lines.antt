@@ -5,8 +5,6 @@ use Rattle.std.proofs.Common.{sym, ◌∙◌, arith, length-append, drop_of_leng
 use mathlib.Core.List.{List, [], ◌∷◌}
 use Rattle.std.proofs.lemmas.List.{length-replicate, get_or-replicate}
 use Rattle.streams.specs.Answer.{Answer, refused, gives}
-use Rattle.refusals.specs.Refused.{number_of}
-use Rattle.refusals.specs.declared.Refusal.{Refusal}
 use Rattle.policy.specs.Rules.{Rule}
 use Rattle.policy.specs.File.{part}
 use Rattle.wording.specs.Words.{words_of, each_words, split, lines_of}
@@ -15,7 +13,7 @@ use Rattle.words.specs.Spans.{NamesIn}
 use Rattle.words.specs.Lex.{NextLine}
 use Rattle.compiling.specs.RuleLine.{rule_said}
 use Rattle.conditions.specs.declared.steps.Parsed.{Parsed}
-use Rattle.compiling.specs.Line.{Took, Stopped, taken_rules, with_rule, rule_number}
+use Rattle.compiling.specs.Line.{Took, StoppedBy, taken_rules, with_rule, rule_number}
 use Rattle.compiling.specs.declared.line.Taken.{Taken}
 
 -- After `passed` lines, up to `at`, with `count` rules: the lines that are left decide.
@@ -82,8 +80,8 @@ module _ {text : List ℕ} {draft : List Rule → Draft} {rules : List Rule} {co
         ∙ ap (λ (b : Answer Draft). proceed (suc passed) b (λ e. read_lines (suc (suc passed)) e (lines_of (drop (end + 1) text)))) (sym said)
 
     -- A refused line stops the reading, with its refusal and its number, counted from 1.
-    pub lines_stop : (e : Refusal) → Stopped text draft end at count e → read_lines 1 empty (lines_of text) ≡ stops (number_of e) (passed + 1)
-    lines_stop e k = let p : suc passed ≡ passed + 1 = omega arith in onwards (refused (number_of e)) (k rules s.many) ∙ ap (stops (number_of e)) p
+    pub lines_stop : (n : ℕ) → StoppedBy text draft end at count n → read_lines 1 empty (lines_of text) ≡ stops n (passed + 1)
+    lines_stop n k = let p : suc passed ≡ passed + 1 = omega arith in onwards (refused n) (k rules s.many) ∙ ap (stops n) p
 
     module _ {r : Taken} {after : List Rule → Draft} (k : Took text draft end at count r after) where
       longer : (rule : Option Parsed) (rs : List Rule) → length (with_rule rs r.table rule) ≡ length rs + rule_number rule

@@ -86,6 +86,10 @@ abbrev pub is_good : Result (Option ℕ) LineRefusal → Bool
 is_good (Ok n) = true
 is_good (Err e) = false
 
+-- What a judgement says in numbers: an answer of the reader, and whether the text is a policy's.
+abbrev pub JudgedAs : (text before : List ℕ) → ReadText → Bool → (after : List ℕ) → Type 0
+JudgedAs text before r good after = ReadTextPromise text before r after × (good ≡ is_read (file_from_text text))
+
 -- What `judge` promises: as `compile`, and whether the text is a policy's, with room for its file or without.
 pub record JudgePromise (text before : List ℕ) (r : Result (Option ℕ) LineRefusal) (after : List ℕ) : Type 0 where
   pub read : ReadTextPromise text before (judged_said r) after
@@ -94,14 +98,18 @@ pub record JudgePromise (text before : List ℕ) (r : Result (Option ℕ) LineRe
 -- What a judgement says of the text.
 module _ {text before after : List ℕ} where
   -- A text that is not good gives no file, and the answer has its refusal and its line.
-  pub judged_not : (e : LineRefusal) → JudgePromise text before (Err e) after → file_from_text text ≡ stops (number_of e.refusal) e.line
-  judged_not e w = go (file_from_text text) refl
+  pub judged_not : {r : ReadText} → JudgedAs text before r false after → file_from_text text ≡ stops r.refusal r.line
+  judged_not {r} w = go (file_from_text text) refl
     where
-      go : (x : FromText (List ℕ)) → file_from_text text ≡ x → file_from_text text ≡ stops (number_of e.refusal) e.line
+      go : (x : FromText (List ℕ)) → file_from_text text ≡ x → file_from_text text ≡ stops r.refusal r.line
       go (stops n line) k =
-          let s = sym (w.read.says ∙ ap (λ (y : FromText (List ℕ)). answered (fitted before y)) k) in
+          let s = sym (w.0.says ∙ ap (λ (y : FromText (List ℕ)). answered (fitted before y)) k) in
           k ∙ (λ i. stops (s i).refusal (s i).line)
-      go (reads f) k = absurd (false≢true (w.good ∙ ap is_read k))
+      go (reads f) k = absurd (false≢true (w.1 ∙ ap is_read k))
+
+  -- So it is where `judge` refuses it.
+  pub judge_not : (e : LineRefusal) → JudgePromise text before (Err e) after → file_from_text text ≡ stops (number_of e.refusal) e.line
+  judge_not e w = judged_not (w.read, w.good)
 
   -- A text that is good gives a file.
   pub judged_good : (n : Option ℕ) → JudgePromise text before (Ok n) after → (f : List ℕ) × (file_from_text text ≡ reads f)
@@ -115,13 +123,20 @@ module _ (text before : List ℕ) where
   promised : {x : FromText (List ℕ)} → fitted before (file_from_text text) ≡ x → {r : ReadText} {after : List ℕ} → r ≡ answered x → after ≡ filled before x → ReadTextPromise text before r after
   promised e a b = record { says = a ∙ ap answered (sym e); writes = b ∙ ap (filled before) (sym e) }
 
-  stopped : (e : LineRefusal) → file_from_text text ≡ stops (number_of e.refusal) e.line → JudgePromise text before (Err e) before
-  stopped e h = record { read = promised (ap (fitted before) h) refl refl; good = sym (ap is_read h) }
+  stopped : {n line : ℕ} → file_from_text text ≡ stops n line → JudgedAs text before (record { refusal = n; line = line; length = 0 }) false before
+  stopped e = (promised (ap (fitted before) e) refl refl, sym (ap is_read e))
+
+  judged : (e : LineRefusal) → JudgedAs text before (judged_said (Err e)) false before → JudgePromise text before (Err e) before
+  judged e k = record { read = k.0; good = k.1 }
 
   -- Where a line is refused, the answer is its refusal and its number, and nothing is written.
-  pub read_stopped : (e : LineRefusal) → read_lines 1 empty (lines_of text) ≡ stops (number_of e.refusal) e.line → JudgePromise text before (Err e) before
+  pub read_stopped : {n line : ℕ} → read_lines 1 empty (lines_of text) ≡ stops n line → JudgedAs text before (record { refusal = n; line = line; length = 0 }) false before
   unfolding file_from_text policy_from_text
-  read_stopped e h = stopped e (ap (λ (x : FromText Draft). filed (said_by 1 x)) h)
+  read_stopped e = stopped (ap (λ (x : FromText Draft). filed (said_by 1 x)) e)
+
+  -- So `judge` keeps its promise.
+  pub judge_stopped : (e : LineRefusal) → read_lines 1 empty (lines_of text) ≡ stops (number_of e.refusal) e.line → JudgePromise text before (Err e) before
+  judge_stopped e h = judged e (read_stopped h)
 
   module _ (starts lengths left : List ℕ) {t : Table} (f : Fit t) {rules : List Rule} (lines : read_lines 1 empty (lines_of text) ≡ reads (draft_of text starts lengths left t rules)) {count : ℕ} (many : length rules ≡ count) where
     abbrev d : Draft
@@ -176,12 +191,16 @@ module _ (text before : List ℕ) where
         omega (arith, nearly_length p (good_nearly 1 d good), inputs_long f, outputs_long f, c, named, body, f.order)
 
     -- Where all lines are read and the policy is refused as a whole, the answer has line 0, and nothing is written.
-    pub read_own : (d : Refusal) → number_of d ≡ own_refusal → JudgePromise text before (Err (as_whole d)) before
-    read_own d e = stopped (as_whole d) (go (number_of d) (number_above d) (file_is ∙ ap (λ (m : ℕ). passed m (bytes_of p)) (own_is ∙ sym e)))
+    pub read_own : {n : ℕ} → n ≡ own_refusal → (n ≡ 0 → ⊥) → JudgedAs text before (record { refusal = n; line = 0; length = 0 }) false before
+    read_own {n} e z = stopped (go n z (file_is ∙ ap (λ (m : ℕ). passed m (bytes_of p)) (own_is ∙ sym e)))
       where
-        go : (m : ℕ) → 0 < m → file_from_text text ≡ passed m (bytes_of p) → file_from_text text ≡ stops m 0
-        go zero y h = absurd (omega arith)
+        go : (m : ℕ) → (m ≡ 0 → ⊥) → file_from_text text ≡ passed m (bytes_of p) → file_from_text text ≡ stops m 0
+        go zero y h = absurd (y refl)
         go (suc m) y h = h
+
+    -- So `judge` keeps its promise.
+    pub judge_own : (d : Refusal) → number_of d ≡ own_refusal → JudgePromise text before (Err (as_whole d)) before
+    judge_own d e = judged (as_whole d) (read_own e (λ z. omega (arith, number_above d)))
 
     module _ (e : 0 ≡ own_refusal) where
       file_read : file_from_text text ≡ reads (bytes_of p)

@@ -68,17 +68,15 @@ module _ (text starts lengths left : List ℕ) {t : Table} (f : Fit t) (rules : 
         must (may_end b b.part) 30 (must (bounds_good d.ceilings b.bounds) 7
         (must (ltb (length rules) 256) 33 (gives (add_rule d (rule_of d t.source b)))))
 
-    line_is : (r : Result Parsed Refusal) → parse_said t.clocks r ≡ through (rule_word (scope d)) (bare t.clocks) l →
-        rule_line d l (place_below 64 t.source) ≡ parse_said t.clocks r and_then after
+    line_is : (a : Answer Begun) → a ≡ through (rule_word (scope d)) (bare t.clocks) l → rule_line d l (place_below 64 t.source) ≡ a and_then after
     unfolding rule_line
-    line_is r said =
+    line_is a said =
         ap (rule_line d l) (source_some t.source h)
-        ∙ ap (λ (a : Answer Begun). a and_then after) ((λ i. through (rule_word (scope d)) (bare (clocks_long i)) l) ∙ sym said)
+        ∙ ap (λ (b : Answer Begun). b and_then after) ((λ i. through (rule_word (scope d)) (bare (clocks_long i)) l) ∙ sym said)
 
     -- A refusal of one of the words is that of the line.
-    pub rule_refused : (e : Refusal) → parse_said t.clocks (Err e) ≡ through (rule_word (scope d)) (bare t.clocks) l →
-        refused (number_of e) ≡ rule_line d l (place_below 64 t.source)
-    rule_refused e said = sym (line_is (Err e) said)
+    pub rule_refused : (n : ℕ) → refused n ≡ through (rule_word (scope d)) (bare t.clocks) l → refused n ≡ rule_line d l (place_below 64 t.source)
+    rule_refused n said = sym (line_is (refused n) said)
 
     tests : (p q r : Bool) (x : Draft) → answer (unless p 30 or_else (unless q 7 or_else unless r 33)) x ≡ must p 30 (must q 7 (must r 33 (gives x)))
     tests true true true x = refl
@@ -96,7 +94,7 @@ module _ (text starts lengths left : List ℕ) {t : Table} (f : Fit t) (rules : 
         ap (λ (n : ℕ). answer n (ruled text starts lengths left t rules p)) (e ∙ ap (λ (n : ℕ). unless (may_end b b.part) 30 or_else (unless (bounds_good d.ceilings b.bounds) 7 or_else unless (ltb n 256) 33)) (sym long))
         ∙ tests (may_end b b.part) (bounds_good d.ceilings b.bounds) (ltb (length rules) 256) (ruled text starts lengths left t rules p)
         ∙ ap (λ (x : Draft). must (may_end b b.part) 30 (must (bounds_good d.ceilings b.bounds) 7 (must (ltb (length rules) 256) 33 (gives x)))) (sym (added p))
-        ∙ sym (line_is (Ok p) said)
+        ∙ sym (line_is (gives b) said)
 
     -- A refusal of these is that of the line.
     pub rule_ended : (p : Parsed) → parse_said t.clocks (Ok p) ≡ through (rule_word (scope d)) (bare t.clocks) l → (e : Refusal) → {count : ℕ} → length rules ≡ count →

@@ -11,7 +11,7 @@ use Rattle.wording.specs.Reader.{Draft, empty, stops, reads, read_lines}
 use Rattle.words.specs.Lex.{NextLine}
 use Rattle.conditions.specs.declared.steps.Parsed.{Parsed}
 use Rattle.compiling.specs.RuleLine.{rule_said}
-use Rattle.compiling.specs.Line.{Took, Stopped, taken_rules, with_rule, rule_number}
+use Rattle.compiling.specs.Line.{Took, StoppedBy, taken_rules, with_rule, rule_number}
 use Rattle.compiling.specs.Lines.{Sofar, before_lines, lines_end, lines_stop, sofar_on}
 use Rattle.compiling.specs.declared.line.Taken.{Taken}
 use Rattle.compiling.specs.declared.lines.Said.{Said}
@@ -19,7 +19,6 @@ use Rattle.compiling.specs.declared.refused.LineRefusal.{LineRefusal}
 use Rattle.declarations.specs.Table.{Fit}
 use Rattle.declarations.specs.declared.table.Table.{Table}
 use Rattle.refusals.specs.Refused.{number_of}
-use Rattle.refusals.specs.declared.Refusal.{Refusal}
 
 -- What a line adds.
 abbrev pub taken_bytes : Taken → List ℕ
@@ -78,7 +77,7 @@ module _ {text before : List ℕ} {draft : List Rule → Draft} {count passed at
 
   module _ {end : ℕ} (l : NextLine text at end) (h : at < length text) where
     -- A refused line ends it, with its refusal and its number, counted from 1.
-    pub held_stops : (e : Refusal) → Stopped text draft end at count e → read_lines 1 empty (lines_of text) ≡ stops (number_of e) (passed + 1)
+    pub held_stops : (n : ℕ) → StoppedBy text draft end at count n → read_lines 1 empty (lines_of text) ≡ stops n (passed + 1)
     held_stops = lines_stop s.sofar l h
 
     module _ {r : Taken} {after : List Rule → Draft} (k : Took text draft end at count r after) where

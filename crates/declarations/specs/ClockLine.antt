@@ -7,8 +7,6 @@ use Rattle.std.proofs.Common.{sym, ◌∙◌, arith, length-set, le-leb, ltb-tru
 use Prim.Native.Nat.{ℕ, zero, suc, ◌+◌, ◌≤◌, ◌<◌}
 use Rattle.std.proofs.lemmas.Bool.{lt-leb}
 use Rattle.streams.specs.Answer.{Answer, refused, gives, unless, ◌or_else◌}
-use Rattle.refusals.specs.Refused.{number_of as code_of}
-use Rattle.refusals.specs.declared.Refusal.{Refusal}
 use Rattle.policy.specs.Rules.{Rule}
 use Rattle.policy.specs.Check.{ceiling_good}
 use Rattle.policy.specs.File.{part}
@@ -81,8 +79,8 @@ module _ (d : Draft) (v w : Word) (l : Line) (two : l ≡ v ∷ w ∷ []) where
     timely = steps ∙ rw (le-leb d.stage 3 h)
 
     -- The refusal of the name, if it has one, is that of the line.
-    pub clock_named : (r : Refusal) → code_of r ≡ name → refused (code_of r) ≡ clock_line d l
-    clock_named r e = refusing r (number_of w and_then last) ∙ ap (λ (n : ℕ). refuse n (number_of w and_then last)) e ∙ sym timely
+    pub clock_named : (r : ℕ) → r ≡ name → (r ≡ 0 → ⊥) → refused r ≡ clock_line d l
+    clock_named r e z = refusing r (number_of w and_then last) z ∙ ap (λ (n : ℕ). refuse n (number_of w and_then last)) e ∙ sym timely
 
     module _ (fresh : 0 ≡ name) where
       -- With a new name, the refusal of the second word as a number is that of the line.
@@ -91,8 +89,8 @@ module _ (d : Draft) (v w : Word) (l : Line) (two : l ≡ v ∷ w ∷ []) where
 
       module _ (c : ℕ) (number : gives c ≡ number_of w) where
         -- With a new name and a number, the refusal of the ceiling (4) or for want of room (33) is that of the line.
-        pub clock_last : (r : Refusal) → code_of r ≡ clock_refusal c (length d.clocks) → refused (code_of r) ≡ clock_line d l
-        clock_last r e = refusing r (gives (with_clock d v c)) ∙ ap (λ (n : ℕ). refuse n (gives (with_clock d v c))) e ∙ clock_read (gives c) number
+        pub clock_last : (r : ℕ) → r ≡ clock_refusal c (length d.clocks) → (r ≡ 0 → ⊥) → refused r ≡ clock_line d l
+        clock_last r e z = refusing r (gives (with_clock d v c)) z ∙ ap (λ (n : ℕ). refuse n (gives (with_clock d v c))) e ∙ clock_read (gives c) number
 
         -- A clock that nothing refuses is added, with its ceiling.
         pub clock_given : 0 ≡ clock_refusal c (length d.clocks) → gives (with_clock d v c) ≡ clock_line d l

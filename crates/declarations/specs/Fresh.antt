@@ -10,9 +10,6 @@ use Rattle.std.proofs.Math.Seq.{get_or-set_other}
 use Rattle.std.proofs.lemmas.Bool.{eqb-false, false≢true}
 use Rattle.std.specs.Prelude.{Some, None, is_some}
 use Rattle.std.specs.Prelude.{Option as Found}
-use Rattle.refusals.specs.Refused.{number_of}
-use Rattle.refusals.specs.Laws.{number_above}
-use Rattle.refusals.specs.declared.Refusal.{Refusal}
 use Rattle.streams.specs.Answer.{Answer, refused}
 use Rattle.policy.specs.File.{part}
 use Rattle.wording.specs.Words.{Word, Line}
@@ -47,13 +44,10 @@ abbrev pub refuse : {A : Type 0} → ℕ → Answer A → Answer A
 refuse zero a = a
 refuse (suc n) a = refused (suc n)
 
--- No refusal has the number 0, so each is the answer, whatever would follow.
-pub refusing : {A : Type 0} (r : Refusal) (a : Answer A) → refused (number_of r) ≡ refuse (number_of r) a
-refusing r a = go (number_of r) (number_above r)
-  where
-    go : (n : ℕ) → 0 < n → refused n ≡ refuse n a
-    go zero h = absurd (omega arith)
-    go (suc n) h = refl
+-- Where the refusal is not 0, it is the answer, whatever would follow.
+pub refusing : {A : Type 0} (n : ℕ) (a : Answer A) → (n ≡ 0 → ⊥) → refused n ≡ refuse n a
+refusing zero a z = absurd (z refl)
+refusing (suc n) a z = refl
 
 -- A clock's name, looked up among the clocks first; a signal's among the signals first.
 pub clock_new : (t : Bool) (o p : Option ℕ) (a : Answer Draft) → must t 30 (free p (free o a)) ≡ refuse (name_refusal t o p) a

@@ -8,8 +8,6 @@ use Prim.Native.Nat.{ℕ, zero, suc, ◌+◌, ◌-◌, ◌≤◌, ◌<◌}
 use Rattle.std.proofs.lemmas.List.{take-set-le, drop-set-add}
 use Rattle.std.proofs.lemmas.Bool.{lt-leb}
 use Rattle.streams.specs.Answer.{Answer, refused, gives}
-use Rattle.refusals.specs.Refused.{number_of}
-use Rattle.refusals.specs.declared.Refusal.{Refusal}
 use Rattle.policy.specs.Rules.{Rule}
 use Rattle.policy.specs.File.{part}
 use Rattle.wording.specs.Words.{Word, Line}
@@ -55,13 +53,13 @@ module _ (before : List ℕ) (count : ℕ) (w : Word) where
   tag_by x e r = ap (λ (a : Answer ℕ). a and_then λ t. refuse r (must (ltb count 4) 33 (gives t))) (sym e)
 
   -- The refusal of the letter, if it has one, comes before all else.
-  pub tag_not : (q : Refusal) → refused (number_of q) ≡ letter before w → (r : ℕ) → refused (number_of q) ≡ signal_tag before count r w
-  tag_not q e r = sym (tag_by (refused (number_of q)) e r)
+  pub tag_not : (q : ℕ) → refused q ≡ letter before w → (r : ℕ) → refused q ≡ signal_tag before count r w
+  tag_not q e r = sym (tag_by (refused q) e r)
 
   module _ (c : ℕ) (e : gives c ≡ letter before w) where
     -- With a good letter, the refusal of the name is the answer.
-    pub tag_named : (q : Refusal) {s : ℕ} → number_of q ≡ s → refused (number_of q) ≡ signal_tag before count s w
-    tag_named q {s = s} f = refusing q (must (ltb count 4) 33 (gives c)) ∙ ap (λ (n : ℕ). refuse n (must (ltb count 4) 33 (gives c))) f ∙ sym (tag_by (gives c) e s)
+    pub tag_named : (r : ℕ) {s : ℕ} → r ≡ s → (r ≡ 0 → ⊥) → refused r ≡ signal_tag before count s w
+    tag_named r {s = s} f k = refusing r (must (ltb count 4) 33 (gives c)) k ∙ ap (λ (n : ℕ). refuse n (must (ltb count 4) 33 (gives c))) f ∙ sym (tag_by (gives c) e s)
 
     -- With a good letter and name, 33 is the answer where there are four of the kind already.
     pub tag_full : {s : ℕ} → 0 ≡ s → 4 ≤ count → refused 33 ≡ signal_tag before count s w

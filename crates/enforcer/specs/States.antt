@@ -216,6 +216,22 @@ granted_standing {file} {marks} {l = l} {s = s} k e z =
       inside = rw (laid_place k s) (good_inside (policy_of l.reading file) s ((state_granted l.reading file marks s).0 z).0);
     }
 
+-- A half by what it finds past the refusals up to 10: first 16.
+module _ (reading : ℕ) (file marks : List ℕ) {r : Checked} (e : r ≡ checked_under reading file) (none : marks_refusal reading file marks ≡ 0)
+    (s : State) {n : ℕ} (q : n ≡ state_refusal r.layout.reading file marks s) where
+  granted : Granted reading file marks r.layout
+  granted = granted_laid marks e none
+
+  -- A state that is refused: the input half answers with that number.
+  pub input_16 : (x : ℕ) → (n ≡ 0 → ⊥) → input_of reading file marks s x ≡ refused n
+  unfolding input_of input_refusal
+  input_16 x h = rw (none, ← granted.named) (chosen_first _ _ _ q h)
+
+  -- A state that is refused: the output half answers with that number, and hands the state back.
+  pub output_16 : (x y : ℕ) → (n ≡ 0 → ⊥) → output_of reading file marks s x y ≡ record { answer = refused n; state = s }
+  unfolding output_of output_refusal
+  output_16 x y h = rw (none, ← granted.named) (ap (output_from s) (chosen_first _ _ _ q h))
+
 module _ (reading : ℕ) (file marks : List ℕ) where
   -- Where the code has no layout, its refusal is the one up to 10.
   module _ (r : Refusal) (e : refused (Refused.number_of r) ≡ layout_for reading file marks) where
@@ -262,14 +278,12 @@ module _ (reading : ℕ) (file marks : List ℕ) where
       -- A state that is refused.
       module _ (r : Refusal) (q : Refused.number_of r ≡ state_refusal l.reading file marks s) where
         -- The input half answers with that refusal.
-        pub input_16 : (x : ℕ) → input_of reading file marks s x ≡ refused (Refused.number_of r)
-        unfolding input_of input_refusal
-        input_16 x = rw (layout_none, ← layout_granted.named) (chosen_first _ _ _ q (λ z. omega (arith, number_above r)))
+        pub input_by_16 : (x : ℕ) → input_of reading file marks s x ≡ refused (Refused.number_of r)
+        input_by_16 x = input_16 reading file marks layout_checked layout_none s q x (λ z. omega (arith, number_above r))
 
         -- The output half answers with that refusal, and hands the state back.
-        pub output_16 : (x y : ℕ) → output_of reading file marks s x y ≡ record { answer = refused (Refused.number_of r); state = s }
-        unfolding output_of output_refusal
-        output_16 x y = rw (layout_none, ← layout_granted.named) (ap (output_from s) (chosen_first _ _ _ q (λ z. omega (arith, number_above r))))
+        pub output_by_16 : (x y : ℕ) → output_of reading file marks s x y ≡ record { answer = refused (Refused.number_of r); state = s }
+        output_by_16 x y = output_16 reading file marks layout_checked layout_none s q x y (λ z. omega (arith, number_above r))
 
       module _ (z : 0 ≡ state_refusal l.reading file marks s) where
         -- A state that is not refused is in range, and there is a mark for each state.

@@ -1,13 +1,25 @@
 // Reasons for a controller in C: for one event, and for a run of them.
 ghost use Rattle.std.specs.Prelude.{◌≡◌};
 ghost use Rattle.refusals.specs.Refused.{number_of};
+ghost use Rattle.reasons.specs.Promise.{answer_numbered, answer_said};
 ghost use Rattle.groovepawn.specs.Why.{WhyCall, odd_why_run, WhyRunCall};
 
 use crate::refusal_word;
 use bays::odd_refusal;
+use explaining::Reasons;
 use reasons::{room_for, shortest, why, why_run, word};
 use refusals::Refusal;
 use stepping::five::{STATE_NUMBERS, put_state, state_of};
+
+// The answer with the number of its refusal, as a word has it.
+fn numbered(answer: Result<Reasons, Refusal>) -> Result<Reasons, u8>
+    ensures { answer_numbered result ≡ answer_said answer }
+{
+    match answer {
+        Ok(reasons) => Ok(reasons),
+        Err(refusal) => Err(u8::from(refusal)),
+    }
+}
 
 // Refusals: 22, 1 to 10, 16, 20, 15, 17.
 pub fn groovepawn_why(reading: u8, file: &[u8], marks: &[u8], state: &[u16], x: u8, y: u8) -> u64
@@ -16,7 +28,7 @@ pub fn groovepawn_why(reading: u8, file: &[u8], marks: &[u8], state: &[u16], x: 
     if state.len() != STATE_NUMBERS {
         return u64::from(refusal_word(odd_refusal(reading, file, marks, true)));
     }
-    word(why(reading, file, marks, state_of(state), x, y))
+    word(numbered(why(reading, file, marks, state_of(state), x, y)))
 }
 
 // What is refused where the state is not five numbers.

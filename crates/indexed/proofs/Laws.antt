@@ -12,7 +12,7 @@ use Rattle.index.specs.Index.{index_of}
 use Rattle.stepping.specs.State.{place}
 use Rattle.stepping.specs.declared.state.State.{State}
 use Rattle.enforcer.specs.Entries.{layout_for, marks_refusal, state_refusal, input_past, output_past}
-use Rattle.enforcer.specs.States.{refused_only, input_16, output_16, input_left, output_left}
+use Rattle.enforcer.specs.States.{refused_only, input_by_16, output_by_16, input_left, output_left}
 use Rattle.indexed.specs.Entries.{early_refusal, layout_by_index, input_indexed_of, output_indexed_of}
 use Rattle.indexed.specs.Same as Same
 use Rattle.indexed.specs.Same.{input_same, output_same, early_granted}
@@ -50,10 +50,10 @@ module _ (reading : ℕ) (file index marks : List ℕ) where
       -- 16 is what is refused then.
       module _ (r : Refusal) (q : number_of r ≡ state_refusal l.reading file marks s) where
         pub input_state : (x : ℕ) → input_indexed_of reading file index marks s x ≡ refused (number_of r)
-        input_state x = input_same reading file index marks s early_index x ∙ input_16 reading file marks early_layout s r q x
+        input_state x = input_same reading file index marks s early_index x ∙ input_by_16 reading file marks early_layout s r q x
 
         pub output_state : (x y : ℕ) → output_indexed_of reading file index marks s x y ≡ record { answer = refused (number_of r); state = s }
-        output_state x y = output_same reading file index marks s early_index x y ∙ output_16 reading file marks early_layout s r q x y
+        output_state x y = output_same reading file index marks s early_index x y ∙ output_by_16 reading file marks early_layout s r q x y
 
       -- Past 16 only 15 and 17 are left.
       module _ (z : 0 ≡ state_refusal l.reading file marks s) where

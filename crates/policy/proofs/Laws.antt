@@ -57,6 +57,14 @@ pub all_end : (test : ℕ → Bool) (xs : List ℕ) (i : ℕ) → length xs ≤ 
 unfolding all_pass
 all_end test xs i h = rw drop_of_length-le
 
+pub among_turn : (t : ℕ) (xs : List ℕ) (i : ℕ) → i < length xs → among t (drop i xs) ≡ (eqb (get_or xs i 0) t || among t (drop (i + 1) xs))
+unfolding among
+among_turn t xs i h = rw (add-one, drop-cons xs i 0 h)
+
+pub among_end : (t : ℕ) (xs : List ℕ) (i : ℕ) → length xs ≤ i → among t (drop i xs) ≡ false
+unfolding among
+among_end t xs i h = rw (drop_of_length-le xs h)
+
 pub among_append : (t : ℕ) (xs ys : List ℕ) → among t (xs ++ ys) ≡ (among t xs || among t ys)
 unfolding among
 among_append t [] ys = refl

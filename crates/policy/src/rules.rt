@@ -65,13 +65,13 @@ fn bounds_good(bounds: &[u8], ceilings: &[u16]) -> bool
     true
 }
 
-// Refused where the rule breaks the rules: its head comes before its bounds.
-fn check_rule(rule: &[u8], shape: Shape, before: usize) -> Result<(), Refusal>
-    requires shaped { Shaped shape }
-    requires whole { length rule.now ≡ rule_size shape.clocks }
-    ensures { refusal_in result ≡ rule_refusal shape.inputs shape.outputs (take shape.clocks shape.ceilings) shape.locations before (rule_from shape.clocks rule.now 0) }
+// Refused where the rule breaks the rules: its head comes before its bounds. The shape is lent, so that it is not laid out anew for each rule.
+fn check_rule(rule: &[u8], shape: &Shape, before: usize) -> Result<(), Refusal>
+    requires shaped { Shaped shape.now }
+    requires whole { length rule.now ≡ rule_size shape.now.clocks }
+    ensures { refusal_in result ≡ rule_refusal shape.now.inputs shape.now.outputs (take shape.now.clocks shape.now.ceilings) shape.now.locations before (rule_from shape.now.clocks rule.now 0) }
 {
-    if !head_good(rule, shape, before) {
+    if !head_good(rule, *shape, before) {
         return Err(Refusal::BadHead);
     }
     if !bounds_good(&rule[RULE_HEAD..], &shape.ceilings[..shape.clocks]) {
@@ -90,7 +90,7 @@ fn check_each_rule(section: &[u8], n: usize, shape: Shape) -> Result<(), Refusal
     let mut before = 0;
     for i in 0..n {
         let rule = &section[i * size..(i + 1) * size];
-        check_rule(rule, shape, before)?;
+        check_rule(rule, &shape, before)?;
         before = usize::from(rule[0]);
     }
     Ok(())

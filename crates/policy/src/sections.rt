@@ -1,7 +1,7 @@
 // The sections before the rules: counts, limits, lengths and contents.
 ghost use Rattle.std.specs.Prelude.{◌≡◌, ℕ, ◌+◌, ◌*◌, ◌≤◌, ◌<◌, ◌^◌, get_or, length, IfOk};
 ghost use Rattle.policy.specs.File.{pairs_from, input_count, outputs_at, output_count, clocks_at, clock_count, locations_at, location_count};
-ghost use Rattle.policy.specs.Check.{section_refusal, tags_good, ceiling_good, location_good, all_pass, inputs_refusal, outputs_refusal, clocks_refusal, locations_refusal};
+ghost use Rattle.policy.specs.Check.{among, section_refusal, tags_good, ceiling_good, location_good, all_pass, inputs_refusal, outputs_refusal, clocks_refusal, locations_refusal};
 ghost use Rattle.policy.specs.Number.{four, states_of};
 ghost use Rattle.refusals.specs.Refused.{refusal_in};
 
@@ -34,12 +34,24 @@ pub(crate) fn check_section(
     Ok(())
 }
 
+// The tag t is one of the tags. A loop of its own, since a file is checked at every call, and std's `contains` is made for more than four.
+fn is_among(t: u8, tags: &[u8]) -> bool
+    ensures { result ≡ among t tags.now }
+{
+    for i in 0..tags.len() {
+        if tags[i] == t {
+            return true;
+        }
+    }
+    false
+}
+
 // Each tag is a capital letter, and new after those before it in the file.
 pub(crate) fn tags_good(before: &[u8], tags: &[u8]) -> bool
     ensures { result ≡ tags_good before.now tags.now }
 {
     for (i, tag) in tags.iter().enumerate() {
-        if !tag.is_ascii_uppercase() || before.contains(tag) || tags[..i].contains(tag) {
+        if !tag.is_ascii_uppercase() || is_among(*tag, before) || is_among(*tag, &tags[..i]) {
             return false;
         }
     }

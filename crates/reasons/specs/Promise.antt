@@ -15,6 +15,11 @@ abbrev pub answer_said : Result Both Refusal → Answer Reasons
 answer_said (Ok r) = gives (both_said r)
 answer_said (Err n) = refused (number_of n)
 
+-- The same of an answer whose refusal is a number already: it may be any.
+abbrev pub answer_numbered : Result Both ℕ → Answer Reasons
+answer_numbered (Ok r) = gives (both_said r)
+answer_numbered (Err n) = refused n
+
 -- What `why` promises for any reading, file, marks, state, x and y.
 pub record WhyPromise (reading : ℕ) (file marks : List ℕ) (s : State) (x y : ℕ) (r : Answer Reasons) : Type 0 where
   pub answers : WhyAnswers reading file marks s x y r

@@ -2,11 +2,10 @@
 ghost use Rattle.std.specs.Prelude.{◌≡◌, Ok, ◌+◌, ◌*◌, ◌<◌};
 ghost use Rattle.explaining.specs.Reasons.{kind_of, count_of};
 ghost use Rattle.explaining.specs.CodeReasons.{reason_said};
-ghost use Rattle.reasons.specs.Promise.{answer_said, SmallReasons};
+ghost use Rattle.reasons.specs.Promise.{answer_numbered, answer_said, SmallReasons};
 ghost use Rattle.reasons.specs.Word.{why_word};
 
 use explaining::{Reason, Reasons, kind, number};
-use refusals::Refusal;
 
 // A reason's number above its kind.
 fn field(reason: Reason) -> u64
@@ -26,13 +25,13 @@ pub(crate) fn both(reasons: Reasons) -> u64
     field(input) * 256 + field(output) * 4294967296
 }
 
-// The refusal, or the word of the two.
-pub fn word(answer: Result<Reasons, Refusal>) -> u64
-    requires { SmallReasons (answer_said answer) }
-    ensures { result ≡ why_word (answer_said answer) }
+// The refusal, by any number, or the word of the two.
+pub fn word(answer: Result<Reasons, u8>) -> u64
+    requires { SmallReasons (answer_numbered answer) }
+    ensures { result ≡ why_word (answer_numbered answer) }
 {
     match answer {
         Ok(reasons) => both(reasons),
-        Err(refusal) => u64::from(u8::from(refusal)),
+        Err(refusal) => u64::from(refusal),
     }
 }

@@ -5,7 +5,7 @@
 pub use Rattle.refusals.specs.Laws.{told_one}
 pub use Rattle.policy.specs.LayoutLaws.{said_one}
 pub use Rattle.enforcer.specs.Promises.{told_same}
-pub use Rattle.tender.specs.Said.{handed_one, walked_one, answer_said_one, read_said_one, judged_said_one, written_said_one, rule_said_one}
+pub use Rattle.tender.specs.Said.{refusal_in_one, handed_one, walked_one, answer_said_one, read_said_one, judged_said_one, written_said_one, rule_said_one}
 -- The check of a file, and under a reading: `policy::layout_under` gives `checked_under`, by `checked_said`.
 pub use Rattle.policy.specs.Layout.{CheckPromise, check_one, checked_under}
 -- The limits and the start of the state's own type: `State::limits` gives `limits_said`, and `State::start` gives `start_state`.
@@ -18,7 +18,7 @@ pub use Rattle.fast.specs.Promise.{FastPromise}
 pub use Rattle.fast.specs.PromiseLaws.{fast_one}
 pub use Rattle.fast.proofs.PromiseLaws.{same_answers, fast_unless}
 -- The input half, the output half by value and over a lent state, and the run.
-pub use Rattle.enforcer.specs.Promises.{InputPromise, input_one, OutputPromise, output_one, RunPromise, run_one}
+pub use Rattle.enforcer.specs.Promises.{InputPromise, input_one, OutputPromise, handed, output_one, RunPromise, ran_told, run_one}
 -- An index is built, and the two halves that use one.
 pub use Rattle.index.specs.Entry.{BuildPromise, build_one}
 pub use Rattle.indexed.specs.Promises.{InputIndexedPromise, OutputIndexedPromise, input_one as input_indexed_one, output_one as output_indexed_one}

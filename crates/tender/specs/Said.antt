@@ -4,7 +4,7 @@ use Rattle.std.specs.Prelude.{◌≡◌, refl, ℕ, Option, Some, None, Result, 
 use Rattle.std.proofs.Common.{sym, ap, ◌∙◌, arith}
 use Rattle.std.proofs.lemmas.Bool.{false≢true}
 use Rattle.streams.specs.Answer.{Answer, refused, gives}
-use Rattle.refusals.specs.Refused.{number_of}
+use Rattle.refusals.specs.Refused.{number_of, refusal_in}
 use Rattle.refusals.specs.Laws.{number_above, number_one}
 use Rattle.refusals.specs.declared.Refusal.{Refusal}
 use Rattle.stepping.specs.declared.state.State.{State}
@@ -39,6 +39,13 @@ gives_refuses a n e = cc
 -- A refusal has no number 0.
 not_none : (r : Refusal) → ◌≡◌ {A = ℕ} 0 (number_of r) → ⊥
 not_none r e = let above = number_above r in omega arith
+
+-- What an entry answers that gives nothing else: 0, or the number of its refusal.
+pub refusal_in_one : (r q : Result (Unit {0}) Refusal) → refusal_in r ≡ refusal_in q → r ≡ q
+refusal_in_one (Ok a) (Ok b) e = refl
+refusal_in_one (Err n) (Err m) e = ap Err (number_one n m e)
+refusal_in_one (Ok a) (Err m) e = absurd (not_none m e)
+refusal_in_one (Err n) (Ok b) e = absurd (not_none n (sym e))
 
 -- What the output half hands back, from one state.
 pub handed_one : (s : State) (r q : Result (ℕ × State) Refusal) → handed s r ≡ handed s q → r ≡ q

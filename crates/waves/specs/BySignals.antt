@@ -16,9 +16,6 @@ use Rattle.drawing.specs.Steps.{AllFit}
 use Rattle.drawing.specs.Streams.{text_one}
 use Rattle.drawing.specs.Entry.{Makes, written_over, write_refusal, write_of, written_out, Reads, policy_refused, no_stream, no_room, taken}
 use Rattle.tracing.specs.Found.{FoundStream}
-use Rattle.refusals.specs.Refused.{number_of}
-use Rattle.refusals.specs.Laws.{number_above, refused_answer, refused_first}
-use Rattle.refusals.specs.declared.Refusal.{Refusal}
 use Rattle.waves.specs.Promise.{TakePromise, WritePromise}
 
 -- The event has no bit beyond so many inputs and outputs.
@@ -106,20 +103,12 @@ module _ (inputs outputs events before : List ℕ) where
             writes = w.text ∙ rw (e, good, l, zero-add);
           }
 
--- Where a refusal is given, nothing is written.
-over_none : (text out : List ℕ) (n : ℕ) → 0 < n → written_over text out n ≡ out
-over_none text out zero h = absurd (omega arith)
-over_none text out (suc n) h = refl
-
-reads_none : (file text out : List ℕ) (n : ℕ) → refusal_of file ≡ n → 0 < n → Reads file text out (refused n) out
-reads_none file text out zero e h = absurd (omega arith)
-reads_none file text out (suc n) e h = policy_refused e
-
 module _ {file : List ℕ} where
   -- The policy does not pass its checks: the writer gives that refusal and writes nothing.
-  pub write_refused : {events before : List ℕ} (r : Refusal) → refusal_of file ≡ number_of r → WritePromise file events before (refused (number_of r)) before
+  pub write_refused : {events before : List ℕ} (n : ℕ) → n ≡ refusal_of file → (n ≡ 0 → ⊥) → WritePromise file events before (refused n) before
   unfolding write_of written_out write_refusal
-  write_refused {before = before} r e = record { answers = rw (e, refused_first, refused_answer); writes = rw (e, refused_first) (sym (over_none _ before (number_of r) (number_above r))) }
+  write_refused zero e h = absurd (h refl)
+  write_refused (suc n) e h = record { answers = rw (← e); writes = rw (← e) }
 
   -- The policy passes its checks: what the writer does by the signals is what it promises.
   pub write_by : {events before after : List ℕ} {r : Answer ℕ} → refusal_of file ≡ 0 → WrittenBy (input_tags file) (output_tags file) events before r after →
@@ -128,8 +117,9 @@ module _ {file : List ℕ} where
   write_by e w = record { answers = rw e w.answers; writes = rw e w.writes }
 
   -- The policy does not pass its checks: the reader gives that refusal and stores nothing.
-  pub take_refused : {text before : List ℕ} (r : Refusal) → refusal_of file ≡ number_of r → TakePromise file text before (refused (number_of r)) before
-  take_refused r e = record { reads = reads_none file _ _ (number_of r) e (number_above r) }
+  pub take_refused : {text before : List ℕ} (n : ℕ) → n ≡ refusal_of file → (n ≡ 0 → ⊥) → TakePromise file text before (refused n) before
+  take_refused zero e h = absurd (h refl)
+  take_refused (suc n) e h = record { reads = policy_refused (sym e) }
 
   -- The policy passes its checks: what the reader does by the signals is what it promises.
   pub take_by : {text before after : List ℕ} {r : Answer ℕ} → refusal_of file ≡ 0 → TakenBy (input_tags file) (output_tags file) text before r after →

@@ -1,17 +1,15 @@
 -- Where the tags of a policy's signals stand, as the code has it.
-use Rattle.std.specs.Prelude.{◌≡◌, refl, List, ℕ, ◌+◌, ◌-◌, ◌≤◌, length, take, drop, Ok, Err}
+use Rattle.std.specs.Prelude.{◌≡◌, refl, List, ℕ, ◌+◌, ◌-◌, ◌≤◌, length, take, drop, Ok}
 use Rattle.std.proofs.Common.{sym, ap, ◌∙◌, arith}
 use Rattle.policy.specs.File.{part, input_count, output_count, outputs_at, input_tags, output_tags}
 use Rattle.policy.specs.Check.{refusal_of}
 use Rattle.policy.specs.Frame.{frame, in_order}
-use Rattle.policy.specs.Layout.{checked_of, checked_said}
+use Rattle.policy.specs.Layout.{checked_of, checked_said, CheckPromise}
 use Rattle.policy.specs.LayoutLaws.{checked_says}
 use Rattle.policy.specs.Layout.{Checked}
 use Rattle.policy.specs.declared.Layout.{Layout}
 use Rattle.drawing.specs.Events.{SignalsGood}
 use Rattle.drawing.specs.Checked.{signals}
-use Rattle.refusals.specs.Refused.{number_of}
-use Rattle.refusals.specs.declared.Refusal.{Refusal}
 
 -- What the check found of a policy that passes it.
 pub record Counted (file : List ℕ) (l : Layout) : Type 0 where
@@ -41,9 +39,9 @@ counted file l k =
       within = omega (arith, f.outputs_end);
     }
 
--- The refusal that the check gives is that of the file.
-pub refused_as : (file : List ℕ) (r : Refusal) → checked_said (Err r) ≡ checked_of file → refusal_of file ≡ number_of r
-refused_as file r k = sym (checked_says file).0 ∙ sym (ap (λ (c : Checked). c.refusal) k)
+-- The refusal that the check answers is that of the file.
+pub refused_as : {file : List ℕ} {r : Checked} → CheckPromise file r → r.refusal ≡ refusal_of file
+refused_as {file} k = ap (λ (c : Checked). c.refusal) k.said ∙ (checked_says file).0
 
 -- The policy passes its checks, and these are the tags of its signals.
 pub record Tagged (file inputs outputs : List ℕ) : Type 0 where

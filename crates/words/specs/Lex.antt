@@ -108,6 +108,37 @@ module _ (l : List ℕ) where
   past_end : (i : ℕ) → length l ≤ i → drop i l ≡ []
   past_end i h = drop_of_length-le l h
 
+  -- At a byte that is skipped there is one blank and those behind it.
+  pub blanks_more : (i : ℕ) → i < length l → skips (get_or l i 0) ≡ true → blanks (drop i l) ≡ suc (blanks (drop (i + 1) l))
+  unfolding blanks
+  blanks_more i h s = rw (at_byte i h, s)
+
+  -- At any other byte there are no more blanks.
+  pub blanks_done : (i : ℕ) → i < length l → skips (get_or l i 0) ≡ false → blanks (drop i l) ≡ 0
+  unfolding blanks
+  blanks_done i h s = rw (at_byte i h, s)
+
+  -- At the end of the line there are no more blanks.
+  pub blanks_end : (i : ℕ) → length l ≤ i → blanks (drop i l) ≡ 0
+  unfolding blanks
+  blanks_end i h = rw (past_end i h)
+
+  module _ (k : ℕ) where
+    -- A byte of the kind k makes the run one longer.
+    pub run_more : (i : ℕ) → i < length l → kind (get_or l i 0) ≡ k → run k (drop i l) ≡ suc (run k (drop (i + 1) l))
+    unfolding run
+    run_more i h s = rw (at_byte i h, eq-eqb (kind (get_or l i 0)) k s)
+
+    -- A byte of another kind ends the run.
+    pub run_done : (i : ℕ) → i < length l → (kind (get_or l i 0) ≡ k → ⊥) → run k (drop i l) ≡ 0
+    unfolding run
+    run_done i h s = rw (at_byte i h, ne_eqb (kind (get_or l i 0)) k s)
+
+    -- The end of the line ends the run.
+    pub run_end : (i : ℕ) → length l ≤ i → run k (drop i l) ≡ 0
+    unfolding run
+    run_end i h = rw (past_end i h)
+
 -- The kind of a byte by its range, and that of a byte which is none of those that part words or are of a sign.
 module _ (c : ℕ) where
   -- A byte that neither parts words nor is of a sign has kind 1.
@@ -115,6 +146,10 @@ module _ (c : ℕ) where
   unfolding kind parts is_sign
   kind_other space tab return feed hash dash below same above =
       rw (ne_eqb c 32 space, ne_eqb c 9 tab, ne_eqb c 13 return, ne_eqb c 10 feed, ne_eqb c 35 hash, ne_eqb c 45 dash, ne_eqb c 60 below, ne_eqb c 61 same, ne_eqb c 62 above)
+
+  -- A byte above `>` has kind 1.
+  pub kind_above : 62 < c → 1 ≡ kind c
+  kind_above h = kind_other (λ e. omega arith) (λ e. omega arith) (λ e. omega arith) (λ e. omega arith) (λ e. omega arith) (λ e. omega arith) (λ e. omega arith) (λ e. omega arith) (λ e. omega arith)
 
   -- The bytes `<`, `=` and `>` have kind 2.
   pub kind_sign : 59 < c → c ≤ 62 → 2 ≡ kind c
@@ -282,6 +317,21 @@ pub record NextLine (text : List ℕ) (at end : ℕ) : Type 0 where
   pub lines : at < length text → split (drop at text) ≡ take (end - at) (drop at text) ∷ split (drop (end + 1) text)
 
 module _ (text : List ℕ) where
+  -- A byte other than a line feed makes the line one longer.
+  pub line_more : (i : ℕ) → i < length text → (get_or text i 0 ≡ 10 → ⊥) → line_length (drop i text) ≡ suc (line_length (drop (i + 1) text))
+  unfolding line_length
+  line_more i h e = rw (at_byte text i h, ne_eqb (get_or text i 0) 10 e)
+
+  -- A line feed ends the line.
+  pub line_done : (i : ℕ) → i < length text → get_or text i 0 ≡ 10 → line_length (drop i text) ≡ 0
+  unfolding line_length
+  line_done i h e = rw (at_byte text i h, eq-eqb (get_or text i 0) 10 e)
+
+  -- The end of the text ends the line.
+  pub line_last : (i : ℕ) → length text ≤ i → line_length (drop i text) ≡ 0
+  unfolding line_length
+  line_last i h = rw (past_end text i h)
+
   -- The bytes counted up to a line feed give the line from `at` on.
   pub next_line : (at end : ℕ) → at ≤ length text → end ≡ at + line_length (drop at text) → NextLine text at end
   next_line at end h e =

@@ -5,6 +5,8 @@ ghost use Rattle.wording.specs.Names.{find, letters_of};
 ghost use Rattle.wording.specs.Reader.{signal_by};
 ghost use Rattle.words.specs.Spans.{spans, NamesIn, found_said};
 
+use crate::words::same_word;
+
 // Where the places of the clocks' names begin, and those of the locations' names; and how many places there are.
 pub const CLOCK_NAMES: usize = 8;
 
@@ -29,7 +31,7 @@ pub fn which_name(
         let k = first + i;
         let start = starts[k];
         let end = start + usize::from(lengths[k]);
-        if &text[start..end] == word {
+        if same_word(&text[start..end], word) {
             return Some(i);
         }
     }

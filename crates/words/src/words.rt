@@ -1,8 +1,8 @@
 // The words of a line.
-ghost use Rattle.std.specs.Prelude.{◌≡◌, ◌+◌, ◌≤◌, ◌<◌, eqb, not, length};
-ghost use Rattle.std.specs.List.{take_while};
+ghost use Rattle.std.specs.Prelude.{◌≡◌, ◌+◌, ◌≤◌, ◌<◌, eqb, length, drop};
+ghost use Rattle.wording.specs.Names.{same};
 ghost use Rattle.wording.specs.Words;
-ghost use Rattle.words.specs.Lex.{kind_number, skips, Next, NextLine};
+ghost use Rattle.words.specs.Lex.{kind_number, skips, blanks, run, Next, NextLine};
 
 // What a byte is to the words of a line.
 #[derive(Clone, Copy, PartialEq, Eq)]
@@ -32,24 +32,40 @@ fn is_skipped(c: u8) -> bool
     c != b'#' && kind_of(c) == Kind::Blank
 }
 
-// How many bytes at the front part words, as far as a comment.
-fn blanks(line: &[u8]) -> usize
-    ensures { result ≡ length (take_while skips line.now) }
+// The first byte from `at` on that parts no words, or begins a comment.
+fn skip(line: &[u8], at: usize) -> usize
+    requires { at ≤ length line.now }
+    ensures { result ≡ at + blanks (drop at line.now) }
 {
-    line.iter().take_while(|c| is_skipped(**c)).count()
+    for i in at..line.len() {
+        if !is_skipped(line[i]) {
+            return i;
+        }
+    }
+    line.len()
 }
 
 fn is_of_kind(c: u8, k: Kind) -> bool
     ensures { result ≡ eqb (Words.kind c) (kind_number k) }
 {
+    // Letters come first: most bytes of a word are those.
+    if b'>' < c {
+        return k == Kind::Plain;
+    }
     kind_of(c) == k
 }
 
-// How many bytes at the front are of the kind k.
-fn run(line: &[u8], k: Kind) -> usize
-    ensures { result ≡ length (take_while (λ c. eqb (Words.kind c) (kind_number k)) line.now) }
+// The first byte from `at` on that is not of the kind k.
+fn run_end(line: &[u8], at: usize, k: Kind) -> usize
+    requires { at ≤ length line.now }
+    ensures { result ≡ at + run (kind_number k) (drop at line.now) }
 {
-    line.iter().take_while(|c| is_of_kind(**c, k)).count()
+    for i in at..line.len() {
+        if !is_of_kind(line[i], k) {
+            return i;
+        }
+    }
+    line.len()
 }
 
 // Where a word stands in its line: its first byte and the one after its last.
@@ -64,20 +80,27 @@ pub fn next_word(line: &[u8], at: usize) -> Span
     requires { at ≤ length line.now }
     ensures { Next line.now at result.start result.end }
 {
-    let start = at + blanks(&line[at..]);
+    let start = skip(line, at);
     if line.len() <= start || line[start] == b'#' {
         return Span { start, end: start };
     }
     let k = kind_of(line[start]);
-    let end = start + 1 + run(&line[start + 1..], k);
+    let end = run_end(line, start + 1, k);
     Span { start, end }
 }
 
-// How many bytes stand before the end of the line.
-fn line_length(text: &[u8]) -> usize
-    ensures { result ≡ length (take_while (λ c. not (eqb c 10)) text.now) }
+// Whether the word of the line is this one. The last byte comes first: names that are numbered differ there.
+pub fn same_word(line: &[u8], word: &[u8]) -> bool
+    ensures { result ≡ same line.now word.now }
 {
-    text.iter().take_while(|c| **c != b'\n').count()
+    let length = line.len();
+    if length != word.len() {
+        return false;
+    }
+    if 0 < length && line[length - 1] != word[length - 1] {
+        return false;
+    }
+    line == word
 }
 
 // Where the line that begins at `at` ends: its line feed, or the text's end.
@@ -85,5 +108,10 @@ pub fn line_end(text: &[u8], at: usize) -> usize
     requires { at ≤ length text.now }
     ensures { NextLine text.now at result }
 {
-    at + line_length(&text[at..])
+    for i in at..text.len() {
+        if text[i] == b'\n' {
+            return i;
+        }
+    }
+    text.len()
 }

@@ -5,7 +5,7 @@ use Rattle.std.proofs.lemmas.Result.{err_from_is_err_and}
 use Rattle.texts.specs.Wrote.{Wrote}
 use Rattle.texts.specs.WroteLaws.{wrote_front}
 use Rattle.compiling.specs.Lines.{unnamed}
-use Rattle.compiling.specs.Promise.{ceilings_fit, read_stopped, read_own, read_short, counts_room, read_whole}
+use Rattle.compiling.specs.Promise.{ceilings_fit, judge_stopped, judge_own, read_short, counts_room, read_whole}
 use Rattle.compiling.proofs.reader.judge.Goals as goal
 
 pub read_lines-requires : goal.read_lines-requires
@@ -14,7 +14,7 @@ read_lines-requires c = (search rules, unnamed c.args.text.now, search rules)
 pub returns-in_err-said : goal.returns-in_err-said
 returns-in_err-said c =
     let e = err_from_is_err_and c.from_residual.result c.from_residual.ensures.1 in
-    rw (e.1, e.2) (read_stopped c.args.text.now c.args.out.now c.in_err-said.field-0.0 c.in_err-said.ensures)
+    rw (e.1, e.2) (judge_stopped c.args.text.now c.args.out.now c.in_err-said.field-0.0 c.in_err-said.ensures)
 
 pub check_whole-requires : goal.check_whole-requires
 check_whole-requires c =
@@ -28,7 +28,7 @@ returns-in_err-check_whole c =
     let g = c.in_ok-said.ensures in
     let d = c.in_err-check_whole.field-0.0 in
     let e = err_from_is_err_and c.from_residual-in_err-check_whole.result c.from_residual-in_err-check_whole.ensures.1 in
-    rw (e.1, e.2) (read_own c.args.text.now c.args.out.now n.starts n.lengths n.left g.1 g.0.lines g.0.many d c.in_err-check_whole.ensures)
+    rw (e.1, e.2) (judge_own c.args.text.now c.args.out.now n.starts n.lengths n.left g.1 g.0.lines g.0.many d c.in_err-check_whole.ensures)
 
 pub returns-then-out-length : goal.returns-then-out-length
 returns-then-out-length c =

@@ -15,7 +15,7 @@ returns-in_err-parsed-clause-said c left rules long =
     let a = c.args in
     rw (handed_on _ _ c.from_residual.ensures.1)
     (rule_refused a.text.now a.starts.now a.lengths.now left c.requires.2 rules (words_of (part a.text.now a.at (a.end - a.at))) c.if-table-ge-LOCATIONS.false
-    c.in_err-parsed.field-0.0 (c.in_err-parsed.ensures.said left rules))
+    _ (c.in_err-parsed.ensures.said left rules))
 
 pub returns-in_err-check_rule-clause-said : goal.returns-in_err-check_rule-clause-said
 returns-in_err-check_rule-clause-said c left rules long =

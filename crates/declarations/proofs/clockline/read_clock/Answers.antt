@@ -1,7 +1,8 @@
 -- By its refusals, in their order.
-use Rattle.std.proofs.Common.{ap, sym, ◌∙◌}
+use Rattle.std.proofs.Common.{ap, sym, ◌∙◌, arith}
 use Rattle.streams.specs.Answer.{refused, gives}
 use Rattle.refusals.specs.Refused.{number_of}
+use Rattle.refusals.specs.Laws.{number_above}
 use Rattle.words.specs.Firsts.{count_of, first_held, second_held, word_of, two_words}
 use Rattle.declarations.specs.Fresh.{spans_long}
 use Rattle.declarations.specs.Table.{draft_of, table_handed, not_two}
@@ -26,7 +27,7 @@ pub returns-in_err-check_name-clause-said : goal.returns-in_err-check_name-claus
 returns-in_err-check_name-clause-said c =
     let a = c.args in
     λ left rules l e. table_handed _ _ _ _ rules _ _ c.from_residual.ensures.1
-    ∙ clock_named (draft_of a.text.now a.starts.now a.lengths.now left a.table rules) (word_of a.text.now c.in-Two.name) (word_of a.text.now c.in-Two.number) l (two_words a.text.now a.few c.in-Two.name c.in-Two.number l c.in-Two.is e) c.if-table-gt3.false _ c.in_err-check_name.ensures.said
+    ∙ clock_named (draft_of a.text.now a.starts.now a.lengths.now left a.table rules) (word_of a.text.now c.in-Two.name) (word_of a.text.now c.in-Two.number) l (two_words a.text.now a.few c.in-Two.name c.in-Two.number l c.in-Two.is e) c.if-table-gt3.false _ c.in_err-check_name.ensures.said (λ z. omega (arith, number_above c.in_err-check_name.field-0.0))
 
 pub returns-in_err-ceiling-clause-said : goal.returns-in_err-ceiling-clause-said
 returns-in_err-ceiling-clause-said c =
@@ -40,6 +41,7 @@ returns-in_err-check_clock-clause-said c =
     λ left rules l e. table_handed _ _ _ _ rules _ _ c.from_residual-in_err-check_clock.ensures.1
     ∙ clock_last (draft_of a.text.now a.starts.now a.lengths.now left a.table rules) (word_of a.text.now c.in-Two.name) (word_of a.text.now c.in-Two.number) l (two_words a.text.now a.few c.in-Two.name c.in-Two.number l c.in-Two.is e) c.if-table-gt3.false c.in_ok-check_name.ensures.said c.in_ok-ceiling.ceiling c.in_ok-ceiling.ensures _
     (c.in_err-check_clock.ensures ∙ ap (clock_refusal c.in_ok-ceiling.ceiling) (sym (spans_long a.text.now a.starts.now a.lengths.now 8 a.table.clocks)))
+    (λ z. omega (arith, number_above c.in_err-check_clock.field-0.0))
 
 pub returns-clause-said : goal.returns-clause-said
 returns-clause-said c =

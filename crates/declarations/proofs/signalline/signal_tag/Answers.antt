@@ -1,7 +1,7 @@
 -- By the letter, the name and room, in this order.
-use Rattle.std.proofs.Common.{take, ap, ◌∙◌}
+use Rattle.std.proofs.Common.{take, ap, ◌∙◌, arith}
 use Rattle.refusals.specs.Refused.{told}
-use Rattle.refusals.specs.Laws.{handed_on}
+use Rattle.refusals.specs.Laws.{number_above, handed_on}
 use Rattle.words.specs.Firsts.{first_span, word_of}
 use Rattle.words.specs.declared.words.Span.{Span}
 use Rattle.wording.specs.Reader.{letter}
@@ -16,7 +16,7 @@ returns-in_err-tag-clause-said c =
 pub returns-in_err-check_second-clause-said : goal.returns-in_err-check_second-clause-said
 returns-in_err-check_second-clause-said c =
     let a = c.args in
-    ap told (handed_on _ _ c.from_residual-in_err-check_second.ensures.1) ∙ tag_named (take a.table.signals a.table.tags) a.count (word_of a.text.now (first_span a.few)) c.in_ok-tag.tag (c.in_ok-tag.ensures ∙ ap (λ (s : Span). letter (take a.table.signals a.table.tags) (word_of a.text.now s)) c.first-letter.ensures) _ c.in_err-check_second.ensures.said
+    ap told (handed_on _ _ c.from_residual-in_err-check_second.ensures.1) ∙ tag_named (take a.table.signals a.table.tags) a.count (word_of a.text.now (first_span a.few)) c.in_ok-tag.tag (c.in_ok-tag.ensures ∙ ap (λ (s : Span). letter (take a.table.signals a.table.tags) (word_of a.text.now s)) c.first-letter.ensures) _ c.in_err-check_second.ensures.said (λ z. omega (arith, number_above c.in_err-check_second.field-0.0))
 
 pub returns-then-count-ge4-clause-said : goal.returns-then-count-ge4-clause-said
 returns-then-count-ge4-clause-said c =

@@ -2,7 +2,7 @@
 use Rattle.std.proofs.Common.{sym, ◌∙◌, ap}
 use Rattle.refusals.specs.Laws.{handed_on}
 use Rattle.stepping.specs.Ready.{ready_of}
-use Rattle.enforcer.specs.States.{layout_granted, input_early, half_standing, input_16, input_left}
+use Rattle.enforcer.specs.States.{layout_granted, input_early, half_standing, input_by_16, input_left}
 use Rattle.enforcer.specs.AsRead.{input_past_15, input_as_read}
 use Rattle.refusals.specs.Refused.{told}
 use Rattle.enforcer.proofs.halves.input_half.Goals as goal
@@ -19,7 +19,7 @@ returns-in_err-check_state c =
     record {
       said =
           ap told (handed_on _ _ c.from_residual-in_err-check_state.ensures.1)
-          ∙ sym (input_16 _ _ _ c.in_ok-layout.ensures _ _ c.in_err-check_state.ensures _);
+          ∙ sym (input_by_16 _ _ _ c.in_ok-layout.ensures _ _ c.in_err-check_state.ensures _);
     }
 
 pub inputs_of-requires : goal.inputs_of-requires

@@ -5,7 +5,7 @@ use Rattle.refusals.specs.Laws.{handed_on}
 use Rattle.refusals.specs.declared.Refusal.{Refusal}
 use Rattle.stepping.specs.Ready.{ready_of}
 use Rattle.stepping.specs.declared.state.State.{State}
-use Rattle.enforcer.specs.States.{layout_granted, output_early, half_standing, output_16, output_left}
+use Rattle.enforcer.specs.States.{layout_granted, output_early, half_standing, output_by_16, output_left}
 use Rattle.enforcer.specs.AsRead.{output_past_15_x, output_past_15_y, output_half_as_read}
 use Rattle.enforcer.specs.Promises.{handed}
 use Rattle.enforcer.proofs.halves.output_of.Goals as goal
@@ -26,7 +26,7 @@ returns-in_err-check_state c =
     record {
       said =
           ap (λ (r : Result (ℕ × State) Refusal). handed c.args.state r) (handed_on _ _ c.from_residual-in_err-check_state.ensures.1)
-          ∙ sym (output_16 _ _ _ c.in_ok-layout.ensures _ _ c.in_err-check_state.ensures _ _);
+          ∙ sym (output_by_16 _ _ _ c.in_ok-layout.ensures _ _ c.in_err-check_state.ensures _ _);
     }
 
 pub inputs_of-requires : goal.inputs_of-requires

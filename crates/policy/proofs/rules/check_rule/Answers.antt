@@ -7,14 +7,14 @@ use Rattle.policy.proofs.rules.check_rule.Goals as goal
 use Rattle.policy.proofs.rules.check_rule.Goals.{Start}
 
 -- There is a ceiling for each clock.
-clocks : (c : Start) → length (take c.args.shape.clocks c.args.shape.ceilings) ≡ c.args.shape.clocks
-clocks c = length-take-le c.args.shape.clocks c.args.shape.ceilings (omega arith)
+clocks : (c : Start) → length (take c.args.shape.now.clocks c.args.shape.now.ceilings) ≡ c.args.shape.now.clocks
+clocks c = length-take-le c.args.shape.now.clocks c.args.shape.now.ceilings (omega arith)
 
 -- What is read behind the head is the rule's bounds.
 bounds : (c : Start) →
-    bounds_from (part c.args.rule.now 7 (length c.args.rule.now - 7)) 0 (length (take c.args.shape.clocks c.args.shape.ceilings))
-    ≡ bounds_from c.args.rule.now 7 c.args.shape.clocks
-bounds c = rw (clocks c) (bounds_part c.args.rule.now 7 (length c.args.rule.now - 7) 0 7 c.args.shape.clocks (omega arith) (omega arith))
+    bounds_from (part c.args.rule.now 7 (length c.args.rule.now - 7)) 0 (length (take c.args.shape.now.clocks c.args.shape.now.ceilings))
+    ≡ bounds_from c.args.rule.now 7 c.args.shape.now.clocks
+bounds c = rw (clocks c) (bounds_part c.args.rule.now 7 (length c.args.rule.now - 7) 0 7 c.args.shape.now.clocks (omega arith) (omega arith))
 
 pub returns-then-not-head_good : goal.returns-then-not-head_good
 unfolding rule_refusal

@@ -1,10 +1,10 @@
-use Rattle.std.proofs.Common.{arith}
+use Rattle.std.proofs.Common.{sym, arith}
 use Rattle.refusals.specs.Laws.{handed_on}
 use Rattle.waves.specs.Tags.{counted, refused_as, tags_stand}
 use Rattle.waves.proofs.tags.tags_of.Goals as goal
 
 pub returns-in_err-layout : goal.returns-in_err-layout
-returns-in_err-layout c = rw (handed_on _ _ c.from_residual.ensures.1) (refused_as _ _ c.in_err-layout.ensures)
+returns-in_err-layout c = rw (handed_on _ _ c.from_residual.ensures.1) (sym (refused_as (record { said = c.in_err-layout.ensures })))
 
 pub overflow_add-inputs_end : goal.overflow_add-inputs_end
 overflow_add-inputs_end c = let t = counted _ _ c.in_ok-layout.ensures in omega arith
