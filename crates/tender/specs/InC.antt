@@ -82,7 +82,7 @@ c_run_stays {reading} {file} {marks} {state} {events} {before} h some other =
     let k = run_stays reading file marks state events before (λ z. some (word ∙ z)) (λ z. other (word ∙ z)) in
     (h.next ∙ k.0, h.released ∙ k.1)
 
--- 12/13, "built once": what index::build's code wrote without a refusal is the file's index.
+-- 12/13, "built once": what index::write_index's code wrote without a refusal is the file's index.
 pub code_index : {file before after : List ℕ} → BuildPromise file before 0 after → take 128 after ≡ index_of file
 unfolding built_index
 code_index {file} {before} h =
