@@ -49,9 +49,9 @@
  * state, groovepawn_input and groovepawn_run never give 17.
  *
  * Stack. Each function says what it was seen to use, in the archive as it is compiled for x86-64 (tools/stack.c); these are readings and no promise.
- * It is less than 2.5 KiB for each but these, which are tools and no part of a station's loop: groovepawn_clean (67,105 bytes), groovepawn_why
- * (1,247,480), groovepawn_why_run (2,872), groovepawn_text_read (7,304), groovepawn_text_line_of_rule (7,368),
- * groovepawn_text_name_of_signal (7,432), groovepawn_text_name_of_clock (7,432), groovepawn_text_name_of_location (7,432). No heap and
+ * It is less than 2.5 KiB for each but these, which are tools and no part of a station's loop: groovepawn_clean (67,129 bytes), groovepawn_why
+ * (1,247,432), groovepawn_why_run (2,872), groovepawn_text_read (7,368), groovepawn_text_line_of_rule (7,432),
+ * groovepawn_text_name_of_signal (7,496), groovepawn_text_name_of_clock (7,496), groovepawn_text_name_of_location (7,496). No heap and
  * no global data.
  */
 #ifndef GROOVEPAWN_H
@@ -183,7 +183,7 @@ extern "C" {
 
 /*
  * Checks the policy alone, and says how many states it has: so many marks are enough for it, under either reading.
- * Refusals in this order: 1 to 9, as they come in the file. Stack: 264 bytes.
+ * Refusals in this order: 1 to 9, as they come in the file. Stack: 328 bytes.
  * Returns refusal | states << 8. Nothing is written.
  */
 GROOVEPAWN_LOOK_AT_ANSWER
@@ -191,7 +191,7 @@ uint64_t groovepawn_check(const uint8_t *file, size_t file_len);
 
 /*
  * Checks the policy and writes one mark for each state, under the reading named.
- * Refusals in this order: 22, 1 to 9, 10, 11. Stack: 1,297 bytes.
+ * Refusals in this order: 22, 1 to 9, 10, 11. Stack: 1,257 bytes.
  * Returns refusal | verdict << 8 | states << 16 | live << 40: how many states there are and how many are live.
  * Verdict 0: every state that some permitted stream from the start leads to is live. Verdict 1: the start is live and one such state is not.
  * Refusal 22 and refusals 1 to 10 leave marks as it was. Refusal 11 leaves it as success does.
@@ -202,7 +202,7 @@ uint64_t groovepawn_prepare(uint8_t reading, const uint8_t *file, size_t file_le
 /*
  * The input half of a tick: the input x' to act on. It is x where some output then leads to a state marked 1, else the input of this kind that
  * differs from x in the fewest bits; among equals, at the first signal in which two differ, the one that leaves that signal as read.
- * Refusals in this order: 22, 1 to 9, 10, 16, 15, 17. Stack: 1,016 bytes.
+ * Refusals in this order: 22, 1 to 9, 10, 16, 15, 17. Stack: 1,176 bytes.
  * Returns refusal | x' << 8. Nothing is written: the state moves with the output half.
  */
 GROOVEPAWN_LOOK_AT_ANSWER
@@ -212,7 +212,7 @@ uint32_t groovepawn_input(uint8_t reading, const uint8_t *file, size_t file_len,
 /*
  * The output half of a tick, given the x' of the input half and the controller's answer y: the output y' to put out, chosen
  * likewise among the outputs that with x' lead to a state marked 1.
- * Refusals in this order: 22, 1 to 9, 10, 16, 15, 17. Stack: 1,208 bytes.
+ * Refusals in this order: 22, 1 to 9, 10, 16, 15, 17. Stack: 1,398 bytes.
  * Returns refusal | y' << 8. The state becomes the next one; with a refusal it stays as given.
  */
 GROOVEPAWN_LOOK_AT_ANSWER
@@ -221,7 +221,7 @@ uint32_t groovepawn_output(uint8_t reading, const uint8_t *file, size_t file_len
 
 /*
  * Many ticks: for each event one is released.
- * Refusals in this order: 22, 1 to 9, 10, 14 (released is shorter than events), 16, 15, 17. Stack: 1,176 bytes.
+ * Refusals in this order: 22, 1 to 9, 10, 14 (released is shorter than events), 16, 15, 17. Stack: 1,096 bytes.
  * Returns refusal | count << 8: how many events were released. (The count is held modulo 2 to the 56th, which no slice reaches.)
  * The state becomes the one after the events released, and these stand in front in released, whose other bytes stay.
  * That is so with refusal 17 too: the run stops before the event that it cannot answer. With every other refusal the count is 0, and state and
@@ -233,7 +233,7 @@ uint64_t groovepawn_run(uint8_t reading, const uint8_t *file, size_t file_len, c
 
 /*
  * Joins two policies over the same signals into one that asks what both ask.
- * Refusals in this order: 1 to 9 of a, 1 to 9 of b, 12, 13, 14. Stack: 656 bytes.
+ * Refusals in this order: 1 to 9 of a, 1 to 9 of b, 12, 13, 14. Stack: 712 bytes.
  * Returns refusal | length << 8: how many bytes of out the joined file takes; the other bytes stay. 5,974 bytes are always enough.
  * With a refusal out stays as given. A joined file is a policy like any other, to be handed to groovepawn_prepare under either reading.
  */
@@ -249,7 +249,7 @@ uint32_t groovepawn_ticks(uint32_t milliseconds, uint32_t tick_length, uint8_t u
 
 /*
  * A released stream as a text for wave viewers: 100 ms for each event, and for each signal, inputs first in file order, a wire with its tag as name.
- * Refusals in this order: 1 to 9, 29, 15, 14. Stack: 408 bytes.
+ * Refusals in this order: 1 to 9, 29, 15, 14. Stack: 456 bytes.
  * Returns refusal | length << 8: how many bytes the text takes; the other bytes stay. There is no zero byte at its end.
  * With a refusal text stays as given. The policy's rules do not matter here: no marks are taken, and a policy without a live start is not refused.
  */
@@ -269,7 +269,7 @@ uint64_t groovepawn_wave_read(const uint8_t *file, size_t file_len, const uint8_
 /*
  * The index of a policy, to be built once and kept beside it: index[2 * l] is the number of the first rule of location l, which is always the count of
  * rules with a lower source, and index[2 * l + 1] is how many rules l has. Past the locations both are 0. It takes no reading: a file has one index.
- * Refusals in this order: 1 to 9, 14 (fewer than 128 numbers). Stack: 312 bytes.
+ * Refusals in this order: 1 to 9, 14 (fewer than 128 numbers). Stack: 376 bytes.
  * Returns the refusal. The first 128 numbers are written, and those past them stay; with a refusal all stay.
  */
 GROOVEPAWN_LOOK_AT_ANSWER
@@ -279,7 +279,7 @@ uint32_t groovepawn_index(const uint8_t *file, size_t file_len, uint16_t *index,
  * The halves of a tick with an index, so that the rules of the location need not be looked for: the same answers as groovepawn_input and
  * groovepawn_output give for the same arguments. An index that is not that of the file is refused by 28 and never followed; that each call compares
  * it costs more than it saves: see docs/C-INTERFACE.md before you choose them.
- * Refusals in this order: 22, 1 to 9, 28, 10, 16, 15, 17. Stack: 856 and 1,048 bytes.
+ * Refusals in this order: 22, 1 to 9, 28, 10, 16, 15, 17. Stack: 984 and 1,126 bytes.
  * Return refusal | x' << 8 and refusal | y' << 8. The first writes nothing; with a refusal of the second the state stays as given.
  */
 GROOVEPAWN_LOOK_AT_ANSWER
@@ -299,7 +299,7 @@ uint32_t groovepawn_bays_new(uint16_t *states, size_t states_len);
 /*
  * The halves of a tick of one bay, counted from 0: what groovepawn_input and groovepawn_output do with the five numbers of that bay. The numbers of
  * the other bays are neither looked at nor changed. The policy, the marks and the reading stay the same while the list lives.
- * Refusals in this order: 22, 1 to 9, 10, 24 (the bay is not below the count, or what is lent is no list), 16, 15, 17. Stack: 1,032 and 1,240 bytes.
+ * Refusals in this order: 22, 1 to 9, 10, 24 (the bay is not below the count, or what is lent is no list), 16, 15, 17. Stack: 1,192 and 1,382 bytes.
  * Return refusal | x' << 8 and refusal | y' << 8. The first writes nothing; with a refusal of the second the list stays as given.
  */
 GROOVEPAWN_LOOK_AT_ANSWER
@@ -319,11 +319,11 @@ uint32_t groovepawn_meter_new(uint16_t *station, size_t station_len, uint32_t *t
 /*
  * The halves of a tick of a station with a meter. The pulses of the tick are this register less the last accepted one, modulo 65,536.
  * groovepawn_meter_input sets the input P in x exactly when pulses is not 0, clears it otherwise, and then is groovepawn_input.
- * Refusals in this order: 22, 1 to 9, 26, 10, 16 (also for a station of fewer than six numbers), 15, 17. Stack: 1,064 bytes.
+ * Refusals in this order: 22, 1 to 9, 26, 10, 16 (also for a station of fewer than six numbers), 15, 17. Stack: 1,224 bytes.
  * Returns refusal | x' << 8. Nothing is written.
  * groovepawn_meter_output takes the same register, that x' and the controller's answer y, and is groovepawn_output; then it adds the pulses to the
  * first total if the output D is on in the y' released, else to the second, and keeps the register.
- * Refusals in this order: 22, 1 to 9, 26, 10, 14 (fewer than six numbers, or fewer than two totals), 16, 15, 17, 27. Stack: 1,256 bytes.
+ * Refusals in this order: 22, 1 to 9, 26, 10, 14 (fewer than six numbers, or fewer than two totals), 16, 15, 17, 27. Stack: 1,430 bytes.
  * Returns refusal | y' << 8. With a refusal station and totals stay as given.
  */
 GROOVEPAWN_LOOK_AT_ANSWER
@@ -337,7 +337,7 @@ uint32_t groovepawn_meter_output(uint8_t reading, const uint8_t *file, size_t fi
 /*
  * The second engine: what groovepawn_prepare answers and writes, for every policy and both readings, and on large tables faster. It works in five
  * slices that the caller lends, each with an entry for each state or more. They may hold anything, and what they hold afterwards is not said.
- * Refusals in this order: 22, 1 to 9, 10, 23 (a work slice has fewer entries than there are states), 11. Stack: 2,264 bytes.
+ * Refusals in this order: 22, 1 to 9, 10, 23 (a work slice has fewer entries than there are states), 11. Stack: 2,248 bytes.
  * Returns what groovepawn_prepare returns. With 22, 1 to 10 and 23 neither the marks nor the work slices are written; 11 leaves the marks as success
  * does.
  */
@@ -357,7 +357,7 @@ uint64_t groovepawn_prepare_fast(uint8_t reading, const uint8_t *file, size_t fi
  *   3  another rule that decides no event in any state that such a stream leads to
  *
  * A tool, and no part of a station's loop. Refusals in this order: 22, 1 to 9, 14 (either slice is too short; both are then left as given).
- * Stack: 67,105 bytes, for a small policy too.
+ * Stack: 67,129 bytes, for a small policy too.
  * Returns refusal | length << 8 | length of the list << 32. Bytes past both lengths stay. 5,974 bytes are always enough for cleaned, and 957 for
  * struck.
  */
@@ -379,7 +379,7 @@ uint64_t groovepawn_clean(uint8_t reading, const uint8_t *file, size_t file_len,
  * number, if some output is no violation; else the reason for the output 0. Each number is exact: some permitted stream has it, and none has more.
  * A tool, and no part of a station's loop: it prepares the policy anew and goes over all states.
  * Refusals in this order: 22, 1 to 9, 10, 16, 20 (a byte for a state is not the mark of groovepawn_prepare under this reading), 15. 17 never comes.
- * Stack: 1,247,480 bytes, for a small policy too.
+ * Stack: 1,247,432 bytes, for a small policy too.
  * Returns refusal | input's kind << 8 | its number << 16 | output's kind << 32 | its number << 40.
  */
 GROOVEPAWN_LOOK_AT_ANSWER
@@ -408,7 +408,7 @@ uint64_t groovepawn_why_run(uint8_t reading, const uint8_t *file, size_t file_le
 /*
  * The file of a policy that is written as text (docs/POLICY-TEXT.md). A text has no reading: its file is read under either.
  * Refusals: the first line that breaks a rule gives 4, 7 or one of 30 to 34; then, with line 0, in this order: 2 (no location), 9, 14 (the slice for
- * the file is too short). A tool, and no part of a station's loop. Stack: 7,304 bytes.
+ * the file is too short). A tool, and no part of a station's loop. Stack: 7,368 bytes.
  * Returns refusal | line << 8 | length << 40: the line of the refusal, counted from 1, or how many bytes of file the policy takes; the other bytes
  * stay. 5,974 bytes are always enough. With a refusal the length is 0, and file stays as given.
  */
@@ -418,7 +418,7 @@ uint64_t groovepawn_text_read(const uint8_t *text, size_t text_len, uint8_t *fil
 /*
  * The text of a policy file, with letters for the signals, t0, t1, .. for the clocks and q0, q1, .. for the locations. groovepawn_text_read gives the
  * same file back.
- * Refusals in this order: 1 to 9, 14 (the slice for the text is too short). A tool, and no part of a station's loop. Stack: 648 bytes.
+ * Refusals in this order: 1 to 9, 14 (the slice for the text is too short). A tool, and no part of a station's loop. Stack: 712 bytes.
  * Returns refusal | length << 8: how many bytes the text takes; the other bytes stay. There is no zero byte at its end. 39,420 bytes are always
  * enough. With a refusal text stays as given.
  */
@@ -428,7 +428,7 @@ uint64_t groovepawn_text_write(const uint8_t *file, size_t file_len, uint8_t *te
 /*
  * The line of a rule, counted from 0 as in the file, so that a reason of groovepawn_why or an entry of groovepawn_clean leads back to its line.
  * Refusals: as groovepawn_text_read, but for 14; then, with line 0, 35 (the text has no such rule). A tool, and no part of a station's loop.
- * Stack: 7,368 bytes.
+ * Stack: 7,432 bytes.
  * Returns refusal | line << 8: the line of the refusal or of the rule, counted from 1. Nothing is written.
  */
 GROOVEPAWN_LOOK_AT_ANSWER
@@ -436,7 +436,7 @@ uint64_t groovepawn_text_line_of_rule(const uint8_t *text, size_t text_len, uint
 
 /*
  * Where a text declares the name of a signal, the inputs first and then the outputs, counted from 0 as in the file.
- * Refusals: as groovepawn_text_line_of_rule, 35 where the text has no such signal. A tool, and no part of a station's loop. Stack: 7,432 bytes.
+ * Refusals: as groovepawn_text_line_of_rule, 35 where the text has no such signal. A tool, and no part of a station's loop. Stack: 7,496 bytes.
  * Returns refusal | place << 8 | length << 40: the line of the refusal, with the length 0; or the byte of the text at which the name begins, counted
  * from 0, and how many bytes it has, at most 16. A signal that has its letter alone has no name: both are then 0. Nothing is written.
  */
@@ -444,13 +444,13 @@ GROOVEPAWN_LOOK_AT_ANSWER
 uint64_t groovepawn_text_name_of_signal(const uint8_t *text, size_t text_len, uint32_t signal);
 
 /*
- * The same for a clock, which always has a name. Stack: 7,432 bytes.
+ * The same for a clock, which always has a name. Stack: 7,496 bytes.
  */
 GROOVEPAWN_LOOK_AT_ANSWER
 uint64_t groovepawn_text_name_of_clock(const uint8_t *text, size_t text_len, uint32_t clock);
 
 /*
- * The same for a location, which always has a name. Stack: 7,432 bytes.
+ * The same for a location, which always has a name. Stack: 7,496 bytes.
  */
 GROOVEPAWN_LOOK_AT_ANSWER
 uint64_t groovepawn_text_name_of_location(const uint8_t *text, size_t text_len, uint32_t location);
