@@ -50,8 +50,8 @@
  *
  * Stack. Each function says what it was seen to use, in the archive as it is compiled for x86-64 (tools/stack.c); these are readings and no promise.
  * It is less than 2.5 KiB for each but these, which are tools and no part of a station's loop: groovepawn_clean (67,129 bytes), groovepawn_why
- * (1,247,432), groovepawn_why_run (2,872), groovepawn_text_read (7,368), groovepawn_text_line_of_rule (7,432),
- * groovepawn_text_name_of_signal (7,496), groovepawn_text_name_of_clock (7,496), groovepawn_text_name_of_location (7,496). No heap and
+ * (1,247,432), groovepawn_why_run (2,872), groovepawn_text_read (7,400), groovepawn_text_line_of_rule (7,464),
+ * groovepawn_text_name_of_signal (7,544), groovepawn_text_name_of_clock (7,544), groovepawn_text_name_of_location (7,544). No heap and
  * no global data.
  */
 #ifndef GROOVEPAWN_H
@@ -408,7 +408,7 @@ uint64_t groovepawn_why_run(uint8_t reading, const uint8_t *file, size_t file_le
 /*
  * The file of a policy that is written as text (docs/POLICY-TEXT.md). A text has no reading: its file is read under either.
  * Refusals: the first line that breaks a rule gives 4, 7 or one of 30 to 34; then, with line 0, in this order: 2 (no location), 9, 14 (the slice for
- * the file is too short). A tool, and no part of a station's loop. Stack: 7,368 bytes.
+ * the file is too short). A tool, and no part of a station's loop. Stack: 7,400 bytes.
  * Returns refusal | line << 8 | length << 40: the line of the refusal, counted from 1, or how many bytes of file the policy takes; the other bytes
  * stay. 5,974 bytes are always enough. With a refusal the length is 0, and file stays as given.
  */
@@ -428,7 +428,7 @@ uint64_t groovepawn_text_write(const uint8_t *file, size_t file_len, uint8_t *te
 /*
  * The line of a rule, counted from 0 as in the file, so that a reason of groovepawn_why or an entry of groovepawn_clean leads back to its line.
  * Refusals: as groovepawn_text_read, but for 14; then, with line 0, 35 (the text has no such rule). A tool, and no part of a station's loop.
- * Stack: 7,432 bytes.
+ * Stack: 7,464 bytes.
  * Returns refusal | line << 8: the line of the refusal or of the rule, counted from 1. Nothing is written.
  */
 GROOVEPAWN_LOOK_AT_ANSWER
@@ -436,7 +436,7 @@ uint64_t groovepawn_text_line_of_rule(const uint8_t *text, size_t text_len, uint
 
 /*
  * Where a text declares the name of a signal, the inputs first and then the outputs, counted from 0 as in the file.
- * Refusals: as groovepawn_text_line_of_rule, 35 where the text has no such signal. A tool, and no part of a station's loop. Stack: 7,496 bytes.
+ * Refusals: as groovepawn_text_line_of_rule, 35 where the text has no such signal. A tool, and no part of a station's loop. Stack: 7,544 bytes.
  * Returns refusal | place << 8 | length << 40: the line of the refusal, with the length 0; or the byte of the text at which the name begins, counted
  * from 0, and how many bytes it has, at most 16. A signal that has its letter alone has no name: both are then 0. Nothing is written.
  */
@@ -444,13 +444,13 @@ GROOVEPAWN_LOOK_AT_ANSWER
 uint64_t groovepawn_text_name_of_signal(const uint8_t *text, size_t text_len, uint32_t signal);
 
 /*
- * The same for a clock, which always has a name. Stack: 7,496 bytes.
+ * The same for a clock, which always has a name. Stack: 7,544 bytes.
  */
 GROOVEPAWN_LOOK_AT_ANSWER
 uint64_t groovepawn_text_name_of_clock(const uint8_t *text, size_t text_len, uint32_t clock);
 
 /*
- * The same for a location, which always has a name. Stack: 7,496 bytes.
+ * The same for a location, which always has a name. Stack: 7,544 bytes.
  */
 GROOVEPAWN_LOOK_AT_ANSWER
 uint64_t groovepawn_text_name_of_location(const uint8_t *text, size_t text_len, uint32_t location);

@@ -53,25 +53,22 @@ fn put_bay(states: &mut [u16], bay: usize, next: State)
     put_state(&mut states[start..end], next);
 }
 
-// Every bay of the list is at the start.
-fn start_all(states: &mut [u16], bays: usize)
-    requires { (0 < bays) × (bays ≡ bay_count states.old) }
-    ensures { states.new ≡ started bays }
+// Every bay of the list is at the start, whose five numbers are 0.
+fn start_all(states: &mut [u16])
+    requires { 0 < bay_count states.old }
+    ensures { states.new ≡ started (bay_count states.old) }
 {
-    for bay in 0..bays {
-        put_bay(states, bay, State::start());
-    }
+    states.fill(0);
 }
 
 // A new list: every bay is at the start, or 25 is refused and nothing is written.
 pub fn bays_new(states: &mut [u16]) -> Result<(), Refusal>
     ensures { NewPromise states.old (refusal_in result) states.new }
 {
-    let bays = bays_in(states.len());
-    if bays == 0 {
+    if bays_in(states.len()) == 0 {
         return Err(Refusal::BadBays);
     }
-    start_all(states, bays);
+    start_all(states);
     Ok(())
 }
 

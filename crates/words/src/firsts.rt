@@ -5,6 +5,7 @@ ghost use Rattle.words.specs.Firsts.{NextIn, Firsts, first_span, second_span};
 use crate::words::{Span, next_word};
 
 // The next word from `at` on. Where there is none, start and end are the same.
+#[inline(always)]
 pub fn word_in(text: &[u8], end: usize, at: usize) -> Span
     requires { (at ≤ end) × (end ≤ length text.now) }
     ensures { NextIn text.now end at result.start result.end }

@@ -18,6 +18,10 @@ pub enum Kind {
 pub fn kind_of(c: u8) -> Kind
     ensures { kind_number result ≡ Words.kind c }
 {
+    // Letters come first: most bytes of a word are those.
+    if b'>' < c {
+        return Kind::Plain;
+    }
     match c {
         b' ' | b'\t' | b'\r' | b'\n' | b'#' => Kind::Blank,
         b'-' | b'<' | b'=' | b'>' => Kind::Sign,
@@ -48,10 +52,6 @@ fn skip(line: &[u8], at: usize) -> usize
 fn is_of_kind(c: u8, k: Kind) -> bool
     ensures { result ≡ eqb (Words.kind c) (kind_number k) }
 {
-    // Letters come first: most bytes of a word are those.
-    if b'>' < c {
-        return k == Kind::Plain;
-    }
     kind_of(c) == k
 }
 
@@ -75,7 +75,8 @@ pub struct Span {
     pub end: usize,
 }
 
-// The next word from `at` on. Where there is none, start and end are the same.
+// The next word from `at` on. Where there is none, start and end are the same. Laid in where it is asked for, since to a line without words the call is most of the cost.
+#[inline(always)]
 pub fn next_word(line: &[u8], at: usize) -> Span
     requires { at ≤ length line.now }
     ensures { Next line.now at result.start result.end }

@@ -1,8 +1,11 @@
 -- Of the bytes that are tested for one by one each has its kind, and any other is plain.
 use Rattle.std.proofs.Common.{◌≡◌, ◌⊎◌, inl, inr, ℕ, zero, suc, ◌≤◌, ◌<◌, ◌-◌, refl, arith, sym, ap}
 use Rattle.wording.specs.Words.{kind, parts, is_sign}
-use Rattle.words.specs.Lex.{kind_other, kind_sign}
+use Rattle.words.specs.Lex.{kind_other, kind_sign, kind_above}
 use Rattle.words.proofs.words.kind_of.Goals as goal
+
+pub returns-then-c-gt62 : goal.returns-then-c-gt62
+returns-then-c-gt62 c = kind_above c.args.c c.if-c-gt62.true
 
 pub returns-in_default : goal.returns-in_default
 returns-in_default c = kind_other c.args.c (λ e. omega arith) (λ e. omega arith) (λ e. omega arith) (λ e. omega arith) (λ e. omega arith) (λ e. omega arith) (λ e. omega arith) (λ e. omega arith) (λ e. omega arith)
